@@ -19,7 +19,7 @@ playing blob numbers staging = record {
   heap = record { holes = []; pieces = [] };
   clock = 0;
   graph = record {
-    comps = record { id = 0; kind = HostPlay; pipe = 1; setting = Nothing } ∷ record { id = 1; kind = Eq; pipe = 1; setting = Blob blob } ∷ [];
+    comps = record { id = 0; kind = HostPlay; pipe = 1; setting = Nothing; ramp = 0 } ∷ record { id = 1; kind = Eq; pipe = 1; setting = Blob blob; ramp = 0 } ∷ [];
     edges = record { buffer = 2; pipe = 1; size = 384; source = Some 0; sink = Some 1 } ∷ [];
     pipes = record { id = 3; index = 1; sched = 0; period = 1000; complete = true } ∷ [];
     joins = record { source = 0; sink = 2 } ∷ record { source = 2; sink = 1 } ∷ [];

@@ -2,6 +2,7 @@
 use Rattle.std.specs.Prelude.{ℕ, ◌||◌, false, not, List, [], length, replicate, None, Result, Ok, Err, ℤ, nat_le, ◌==◌, if◌then◌else◌}
 use Rattle.sof_base.specs.declared.format.Format.{Format}
 use Rattle.sof_base.specs.declared.format.Format.TheVariants.{S16, S24, S32}
+use Rattle.sof_base.specs.Ramps.{ramp_of}
 use Rattle.stream_law.specs.declared.graph.Kind.{Kind}
 use Rattle.stream_law.specs.declared.graph.Kind.TheVariants.{HostPlay, HostCapture, DaiPlay, DaiCapture, Volume, Mixer, Mux, Eq}
 use Rattle.stream_law.specs.declared.graph.Setting.{Setting}
@@ -43,6 +44,11 @@ first_setting words.Mux = Choice 0
 first_setting words.Eq = Blob []
 first_setting kind = Nothing
 
+-- the milliseconds of a new volume's ramp, 0 for another component
+abbrev pub first_ramp : CompWords → ℕ
+first_ramp (words.Volume channels min_value max_value ramp initial_ramp) = ramp_of ramp initial_ramp
+first_ramp kind = 0
+
 -- a host brings a stream without parameters
 abbrev pub with_host_stream : ℕ → Kind → List StreamView → List StreamView
 with_host_stream id HostPlay streams = placed (λ s. s.host) (record { host = id; phase = Idle; params = None }) streams
@@ -52,18 +58,18 @@ with_host_stream id kind streams = streams
 abbrev pub with_comps : List Comp → Graph → Graph
 with_comps comps g = record { comps = comps; edges = g.edges; pipes = g.pipes; joins = g.joins }
 
-abbrev pub with_comp : ℕ → ℕ → Kind → Setting → FwState → FwState
-with_comp id pipe kind setting f = record f {
+abbrev pub with_comp : ℕ → ℕ → Kind → Setting → ℕ → FwState → FwState
+with_comp id pipe kind setting ramp f = record f {
   heap = heap_with_piece id (comp_bytes kind) f.heap;
-  graph = with_comps (placed (λ c. c.id) (record { id = id; kind = kind; pipe = pipe; setting = setting }) f.graph.comps) f.graph;
+  graph = with_comps (placed (λ c. c.id) (record { id = id; kind = kind; pipe = pipe; setting = setting; ramp = ramp }) f.graph.comps) f.graph;
   streams = with_host_stream id kind f.streams;
 }
 
-abbrev pub comp_new : FwState → ℕ → ℕ → Kind → Setting → Result FwState ℤ
-comp_new f id pipe kind setting =
+abbrev pub comp_new : FwState → ℕ → ℕ → Kind → Setting → ℕ → Result FwState ℤ
+comp_new f id pipe kind setting ramp =
     if is_used f.graph id || is_complete f.graph pipe then Err busy
     else if nat_le 128 (length f.graph.comps) || not (has_hole f (comp_bytes kind)) then Err no_memory
-    else Ok (with_comp id pipe kind setting f)
+    else Ok (with_comp id pipe kind setting ramp f)
 
 -- ---- BUFFER_NEW: the buffer is joined to nothing, and its ring is empty
 

@@ -7,8 +7,9 @@ use Rattle.stream_law.specs.declared.graph.Setting.{Setting}
 use Rattle.stream_law.specs.declared.graph.Setting.TheVariants.{Gains, Choice}
 use Rattle.stream_law.specs.declared.graph.Comp.{Comp}
 use Rattle.stream_law.specs.declared.graph.Graph.{Graph}
-use Rattle.stream_law.specs.State.{FwState}
-use Rattle.stream_law.specs.Ways.{comp_of}
+use Rattle.stream_law.specs.State.{FwState, View}
+use Rattle.stream_law.specs.Ways.{comp_of, is_of}
+use Rattle.stream_law.specs.Seen.{seen, is_volume}
 use Rattle.ipc3_model.specs.declared.control_kind.TheConstants.{CTRL_VOLUME, CTRL_ENUM}
 use Rattle.mbox_link.specs.ErrorNumbers.{no_device, invalid}
 use Rattle.mbox_link.specs.NamedIds.{is_used}
@@ -24,10 +25,15 @@ new_setting kind setting command values = None
 abbrev pub with_setting : ℕ → Setting → Comp → Comp
 with_setting id setting c = if c.id == id then record c { setting = setting } else c
 
--- they are in force from the next tick
+-- a state's view with a setting
+abbrev pub with_setting_at : FwState → ℕ → Setting → View
+with_setting_at f id setting = record { graph = with_comps (map (with_setting id setting) f.graph.comps) f.graph; streams = f.streams }
+
+-- a choice is in force from the next tick; at a volume that is Live a ramp to the new gains begins
 abbrev pub value_set : FwState → ℕ → Option Setting → Result FwState ℤ
 value_set f id None = Err invalid
-value_set f id (Some setting) = Ok (record f { graph = with_comps (map (with_setting id setting) f.graph.comps) f.graph })
+value_set f id (Some setting) =
+    Ok (if is_of f.graph is_volume id then seen (with_setting_at f id setting) (Some id) f else record f { graph = (with_setting_at f id setting).graph })
 
 abbrev pub set_value : FwState → ℕ → ℕ → List ℕ → Result FwState ℤ
 set_value f id command values =

@@ -21,6 +21,7 @@ boot-kept heap = record {
   indices = tt;
   sizes = tt;
   settings = tt;
+  ramps = tt;
   pieces = record { few = omega arith; named = tt; comps = tt; edges = tt; pipes = tt };
   tiled = retiled (usable_of heap) (fresh_heap heap) (fresh-tiled heap);
   wired = record { ids = tt; buffers = tt; names = tt; apart = tt; alone = tt; ends = tt; sides = tt; periods = tt };
@@ -28,6 +29,6 @@ boot-kept heap = record {
   played = record { hosts = tt; owned = tt; each = tt; agreed = refl };
   rings = refl;
   seen = refl;
-  histories = record { comps = refl; numbers = tt };
+  histories = record { comps = refl; numbers = tt; ramps = tt };
   staging = tt;
 }

@@ -1,6 +1,6 @@
 -- What is set at components is what may be set at their kinds.
-use Rattle.std.proofs.Common.{◌≡◌, refl, sym, ap, ◌∙◌, subst, ℕ, zero, suc, ◌≤◌, List, [], ◌∷◌, map, length, replicate, Option, Some, None, Bool, true, false, cond, ◌==◌, ◌&&◌, inl, arith}
-use Rattle.std.proofs.lemmas.Bool.{and_parts, eqb-true, leb-true}
+use Rattle.std.proofs.Common.{◌≡◌, refl, sym, ap, ◌∙◌, subst, ℕ, zero, suc, ◌≤◌, List, [], ◌∷◌, map, length, replicate, min, Option, Some, None, Bool, true, false, cond, ◌==◌, ◌&&◌, inl, arith}
+use Rattle.std.proofs.lemmas.Bool.{false≢true, and_parts, eqb-true, leb-true}
 use Rattle.std.proofs.lemmas.List.{length-replicate}
 use Rattle.std.specs.Prelude.{find, nat_le, option_and_then}
 use Rattle.std.specs.List.{list_all, AllByRecursion}
@@ -12,11 +12,13 @@ use Rattle.stream_law.specs.declared.graph.Comp.{Comp}
 use Rattle.stream_law.specs.declared.graph.Graph.{Graph}
 use Rattle.stream_law.specs.Placed.{HasDistinct}
 use Rattle.stream_law.specs.Ways.{comp_of}
+use Rattle.stream_law.specs.Made.{gains}
+use Rattle.stream_law.specs.Seen.{is_volume}
 use Rattle.ipc3_model.specs.declared.message.CompWords.{CompWords}
 use Rattle.ipc3_model.specs.declared.message.CompWords.TheVariants as words
 use Rattle.ipc3_model.specs.Messages.{IsKind}
-use Rattle.mbox_link.specs.Step.{sample_format, kind_of, first_setting, new_setting, with_setting}
-use Rattle.row_laws.specs.Kept.{IsSettingOf}
+use Rattle.mbox_link.specs.Step.{sample_format, kind_of, first_setting, first_ramp, new_setting, with_setting}
+use Rattle.row_laws.specs.Kept.{IsSettingOf, IsRampOf}
 use Rattle.row_laws.proofs.Found.{found-each}
 use Rattle.stream_law.proofs.Members.{in-all, find-in}
 
@@ -48,18 +50,39 @@ first-fits words.Mixer frame_fmt allowed = tt
 first-fits words.Mux frame_fmt allowed = tt
 first-fits words.Eq frame_fmt allowed = inl refl
 
+-- and a ramp is a volume's
+pub first-ramps : (kind : CompWords) (frame_fmt : ℕ) → IsRampOf (kind_of kind frame_fmt) (first_ramp kind)
+first-ramps (words.Host direction) frame_fmt = by (direction == 0)
+  where
+    by : (h : Bool) → IsRampOf (cond h HostPlay HostCapture) 0
+    by true = refl
+    by false = refl
+first-ramps (words.Dai direction index) frame_fmt = by (direction == 0)
+  where
+    by : (h : Bool) → IsRampOf (cond h (DaiPlay (sample_format frame_fmt)) (DaiCapture (sample_format frame_fmt))) 0
+    by true = refl
+    by false = refl
+first-ramps (words.Volume channels min_value max_value ramp initial_ramp) frame_fmt = by (ramp == 0)
+  where
+    by : (h : Bool) → cond h (min initial_ramp 10000) 0 ≤ 10000
+    by true = omega arith
+    by false = omega arith
+first-ramps words.Mixer frame_fmt = refl
+first-ramps words.Mux frame_fmt = refl
+first-ramps words.Eq frame_fmt = refl
+
 -- ---- by values
 
 all-low : (ns : List ℕ) → list_all (λ v. nat_le v 16777216) ns ≡ true → AllByRecursion (λ n. n ≤ 16777216) ns
 all-low [] all = tt
 all-low (n ∷ ns) all = let parts = and_parts (nat_le n 16777216) (list_all (λ v. nat_le v 16777216) ns) all in (leb-true n 16777216 parts.0, all-low ns parts.1)
 
-new-gains : (h : Bool) (command : ℕ) (gains values : List ℕ) (setting : Setting) → (command == 0 && (length values == length gains && list_all (λ v. nat_le v 16777216) values)) ≡ h → cond h (Some (Gains values)) None ≡ Some setting → IsSettingOf Volume (Gains gains) → IsSettingOf Volume setting
-new-gains false command gains values setting test is fits = absurd (cc is)
-new-gains true command gains values setting test is fits =
+new-gains : (h : Bool) (command : ℕ) (list values : List ℕ) (setting : Setting) → (command == 0 && (length values == length list && list_all (λ v. nat_le v 16777216) values)) ≡ h → cond h (Some (Gains values)) None ≡ Some setting → IsSettingOf Volume (Gains list) → IsSettingOf Volume setting
+new-gains false command list values setting test is fits = absurd (cc is)
+new-gains true command list values setting test is fits =
     let same : Gains values ≡ setting = cc is in
-    let parts = and_parts (length values == length gains) (list_all (λ v. nat_le v 16777216) values) (and_parts (command == 0) _ test).1 in
-    let long : length values ≡ length gains = eqb-true (length values) (length gains) parts.0 in
+    let parts = and_parts (length values == length list) (list_all (λ v. nat_le v 16777216) values) (and_parts (command == 0) _ test).1 in
+    let long : length values ≡ length list = eqb-true (length values) (length list) parts.0 in
     subst (IsSettingOf Volume) same ((omega (arith, long, fits.0.0), omega (arith, long, fits.0.1)), all-low values parts.1)
 
 new-choice : (h : Bool) (k : ℕ) (setting : Setting) → cond h (Some (Choice k)) None ≡ Some setting → IsSettingOf Mux setting
@@ -67,7 +90,7 @@ new-choice true k setting is = let same : Choice k ≡ setting = cc is in subst 
 new-choice false k setting is = absurd (cc is)
 
 new-fits : (kind : Kind) (old : Setting) (command : ℕ) (values : List ℕ) (setting : Setting) → IsSettingOf kind old → new_setting kind old command values ≡ Some setting → IsSettingOf kind setting
-new-fits Volume (Gains gains) command values setting fits is = new-gains (command == 0 && (length values == length gains && list_all (λ v. nat_le v 16777216) values)) command gains values setting refl is fits
+new-fits Volume (Gains list) command values setting fits is = new-gains (command == 0 && (length values == length list && list_all (λ v. nat_le v 16777216) values)) command list values setting refl is fits
 new-fits Volume Nothing command values setting fits is = absurd fits
 new-fits Volume (Choice k) command values setting fits is = absurd fits
 new-fits Volume (Blob bytes) command values setting fits is = absurd fits
@@ -77,10 +100,31 @@ new-fits Mux old command (v ∷ w ∷ values) setting fits is = absurd (cc is)
 new-fits HostPlay old command values setting fits is = absurd (cc is)
 new-fits kind old command values setting fits is = absurd (cc is)
 
+-- a volume gets as many gains as it has
+new-many : (kind : Kind) (old : Setting) (command : ℕ) (values : List ℕ) (setting : Setting) → IsSettingOf kind old → new_setting kind old command values ≡ Some setting → is_volume kind ≡ true → length (gains setting) ≡ length (gains old)
+new-many Volume (Gains list) command values setting fits is volume = by (command == 0 && (length values == length list && list_all (λ v. nat_le v 16777216) values)) refl is
+  where
+    by : (h : Bool) → (command == 0 && (length values == length list && list_all (λ v. nat_le v 16777216) values)) ≡ h → cond h (Some (Gains values)) None ≡ Some setting → length (gains setting) ≡ length list
+    by false test e = absurd (cc e)
+    by true test e =
+        let same : Gains values ≡ setting = cc e in
+        let parts = and_parts (length values == length list) (list_all (λ v. nat_le v 16777216) values) (and_parts (command == 0) _ test).1 in
+        sym (ap (λ s. length (gains s)) same) ∙ eqb-true (length values) (length list) parts.0
+new-many Volume Nothing command values setting fits is volume = absurd fits
+new-many Volume (Choice k) command values setting fits is volume = absurd fits
+new-many Volume (Blob bytes) command values setting fits is volume = absurd fits
+new-many kind old command values setting fits is volume = absurd (false≢true volume)
+
 -- values fit what is found
 pub values-fit : (g : Graph) (id command : ℕ) (values : List ℕ) (setting : Setting) → AllByRecursion (λ c. IsSettingOf c.kind c.setting) g.comps → option_and_then (λ (c : Comp). new_setting c.kind c.setting command values) (comp_of g id) ≡ Some setting → (c : Comp) → comp_of g id ≡ Some c → IsSettingOf c.kind setting
 values-fit g id command values setting fits named c found =
     new-fits c.kind c.setting command values setting
+    (in-all (λ (x : Comp). IsSettingOf x.kind x.setting) g.comps c fits (find-in (λ x. x.id == id) g.comps c found).0)
+    (sym (ap (λ (o : Option Comp). option_and_then (λ (x : Comp). new_setting x.kind x.setting command values) o) found) ∙ named)
+
+pub values-many : (g : Graph) (id command : ℕ) (values : List ℕ) (setting : Setting) → AllByRecursion (λ c. IsSettingOf c.kind c.setting) g.comps → option_and_then (λ (c : Comp). new_setting c.kind c.setting command values) (comp_of g id) ≡ Some setting → (c : Comp) → comp_of g id ≡ Some c → is_volume c.kind ≡ true → length (gains setting) ≡ length (gains c.setting)
+values-many g id command values setting fits named c found =
+    new-many c.kind c.setting command values setting
     (in-all (λ (x : Comp). IsSettingOf x.kind x.setting) g.comps c fits (find-in (λ x. x.id == id) g.comps c found).0)
     (sym (ap (λ (o : Option Comp). option_and_then (λ (x : Comp). new_setting x.kind x.setting command values) o) found) ∙ named)
 

@@ -2,27 +2,25 @@
 use Rattle.std.proofs.Common.{◌≡◌, refl, sym, ap, ◌∙◌, subst, ℕ, List, [], ◌∷◌, filter, Some, Bool, true, false, cond, not, ◌==◌, ◌||◌, arith}
 use Rattle.std.proofs.lemmas.Bool.{true≢false, false_from_ne_true, or_parts, eqb-true}
 use Rattle.std.specs.Prelude.{find, option_map, is_some}
-use Rattle.std.specs.Option.{option_map_or}
 use Rattle.std.specs.List.{list_any, AllByRecursion}
 use Rattle.stream_law.specs.declared.graph.Comp.{Comp}
 use Rattle.stream_law.specs.declared.graph.Edge.{Edge}
 use Rattle.stream_law.specs.declared.graph.Pipe.{Pipe}
 use Rattle.stream_law.specs.declared.stream.StreamView.{StreamView}
 use Rattle.stream_law.specs.State.{FwState, PieceView, View, RingView, Staging, view_of}
-use Rattle.stream_law.specs.Ways.{comp_of, components, live, channels_of}
-use Rattle.stream_law.specs.Made.{blob}
-use Rattle.stream_law.specs.Seen.{flows, ring_seen, equalises}
+use Rattle.stream_law.specs.Ways.{comp_of, components, live, rate_of, channels_of}
+use Rattle.stream_law.specs.Seen.{flows, ring_seen, remembers}
 use Rattle.stream_law.proofs.Placing.{Ascends-filter}
 use Rattle.ipc3_model.specs.Allowed.{is_buffer_size}
 use Rattle.mbox_link.specs.Step.{has_kind, is_host, kind_at, without_piece, without_comp, without_buffer, without_pipe, touches, has_comp, has_edge, is_held, is_index_held}
 use Rattle.row_laws.specs.Tiled.{heap_bytes}
 use Rattle.row_laws.specs.Wired.{is_node}
 use Rattle.row_laws.specs.Played.{AreStreamsPlayable}
-use Rattle.row_laws.specs.Kept.{IsKeptState, IsSettingOf, IsStaged, has_piece, numbers_held}
+use Rattle.row_laws.specs.Kept.{IsKeptState, IsSettingOf, IsRampOf, IsStaged, has_piece}
 use Rattle.row_laws.proofs.Fewer.{all-kept, all-filter, all-both, all-any, filter-every, length-filter, none-each, keys-left, not-true, distinct-filter}
 use Rattle.row_laws.proofs.Growing.{all-by}
-use Rattle.row_laws.proofs.SameWays.{played-same, live-same, channels-same, flows-same}
-use Rattle.row_laws.proofs.Histories.{equalisers-same, equalisers-left, held-same, histories-by, histories-less, every}
+use Rattle.row_laws.proofs.SameWays.{played-same, live-same, rate-same, channels-same, flows-same}
+use Rattle.row_laws.proofs.Histories.{IsAlike, alike-comp, remembered-same, remembered-left, histories-by, histories-less, every}
 use Rattle.row_laws.proofs.FewerPieces.{HasOther, pieces-less}
 use Rattle.row_laws.proofs.FewerComps.{comp-other, streams-few, used-other, linked-comp_less, wired-comp_less, bare-comp, ways-comp, owned-comp, ready-comp, nodes-comp}
 use Rattle.row_laws.proofs.FewerEdges.{source-left, sink-left, used-left, wired-edge_less, linked-edge_less, joins-left, bare-edge, ways-edge, ready-edge, nodes-edge}
@@ -87,6 +85,9 @@ module _ (f : FwState) (kept : IsKeptState f) where
     pub comp_free-channels : (x : ℕ) → channels_of comp-view x ≡ channels_of view x
     comp_free-channels = channels-same f.graph comp-view.graph stays f.streams kept.played bare (ways-comp f.graph id kept.wired kept.linked free f.streams)
 
+    pub comp_free-rate : (x : ℕ) → rate_of comp-view x ≡ rate_of view x
+    comp_free-rate = rate-same f.graph comp-view.graph stays f.streams kept.played bare (ways-comp f.graph id kept.wired kept.linked free f.streams)
+
     pub comp_free-flows : (b : ℕ) → flows comp-view b ≡ flows view b
     comp_free-flows b = flows-same f.graph comp-view.graph stays f.streams kept.played bare (ways-comp f.graph id kept.wired kept.linked free f.streams) b refl refl
 
@@ -107,6 +108,7 @@ module _ (f : FwState) (kept : IsKeptState f) where
       indices = kept.indices;
       sizes = kept.sizes;
       settings = all-filter (λ (x : Comp). not (x.id == id)) (λ x. IsSettingOf x.kind x.setting) f.graph.comps kept.settings;
+      ramps = all-filter (λ (x : Comp). not (x.id == id)) (λ x. IsRampOf x.kind x.ramp) f.graph.comps kept.ramps;
       pieces = pieces-less id f.graph comp-view.graph f.heap kept.pieces kept.tiled.ids (used-other f.graph id kept.wired kept.linked free)
           (all-kept (λ (x : Comp). not (x.id == id)) (λ x. has_piece f.heap x.id ≡ true) (λ x. HasOther id f.heap x.id) (λ x e has. (not-true (x.id == id) e, has)) f.graph.comps kept.pieces.comps)
           (edge-pieces id (no-buffer id there))
@@ -117,8 +119,8 @@ module _ (f : FwState) (kept : IsKeptState f) where
       played = comp-played;
       rings = kept.rings;
       seen = seen-same view comp-view f.rings (each-key (λ (r : RingView). r.buffer) comp_free-flows f.rings) kept.seen;
-      histories = histories-less id view comp-view f.histories (equalisers-left id view comp-view refl comp_free-live)
-          (every (λ n. (n == id) ≡ false → numbers_held comp-view n ≡ numbers_held view n) (filter (equalises view) (components f.graph)) (λ n other. held-same view comp-view n (ap (λ o. option_map_or (λ y. blob y.setting) o []) (found n other)) (comp_free-channels n))) kept.histories;
+      histories = histories-less id view comp-view f.histories (remembered-left id view comp-view refl comp_free-live)
+          (every (λ n. (n == id) ≡ false → IsAlike view comp-view n) (filter (remembers view) (components f.graph)) (λ n other. alike-comp view comp-view n (found n other) (comp_free-rate n) (comp_free-channels n))) kept.histories;
       staging = all-kept (λ (s : Staging). not (s.eq == id)) (IsStaged f.graph) (IsStaged comp-view.graph) (λ s other is. staged-same f.graph comp-view.graph s (ap (option_map (λ x. x.kind)) (found s.eq (not-true (s.eq == id) other))) is) f.staging kept.staging;
     }
 
@@ -136,6 +138,9 @@ module _ (f : FwState) (kept : IsKeptState f) where
 
     pub buffer_free-channels : (x : ℕ) → channels_of edge-view x ≡ channels_of view x
     buffer_free-channels x = every-stream (λ ss. channels_of (record { graph = edge-view.graph; streams = ss }) x ≡ channels_of view x) (channels-same f.graph edge-view.graph (λ s. true) f.streams kept.played (bare-edge f.graph id kept.wired kept.linked there f.streams) (ways-edge f.graph id kept.wired kept.linked there f.streams free) x)
+
+    pub buffer_free-rate : (x : ℕ) → rate_of edge-view x ≡ rate_of view x
+    buffer_free-rate x = every-stream (λ ss. rate_of (record { graph = edge-view.graph; streams = ss }) x ≡ rate_of view x) (rate-same f.graph edge-view.graph (λ s. true) f.streams kept.played (bare-edge f.graph id kept.wired kept.linked there f.streams) (ways-edge f.graph id kept.wired kept.linked there f.streams free) x)
 
     pub buffer_free-flows : (b : ℕ) → (b == id) ≡ false → flows edge-view b ≡ flows view b
     buffer_free-flows b far = every-stream (λ ss. flows (record { graph = edge-view.graph; streams = ss }) b ≡ flows view b) (flows-same f.graph edge-view.graph (λ s. true) f.streams kept.played (bare-edge f.graph id kept.wired kept.linked there f.streams) (ways-edge f.graph id kept.wired kept.linked there f.streams free) b (source-left f.graph id kept.wired kept.linked there b far) (sink-left f.graph id kept.wired kept.linked there b far))
@@ -160,6 +165,7 @@ module _ (f : FwState) (kept : IsKeptState f) where
       indices = kept.indices;
       sizes = all-filter (λ (e : Edge). not (e.buffer == id)) (λ e. is_buffer_size e.size ≡ true) f.graph.edges kept.sizes;
       settings = kept.settings;
+      ramps = kept.ramps;
       pieces = pieces-less id f.graph edge-view.graph f.heap kept.pieces kept.tiled.ids (used-left f.graph id kept.wired kept.linked there)
           (comp-pieces id (no-comp id there))
           (all-kept (λ (e : Edge). not (e.buffer == id)) (λ e. has_piece f.heap e.buffer ≡ true) (λ e. HasOther id f.heap e.buffer) (λ e kept has. (not-true (e.buffer == id) kept, has)) f.graph.edges kept.pieces.edges)
@@ -170,8 +176,8 @@ module _ (f : FwState) (kept : IsKeptState f) where
       played = edge-played;
       rings = keys-left (λ (r : RingView). r.buffer) id f.rings ∙ ap (filter (λ n. not (n == id))) kept.rings ∙ sym (keys-left (λ (e : Edge). e.buffer) id f.graph.edges);
       seen = seen-same view edge-view fewer edge-flows (seen-all view fewer (all-filter (λ (r : RingView). not (r.buffer == id)) (λ r. ring_seen view r ≡ r) f.rings (seen-each view f.rings kept.seen)));
-      histories = histories-by view edge-view f.histories (equalisers-same view edge-view refl (all-any (λ (x : Comp). live edge-view x.id ≡ live view x.id) (λ x. buffer_free-live x.id) f.graph.comps))
-          (every (λ n. numbers_held edge-view n ≡ numbers_held view n) (filter (equalises view) (components f.graph)) (λ n. held-same view edge-view n refl (buffer_free-channels n))) kept.histories;
+      histories = histories-by view edge-view f.histories (remembered-same view edge-view refl (all-any (λ (x : Comp). live edge-view x.id ≡ live view x.id) (λ x. buffer_free-live x.id) f.graph.comps))
+          (every (IsAlike view edge-view) (filter (remembers view) (components f.graph)) (λ n. alike-comp view edge-view n refl (buffer_free-rate n) (buffer_free-channels n))) kept.histories;
       staging = staged-all f.graph edge-view.graph f.staging (λ n. refl) kept.staging;
     }
 
@@ -207,6 +213,9 @@ module _ (f : FwState) (kept : IsKeptState f) where
     pub pipe_free-channels : (x : ℕ) → channels_of pipe-view x ≡ channels_of view x
     pipe_free-channels x = all-streams (λ ss. channels_of (record { graph = pipe-view.graph; streams = ss }) x ≡ channels_of view x) (channels-same f.graph pipe-view.graph (λ s. true) f.streams kept.played (bare-pipe f.graph id p found kept.wired f.streams) (ways-pipe f.graph id p found kept.wired f.streams) x)
 
+    pub pipe_free-rate : (x : ℕ) → rate_of pipe-view x ≡ rate_of view x
+    pipe_free-rate x = all-streams (λ ss. rate_of (record { graph = pipe-view.graph; streams = ss }) x ≡ rate_of view x) (rate-same f.graph pipe-view.graph (λ s. true) f.streams kept.played (bare-pipe f.graph id p found kept.wired f.streams) (ways-pipe f.graph id p found kept.wired f.streams) x)
+
     pipe-played : AreStreamsPlayable pipe-view
     pipe-played = all-streams (λ ss. AreStreamsPlayable (record { graph = pipe-view.graph; streams = ss })) (played-same f.graph pipe-view.graph (λ s. true) f.streams kept.played (bare-pipe f.graph id p found kept.wired f.streams) (ways-pipe f.graph id p found kept.wired f.streams) (λ x there. there) (all-by (λ s. has_kind is_host (kind_at f.graph s.host) ≡ true) (λ s. true ≡ true → has_kind is_host (kind_at pipe-view.graph s.host) ≡ true) (λ s is kept. is) f.streams kept.played.owned) (ready-pipe f.graph id p found kept.wired f.streams free kept.played.each))
 
@@ -221,6 +230,7 @@ module _ (f : FwState) (kept : IsKeptState f) where
       indices = distinct-filter (λ (q : Pipe). q.index) (λ q. not (q.id == id)) f.graph.pipes kept.indices;
       sizes = kept.sizes;
       settings = kept.settings;
+      ramps = kept.ramps;
       pieces = pieces-less id f.graph pipe-view.graph f.heap kept.pieces kept.tiled.ids (used-pipe f.graph id p found kept.wired)
           (comp-pieces id pipe_free-nodes.0)
           (edge-pieces id pipe_free-nodes.1)
@@ -231,7 +241,7 @@ module _ (f : FwState) (kept : IsKeptState f) where
       played = pipe-played;
       rings = kept.rings;
       seen = seen-same view pipe-view f.rings (each-key (λ (r : RingView). r.buffer) pipe_free-flows f.rings) kept.seen;
-      histories = histories-by view pipe-view f.histories (equalisers-same view pipe-view refl (all-any (λ (x : Comp). live pipe-view x.id ≡ live view x.id) (λ x. pipe-live x.id) f.graph.comps))
-          (every (λ n. numbers_held pipe-view n ≡ numbers_held view n) (filter (equalises view) (components f.graph)) (λ n. held-same view pipe-view n refl (pipe_free-channels n))) kept.histories;
+      histories = histories-by view pipe-view f.histories (remembered-same view pipe-view refl (all-any (λ (x : Comp). live pipe-view x.id ≡ live view x.id) (λ x. pipe-live x.id) f.graph.comps))
+          (every (IsAlike view pipe-view) (filter (remembers view) (components f.graph)) (λ n. alike-comp view pipe-view n refl (pipe_free-rate n) (pipe_free-channels n))) kept.histories;
       staging = staged-all f.graph pipe-view.graph f.staging (λ n. refl) kept.staging;
     }

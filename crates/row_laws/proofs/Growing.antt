@@ -15,7 +15,7 @@ use Rattle.stream_law.specs.declared.stream.Phase.TheVariants.{Idle}
 use Rattle.stream_law.specs.declared.stream.StreamView.{StreamView}
 use Rattle.stream_law.specs.Placed.{placed, HasDistinct}
 use Rattle.stream_law.specs.State.{View}
-use Rattle.stream_law.specs.Ways.{comp_of, source_of, sink_of, leads, reaches, on_way, is_capture, is_live_phase, live, live_end, channels_of, touch, same_shape, agree}
+use Rattle.stream_law.specs.Ways.{comp_of, source_of, sink_of, leads, reaches, on_way, is_capture, is_live_phase, live, live_end, rate_of, channels_of, touch, same_shape, agree}
 use Rattle.stream_law.specs.Seen.{flows}
 use Rattle.stream_law.proofs.Placing.{list_any-placed, find-placed_apart, find-placed_there, HasDistinct-placed}
 use Rattle.mbox_link.specs.Step.{has_comp, has_edge, has_pipe, has_kind, kind_at, is_host, is_ready_comp, is_ready_edge, is_way_ready, with_host_stream}
@@ -135,6 +135,13 @@ module _ (g : Graph) (c : Comp) (gone : is_node g c.id ≡ false) (wired : IsWir
   unfolding channels_of
   channels-wider x =
       ap (λ (o : Option StreamView). option_map_or (λ (p : Params). p.channels) (option_and_then (λ s. s.params) o) 0)
+      (brought (λ xs. find (λ s. is_live_phase s.phase && on_way wider s.host x) xs ≡ find (λ s. is_live_phase s.phase && on_way wider s.host x) ss) c.id c.kind ss refl (λ host. find-placed_apart (λ s. is_live_phase s.phase && on_way wider s.host x) (λ s. s.host) (fresh_stream c.id) ss refl)
+      ∙ find-same (λ s. is_live_phase s.phase && on_way wider s.host x) (λ s. is_live_phase s.phase && on_way g s.host x) ss (all-by (λ s. (s.host == c.id) ≡ false) (λ s. (is_live_phase s.phase && on_way wider s.host x) ≡ (is_live_phase s.phase && on_way g s.host x)) (λ s e. ap (λ h. is_live_phase s.phase && h) (way-other s.host x e)) ss far))
+
+  pub rate-wider : (x : ℕ) → rate_of new x ≡ rate_of old x
+  unfolding rate_of
+  rate-wider x =
+      ap (λ (o : Option StreamView). option_map_or (λ (p : Params). p.rate) (option_and_then (λ s. s.params) o) 0)
       (brought (λ xs. find (λ s. is_live_phase s.phase && on_way wider s.host x) xs ≡ find (λ s. is_live_phase s.phase && on_way wider s.host x) ss) c.id c.kind ss refl (λ host. find-placed_apart (λ s. is_live_phase s.phase && on_way wider s.host x) (λ s. s.host) (fresh_stream c.id) ss refl)
       ∙ find-same (λ s. is_live_phase s.phase && on_way wider s.host x) (λ s. is_live_phase s.phase && on_way g s.host x) ss (all-by (λ s. (s.host == c.id) ≡ false) (λ s. (is_live_phase s.phase && on_way wider s.host x) ≡ (is_live_phase s.phase && on_way g s.host x)) (λ s e. ap (λ h. is_live_phase s.phase && h) (way-other s.host x e)) ss far))
 

@@ -13,7 +13,7 @@ use Rattle.stream_law.specs.declared.graph.Graph.{Graph}
 use Rattle.stream_law.specs.declared.stream.StreamView.{StreamView}
 use Rattle.stream_law.specs.Placed.{HasDistinct}
 use Rattle.stream_law.specs.State.{View}
-use Rattle.stream_law.specs.Ways.{comp_of, components, buffers, source_of, sink_of, ins, outs, is_end, leads, reaches, on_way, is_capture, is_live_phase, live, live_end, channels_of, touch, same_shape, agree}
+use Rattle.stream_law.specs.Ways.{comp_of, components, buffers, source_of, sink_of, ins, outs, is_end, leads, reaches, on_way, is_capture, is_live_phase, live, live_end, rate_of, channels_of, touch, same_shape, agree}
 use Rattle.stream_law.specs.Joins.{kind_ins, fits_kind, joined_edge, with_join, has_grown, would_grow}
 use Rattle.stream_law.specs.Seen.{flows}
 use Rattle.stream_law.specs.Order.{is_among}
@@ -122,6 +122,12 @@ module _ (g : Graph) (j : Join) (wired : IsWired g) (free : is_joined g j.source
   unfolding channels_of
   channels-joined x there =
       ap (λ (o : Option StreamView). option_map_or (λ (p : Params). p.channels) (option_and_then (λ s. s.params) o) 0)
+      (find-same (λ s. is_live_phase s.phase && on_way wired_on s.host x) (λ s. is_live_phase s.phase && on_way g s.host x) ss (live-tests x there ss ways played.each))
+
+  pub rate-joined : (x : ℕ) → is_among nodes x ≡ true → rate_of new x ≡ rate_of old x
+  unfolding rate_of
+  rate-joined x there =
+      ap (λ (o : Option StreamView). option_map_or (λ (p : Params). p.rate) (option_and_then (λ s. s.params) o) 0)
       (find-same (λ s. is_live_phase s.phase && on_way wired_on s.host x) (λ s. is_live_phase s.phase && on_way g s.host x) ss (live-tests x there ss ways played.each))
 
   -- ---- the side that the join is at

@@ -27,6 +27,7 @@ pub mod Playing
 pub mod RingViews
 pub mod RowKept
 pub mod SameWays
+pub mod SeenKept
 pub mod Settings
 pub mod Sides
 pub mod Stagings

@@ -11,7 +11,7 @@ use Rattle.stream_law.specs.declared.graph.Graph.{Graph}
 use Rattle.stream_law.specs.declared.stream.StreamView.{StreamView}
 use Rattle.stream_law.specs.Placed.{placed, HasDistinct}
 use Rattle.stream_law.specs.State.{View}
-use Rattle.stream_law.specs.Ways.{edge_of, source_of, sink_of, ins, outs, is_end, reaches, on_way, live, live_end, channels_of, touch, same_shape, agree}
+use Rattle.stream_law.specs.Ways.{edge_of, source_of, sink_of, ins, outs, is_end, reaches, on_way, live, live_end, rate_of, channels_of, touch, same_shape, agree}
 use Rattle.stream_law.specs.Joins.{fits_kind}
 use Rattle.stream_law.specs.Seen.{flows}
 use Rattle.stream_law.proofs.Placing.{list_any-placed, find-placed_apart, find-placed_there, HasDistinct-placed}
@@ -71,6 +71,10 @@ module _ (g : Graph) (id pipe size : ℕ) (gone : is_node g id ≡ false) (wired
   pub channels-longer : (x : ℕ) → channels_of new x ≡ channels_of old x
   unfolding channels_of on_way reaches
   channels-longer x = refl
+
+  pub rate-longer : (x : ℕ) → rate_of new x ≡ rate_of old x
+  unfolding rate_of on_way reaches
+  rate-longer x = refl
 
   edge-other : (b : ℕ) → (b == id) ≡ false → edge_of longer b ≡ edge_of g b
   edge-other b other = find-placed_apart (λ e. e.buffer == b) (λ e. e.buffer) fresh g.edges (eqb-turned b id other)
@@ -265,6 +269,10 @@ module _ (g : Graph) (pipes : List Pipe) (ss : List StreamView) (played : AreStr
   pub channels-other : (x : ℕ) → channels_of (record { graph = other; streams = ss }) x ≡ channels_of (record { graph = g; streams = ss }) x
   unfolding channels_of on_way reaches
   channels-other x = refl
+
+  pub rate-other : (x : ℕ) → rate_of (record { graph = other; streams = ss }) x ≡ rate_of (record { graph = g; streams = ss }) x
+  unfolding rate_of on_way reaches
+  rate-other x = refl
 
   pub flows-other : (b : ℕ) → flows (record { graph = other; streams = ss }) b ≡ flows (record { graph = g; streams = ss }) b
   unfolding flows live on_way reaches

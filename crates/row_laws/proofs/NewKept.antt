@@ -3,7 +3,6 @@ use Rattle.std.proofs.Common.{◌≡◌, refl, sym, ap, subst, ℕ, ◌+◌, ◌
 use Rattle.std.proofs.lemmas.Bool.{or_parts}
 use Rattle.std.proofs.lemmas.List.{length-map}
 use Rattle.std.specs.Prelude.{option_map}
-use Rattle.std.specs.Option.{option_map_or}
 use Rattle.std.specs.List.{IsDistinct, list_any, AllByRecursion}
 use Rattle.stream_law.specs.declared.graph.Kind.{Kind}
 use Rattle.stream_law.specs.declared.graph.Kind.TheVariants.{HostPlay, HostCapture}
@@ -17,20 +16,19 @@ use Rattle.stream_law.specs.declared.stream.StreamView.{StreamView}
 use Rattle.stream_law.specs.Placed.{placed, Ascends, HasDistinct}
 use Rattle.stream_law.specs.State.{FwState, HeapView, View, RingView, view_of}
 use Rattle.stream_law.specs.Ways.{comp_of, components, live}
-use Rattle.stream_law.specs.Made.{blob}
-use Rattle.stream_law.specs.Seen.{flows, ring_seen, equalises}
+use Rattle.stream_law.specs.Seen.{flows, ring_seen, remembers}
 use Rattle.stream_law.proofs.Placing.{length-placed, find-placed_apart, Ascends-placed, HasDistinct-placed}
 use Rattle.ipc3_model.specs.Allowed.{is_buffer_size, is_period_allowed}
 use Rattle.mbox_link.specs.Step.{comp_bytes, buffer_bytes, pipe_bytes, heap_with_piece, with_comp, with_buffer, with_pipe, with_pipes, with_host_stream, completed, has_hole, has_index, is_used, has_comp, has_edge, has_pipe}
 use Rattle.row_laws.specs.Tiled.{IsTiled, heap_bytes}
 use Rattle.row_laws.specs.Wired.{is_node}
-use Rattle.row_laws.specs.Kept.{IsKeptState, IsSettingOf, ArePieces, numbers_held}
+use Rattle.row_laws.specs.Kept.{IsKeptState, IsSettingOf, IsRampOf, ArePieces}
 use Rattle.row_laws.proofs.Ascending.{ascends-keys, distinct-placed, indices-completed}
 use Rattle.row_laws.proofs.Fewer.{none-each, all-filter, all-any}
-use Rattle.row_laws.proofs.Growing.{all-placed, all-by, hosts-apart, no-host, fresh_stream, brought, played-wider, wired-wider, live-wider, flows-wider, channels-wider}
-use Rattle.row_laws.proofs.Histories.{equalisers-placed, equalisers-same, held-same, histories-by, all-ids, every}
+use Rattle.row_laws.proofs.Growing.{all-placed, all-by, hosts-apart, no-host, fresh_stream, brought, played-wider, wired-wider, live-wider, flows-wider, rate-wider, channels-wider}
+use Rattle.row_laws.proofs.Histories.{IsAlike, alike-comp, remembered-placed, remembered-same, histories-by, all-ids, every}
 use Rattle.row_laws.proofs.Linking.{linked-wider, linked-longer, linked-other}
-use Rattle.row_laws.proofs.Longer.{played-longer, wired-longer, live-longer, flows-longer, channels-longer, played-other, wired-other, live-other, flows-other, channels-other, complete-placed, complete-completed, periods-completed}
+use Rattle.row_laws.proofs.Longer.{played-longer, wired-longer, live-longer, flows-longer, rate-longer, channels-longer, played-other, wired-other, live-other, flows-other, rate-other, channels-other, complete-placed, complete-completed, periods-completed}
 use Rattle.row_laws.proofs.Pieced.{no-piece, pieces-comp, pieces-edge, pieces-pipe, pieces-completed, ids-completed, each-completed}
 use Rattle.row_laws.proofs.RingViews.{each-key, by-keys, keys-placed, seen-each, seen-all, seen-same}
 use Rattle.row_laws.proofs.Sides.{sides-placed}
@@ -61,12 +59,12 @@ module _ (f : FwState) (kept : IsKeptState f) where
 
   -- ---- a component
 
-  module _ (id pipe : ℕ) (kind : Kind) (setting : Setting) (few : length f.graph.comps < 128) (unused : is_used f.graph id ≡ false) (there : has_hole f (comp_bytes kind) ≡ true) (fits : IsSettingOf kind setting) where
+  module _ (id pipe : ℕ) (kind : Kind) (setting : Setting) (ramp : ℕ) (few : length f.graph.comps < 128) (unused : is_used f.graph id ≡ false) (there : has_hole f (comp_bytes kind) ≡ true) (fits : IsSettingOf kind setting) (ramps : IsRampOf kind ramp) where
     abbrev c : Comp
-    c = record { id = id; kind = kind; pipe = pipe; setting = setting }
+    c = record { id = id; kind = kind; pipe = pipe; setting = setting; ramp = ramp }
 
     abbrev wide : View
-    wide = view_of (with_comp id pipe kind setting f)
+    wide = view_of (with_comp id pipe kind setting ramp f)
 
     gone : is_node f.graph id ≡ false
     gone = unused-node f.graph id unused
@@ -77,9 +75,9 @@ module _ (f : FwState) (kept : IsKeptState f) where
     found : (n : ℕ) → (n == id) ≡ false → comp_of wide.graph n ≡ comp_of f.graph n
     found n other = find-placed_apart (λ x. x.id == n) (λ x. x.id) c f.graph.comps (eqb-turned n id other)
 
-    held-comp : AllByRecursion (λ n. numbers_held wide n ≡ numbers_held view n) (filter (equalises view) (components f.graph))
-    held-comp = all-filter (equalises view) (λ n. numbers_held wide n ≡ numbers_held view n) (components f.graph) (all-ids (λ n. numbers_held wide n ≡ numbers_held view n) f.graph.comps
-        (all-by (λ x. (x.id == id) ≡ false) (λ x. numbers_held wide x.id ≡ numbers_held view x.id) (λ x other. held-same view wide x.id (ap (λ o. option_map_or (λ y. blob y.setting) o []) (found x.id other)) (channels-wider f.graph c gone kept.wired f.streams kept.played x.id)) f.graph.comps
+    alike-wider : AllByRecursion (IsAlike view wide) (filter (remembers view) (components f.graph))
+    alike-wider = all-filter (remembers view) (IsAlike view wide) (components f.graph) (all-ids (IsAlike view wide) f.graph.comps
+        (all-by (λ x. (x.id == id) ≡ false) (λ x. IsAlike view wide x.id) (λ x other. alike-comp view wide x.id (found x.id other) (rate-wider f.graph c gone kept.wired f.streams kept.played x.id) (channels-wider f.graph c gone kept.wired f.streams kept.played x.id)) f.graph.comps
         (none-each (λ (x : Comp). x.id == id) f.graph.comps no-comp)))
 
     tiled-comp : IsTiled (heap_bytes f.heap) (heap_with_piece id (comp_bytes kind) f.heap)
@@ -89,7 +87,7 @@ module _ (f : FwState) (kept : IsKeptState f) where
     pub comp-whole : heap_bytes (heap_with_piece id (comp_bytes kind) f.heap) ≡ heap_bytes f.heap
     comp-whole = tiled-comp.whole
 
-    pub kept-comp : IsKeptState (with_comp id pipe kind setting f)
+    pub kept-comp : IsKeptState (with_comp id pipe kind setting ramp f)
     kept-comp = record {
       comps = omega (arith, few, length-placed (λ (x : Comp). x.id) c f.graph.comps);
       edges = kept.edges;
@@ -107,6 +105,7 @@ module _ (f : FwState) (kept : IsKeptState f) where
       indices = kept.indices;
       sizes = kept.sizes;
       settings = all-placed (λ x. IsSettingOf x.kind x.setting) (λ x. x.id) c f.graph.comps fits kept.settings;
+      ramps = all-placed (λ x. IsRampOf x.kind x.ramp) (λ x. x.id) c f.graph.comps ramps kept.ramps;
       pieces = pieces-comp f.graph f.heap (comp_bytes kind) kept.pieces c;
       tiled = retiled (heap_bytes f.heap) (heap_with_piece id (comp_bytes kind) f.heap) tiled-comp;
       wired = wired-wider f.graph c gone kept.wired f.streams kept.played (no-pipe f.graph id unused);
@@ -114,7 +113,7 @@ module _ (f : FwState) (kept : IsKeptState f) where
       played = played-wider f.graph c gone kept.wired f.streams kept.played;
       rings = kept.rings;
       seen = seen-same view wide f.rings (each-key (λ (r : RingView). r.buffer) (flows-wider f.graph c gone kept.wired f.streams kept.played) f.rings) kept.seen;
-      histories = histories-by view wide f.histories (equalisers-placed f.graph f.streams c wide refl no-comp gone kept.wired kept.played.owned (live-wider f.graph c gone kept.wired f.streams kept.played)) held-comp kept.histories;
+      histories = histories-by view wide f.histories (remembered-placed f.graph f.streams c wide refl no-comp gone kept.wired kept.played.owned (live-wider f.graph c gone kept.wired f.streams kept.played)) alike-wider kept.histories;
       staging = staged-other f.graph wide.graph id f.staging no-comp (λ n other. ap (option_map (λ x. x.kind)) (found n other)) kept.staging;
     }
 
@@ -166,6 +165,7 @@ module _ (f : FwState) (kept : IsKeptState f) where
       indices = kept.indices;
       sizes = all-placed (λ y. is_buffer_size y.size ≡ true) (λ y. y.buffer) fresh f.graph.edges right kept.sizes;
       settings = kept.settings;
+      ramps = kept.ramps;
       pieces = pieces-edge f.graph f.heap (buffer_bytes size) kept.pieces fresh;
       tiled = retiled (heap_bytes f.heap) (heap_with_piece id (buffer_bytes size) f.heap) tiled-buffer;
       wired = wired-longer f.graph id pipe size no-node kept.wired f.streams kept.played (no-pipe f.graph id unused);
@@ -173,8 +173,8 @@ module _ (f : FwState) (kept : IsKeptState f) where
       played = played-longer f.graph id pipe size no-node kept.wired f.streams kept.played;
       rings = keys-placed (λ (r : RingView). r.buffer) (λ (e : Edge). e.buffer) ring fresh f.rings f.graph.edges kept.rings refl;
       seen = seen-all long (placed (λ r. r.buffer) ring f.rings) (all-placed (λ r. ring_seen long r ≡ r) (λ r. r.buffer) ring f.rings (stays-empty (flows long id)) (seen-each long f.rings (seen-same view long f.rings ring-flows kept.seen)));
-      histories = histories-by view long f.histories (equalisers-same view long refl (all-any (λ (x : Comp). live long x.id ≡ live view x.id) (λ x. live-longer f.graph id pipe size no-node kept.wired f.streams kept.played x.id) f.graph.comps))
-          (every (λ n. numbers_held long n ≡ numbers_held view n) (filter (equalises view) (components f.graph)) (λ n. held-same view long n refl (channels-longer f.graph id pipe size no-node kept.wired f.streams kept.played n))) kept.histories;
+      histories = histories-by view long f.histories (remembered-same view long refl (all-any (λ (x : Comp). live long x.id ≡ live view x.id) (λ x. live-longer f.graph id pipe size no-node kept.wired f.streams kept.played x.id) f.graph.comps))
+          (every (IsAlike view long) (filter (remembers view) (components f.graph)) (λ n. alike-comp view long n refl (rate-longer f.graph id pipe size no-node kept.wired f.streams kept.played n) (channels-longer f.graph id pipe size no-node kept.wired f.streams kept.played n))) kept.histories;
       staging = staged-all f.graph long.graph f.staging (λ n. refl) kept.staging;
     }
 
@@ -195,6 +195,7 @@ module _ (f : FwState) (kept : IsKeptState f) where
       indices = indices;
       sizes = kept.sizes;
       settings = kept.settings;
+      ramps = kept.ramps;
       pieces = pieces;
       tiled = tiled;
       wired = wired-other f.graph pipes f.streams kept.played kept.wired names alone periods;
@@ -202,8 +203,8 @@ module _ (f : FwState) (kept : IsKeptState f) where
       played = played-other f.graph pipes f.streams kept.played complete;
       rings = kept.rings;
       seen = seen-same view other f.rings (each-key (λ (r : RingView). r.buffer) (flows-other f.graph pipes f.streams kept.played) f.rings) kept.seen;
-      histories = histories-by view other f.histories (equalisers-same view other refl (all-any (λ (x : Comp). live other x.id ≡ live view x.id) (λ x. live-other f.graph pipes f.streams kept.played x.id) f.graph.comps))
-          (every (λ n. numbers_held other n ≡ numbers_held view n) (filter (equalises view) (components f.graph)) (λ n. held-same view other n refl (channels-other f.graph pipes f.streams kept.played n))) kept.histories;
+      histories = histories-by view other f.histories (remembered-same view other refl (all-any (λ (x : Comp). live other x.id ≡ live view x.id) (λ x. live-other f.graph pipes f.streams kept.played x.id) f.graph.comps))
+          (every (IsAlike view other) (filter (remembers view) (components f.graph)) (λ n. alike-comp view other n refl (rate-other f.graph pipes f.streams kept.played n) (channels-other f.graph pipes f.streams kept.played n))) kept.histories;
       staging = staged-all f.graph other.graph f.staging (λ n. refl) kept.staging;
     }
 

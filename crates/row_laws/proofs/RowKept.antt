@@ -10,7 +10,7 @@ use Rattle.sof_base.specs.BlobFaults.{blob_fault, is_blob}
 use Rattle.sof_base.proofs.BlobLaws.{blob-from_no_fault}
 use Rattle.sof_base.proofs.FieldLaws.{IsBytes}
 use Rattle.stream_law.specs.declared.graph.Kind.{Kind}
-use Rattle.stream_law.specs.declared.graph.Kind.TheVariants.{Eq}
+use Rattle.stream_law.specs.declared.graph.Kind.TheVariants.{Volume, Eq}
 use Rattle.stream_law.specs.declared.graph.Setting.{Setting}
 use Rattle.stream_law.specs.declared.graph.Comp.{Comp}
 use Rattle.stream_law.specs.declared.graph.Pipe.{Pipe}
@@ -18,24 +18,24 @@ use Rattle.stream_law.specs.declared.graph.Join.{Join}
 use Rattle.stream_law.specs.declared.stream.Phase.{Phase}
 use Rattle.stream_law.specs.declared.stream.Phase.TheVariants.{Idle, Prepared, Running, Paused}
 use Rattle.stream_law.specs.State.{FwState, Staging, view_of}
-use Rattle.stream_law.specs.Ways.{comp_of, agree, is_live_phase, is_running_phase}
+use Rattle.stream_law.specs.Ways.{comp_of, is_of, agree, is_live_phase, is_running_phase}
 use Rattle.stream_law.specs.Joins.{would_cycle, would_reach, would_grow, with_join}
-use Rattle.stream_law.specs.Seen.{is_equaliser, seen}
+use Rattle.stream_law.specs.Seen.{is_equaliser, is_volume, keeps_numbers, seen}
 use Rattle.ipc3_model.specs.Allowed.{is_buffer_size, is_period_allowed, is_channels}
 use Rattle.ipc3_model.specs.declared.message.Message.{Message}
 use Rattle.ipc3_model.specs.declared.message.Message.TheVariants as messages
 use Rattle.ipc3_model.specs.declared.fault.CodecFault.{CodecFault}
 use Rattle.ipc3_model.specs.Messages.{decoded, IsMessage, IsAllowed, Means}
-use Rattle.mbox_link.specs.Step.{row, row_of, body, body_of, replied, step, kind_of, first_setting, no_memory, busy, no_device, invalid, is_used, is_complete, has_index, has_comp, has_edge, has_hole, comp_bytes, buffer_bytes, pipe_bytes, with_comp, comp_new, with_buffer, buffer_new, with_pipe, pipe_new, with_pipes, completed, complete_pipe, pipe_complete, is_joined, takes_join, is_refused_join, connect, has_complete_pipe, touches, is_held, is_index_held, without_comp, comp_free, without_buffer, buffer_free, without_pipe, free_pipe, pipe_free, new_setting, with_comps, with_setting, value_set, set_value, control_values_at, get_value, staging_at, keeps_order, staged_bytes, with_staged, blob_installed, part_staged, set_data, part_at, get_data, has_kind, is_stream_phase, is_host, goes, is_rate, is_way_ready, kind_at, phase_at, is_prepared, is_paused, set_stream, set_phase, with_params, pcm_params, is_refused_params, pcm_free, trigger}
+use Rattle.mbox_link.specs.Step.{row, row_of, body, body_of, replied, step, kind_of, first_setting, first_ramp, no_memory, busy, no_device, invalid, is_used, is_complete, has_index, has_comp, has_edge, has_hole, comp_bytes, buffer_bytes, pipe_bytes, with_comp, comp_new, with_buffer, buffer_new, with_pipe, pipe_new, with_pipes, completed, complete_pipe, pipe_complete, is_joined, takes_join, is_refused_join, connect, has_complete_pipe, touches, is_held, is_index_held, without_comp, comp_free, without_buffer, buffer_free, without_pipe, free_pipe, pipe_free, new_setting, with_setting_at, value_set, set_value, control_values_at, get_value, staging_at, keeps_order, staged_bytes, with_staged, blob_installed, part_staged, set_data, part_at, get_data, has_kind, is_stream_phase, is_host, goes, is_rate, is_way_ready, kind_at, phase_at, is_prepared, is_paused, set_stream, set_phase, with_params, pcm_params, is_refused_params, pcm_free, trigger}
 use Rattle.row_laws.specs.Played.{is_idle}
-use Rattle.row_laws.specs.Kept.{IsKeptState, IsSettingOf, IsStaged}
+use Rattle.row_laws.specs.Kept.{IsKeptState, IsSettingOf, IsRampOf, IsStaged}
 use Rattle.row_laws.specs.RowLaws.{IsPart, HasBytes}
 use Rattle.row_laws.proofs.Fewer.{not-false}
-use Rattle.row_laws.proofs.Fitting.{first-fits, values-fit}
+use Rattle.row_laws.proofs.Fitting.{first-fits, first-ramps, values-fit, values-many}
 use Rattle.row_laws.proofs.StreamLaws.{keeps-phase, played-phase, keeps-free, played-free, keeps-params, played-params, params-pass}
 use Rattle.row_laws.proofs.NewKept.{kept-comp, kept-buffer, kept-pipe, kept-complete}
 use Rattle.row_laws.proofs.FreeKept.{kept-comp_free, kept-buffer_free, kept-pipe_free}
-use Rattle.row_laws.proofs.ChangeKept.{kept-join, kept-setting}
+use Rattle.row_laws.proofs.ChangeKept.{kept-join, kept-setting, kept-marked}
 use Rattle.row_laws.proofs.PartBytes.{means-bytes}
 use Rattle.row_laws.proofs.PartKept.{kept-staged, kept-blob}
 use Rattle.row_laws.proofs.Stagings.{staged-found, staged-bytes, staged-more}
@@ -57,14 +57,14 @@ not-both a b e = and_parts a b (not-false (a && b) e)
 
 -- ---- NEW
 
-pub comp_new-kept : (id pipe : ℕ) (kind : Kind) (setting : Setting) → IsSettingOf kind setting → (f g : FwState) → IsKeptState f → comp_new f id pipe kind setting ≡ Ok g → IsKeptState g
-comp_new-kept id pipe kind setting right f g kept is =
-    let new : FwState = with_comp id pipe kind setting f in
+pub comp_new-kept : (id pipe : ℕ) (kind : Kind) (setting : Setting) (ramp : ℕ) → IsSettingOf kind setting → IsRampOf kind ramp → (f g : FwState) → IsKeptState f → comp_new f id pipe kind setting ramp ≡ Ok g → IsKeptState g
+comp_new-kept id pipe kind setting ramp right ramps f g kept is =
+    let new : FwState = with_comp id pipe kind setting ramp f in
     let full : Bool = nat_le 128 (length f.graph.comps) || not (has_hole f (comp_bytes kind)) in
     let free = pass (is_used f.graph id || is_complete f.graph pipe) busy (cond full (Err no_memory) (Ok new)) g is in
     let fits = pass full no_memory (Ok new) g free.1 in
     let parts = or_parts (nat_le 128 (length f.graph.comps)) (not (has_hole f (comp_bytes kind))) fits.0 in
-    done new g fits.1 (kept-comp f kept id pipe kind setting (leb-false 128 (length f.graph.comps) parts.0) (or_parts (is_used f.graph id) (is_complete f.graph pipe) free.0).0 (not-false (has_hole f (comp_bytes kind)) parts.1) right)
+    done new g fits.1 (kept-comp f kept id pipe kind setting ramp (leb-false 128 (length f.graph.comps) parts.0) (or_parts (is_used f.graph id) (is_complete f.graph pipe) free.0).0 (not-false (has_hole f (comp_bytes kind)) parts.1) right ramps)
 
 pub buffer_new-kept : (id pipe size : ℕ) → is_buffer_size size ≡ true → (f g : FwState) → IsKeptState f → buffer_new f id pipe size ≡ Ok g → IsKeptState g
 buffer_new-kept id pipe size right f g kept is =
@@ -146,14 +146,15 @@ pipe_free-kept id f g kept is =
 
 -- ---- SET_VALUE and GET_VALUE, SET_DATA and GET_DATA
 
--- values set nothing at an equaliser
-new-other : (kind : Kind) (old : Setting) (command : ℕ) (values : List ℕ) (setting : Setting) → new_setting kind old command values ≡ Some setting → is_equaliser kind ≡ false
-new-other Eq old command values setting is = absurd (cc is)
-new-other kind old command values setting is = refl
+-- values set nothing at an equaliser, so what they set at no volume keeps no numbers
+new-other : (kind : Kind) (old : Setting) (command : ℕ) (values : List ℕ) (setting : Setting) → new_setting kind old command values ≡ Some setting → is_volume kind ≡ false → keeps_numbers kind ≡ false
+new-other Eq old command values setting is other = absurd (cc is)
+new-other Volume old command values setting is other = absurd (true≢false other)
+new-other kind old command values setting is other = refl
 
-pub values-other : (found : Option Comp) (command : ℕ) (values : List ℕ) (setting : Setting) → option_and_then (λ (c : Comp). new_setting c.kind c.setting command values) found ≡ Some setting → option_map_or (λ (x : Comp). is_equaliser x.kind) found false ≡ false
-values-other None command values setting is = absurd (cc is)
-values-other (Some c) command values setting is = new-other c.kind c.setting command values setting is
+pub values-other : (found : Option Comp) (command : ℕ) (values : List ℕ) (setting : Setting) → option_and_then (λ (c : Comp). new_setting c.kind c.setting command values) found ≡ Some setting → option_map_or (λ (x : Comp). is_volume x.kind) found false ≡ false → option_map_or (λ (x : Comp). keeps_numbers x.kind) found false ≡ false
+values-other None command values setting is other = absurd (cc is)
+values-other (Some c) command values setting is other = new-other c.kind c.setting command values setting is other
 
 pub set_value-kept : (id command : ℕ) (values : List ℕ) (f g : FwState) → IsKeptState f → set_value f id command values ≡ Ok g → IsKeptState g
 set_value-kept id command values f g kept is =
@@ -162,9 +163,14 @@ set_value-kept id command values f g kept is =
   where
     by : (o : Option Setting) → option_and_then (λ c. new_setting c.kind c.setting command values) (comp_of f.graph id) ≡ o → value_set f id o ≡ Ok g → IsKeptState g
     by None named e = absurd (cc e)
-    by (Some setting) named e =
-        done (record f { graph = with_comps (map (with_setting id setting) f.graph.comps) f.graph }) g e
-        (kept-setting f kept id setting (values-other (comp_of f.graph id) command values setting named) (values-fit f.graph id command values setting kept.settings named))
+    by (Some setting) named e = by_kind (is_of f.graph is_volume id) refl e
+      where
+        right : (c : Comp) → comp_of f.graph id ≡ Some c → IsSettingOf c.kind setting
+        right = values-fit f.graph id command values setting kept.settings named
+
+        by_kind : (h : Bool) → is_of f.graph is_volume id ≡ h → ◌≡◌ {A = Result FwState ℤ} (Ok (cond h (seen (with_setting_at f id setting) (Some id) f) (record f { graph = (with_setting_at f id setting).graph }))) (Ok g) → IsKeptState g
+        by_kind true volume is = done (seen (with_setting_at f id setting) (Some id) f) g is (kept-marked f kept id setting right (values-many f.graph id command values setting kept.settings named))
+        by_kind false other is = done (record f { graph = (with_setting_at f id setting).graph }) g is (kept-setting f kept id setting right (values-other (comp_of f.graph id) command values setting named other))
 
 pub get_value-kept : (id command : ℕ) (f g : FwState) → IsKeptState f → get_value f id command ≡ Ok g → IsKeptState g
 get_value-kept id command f g kept is =
@@ -270,7 +276,7 @@ pub ctx_save-kept : (f g : FwState) → IsKeptState f → ◌≡◌ {A = Result 
 ctx_save-kept f g kept is = done f g is kept
 
 pub row-kept : (m : Message) → IsAllowed m → HasBytes m → (f g : FwState) → IsKeptState f → row f m ≡ Ok g → IsKeptState g
-row-kept (messages.CompNew id pipe periods_sink periods_source frame_fmt kind) allowed bytes f g kept is = comp_new-kept id pipe (kind_of kind frame_fmt) (first_setting kind) (first-fits kind frame_fmt allowed) f g kept is
+row-kept (messages.CompNew id pipe periods_sink periods_source frame_fmt kind) allowed bytes f g kept is = comp_new-kept id pipe (kind_of kind frame_fmt) (first_setting kind) (first_ramp kind) (first-fits kind frame_fmt allowed) (first-ramps kind frame_fmt) f g kept is
 row-kept (messages.CompFree id) allowed bytes f g kept is = comp_free-kept id f g kept is
 row-kept (messages.BufferNew id pipe size caps) allowed bytes f g kept is = buffer_new-kept id pipe size allowed f g kept is
 row-kept (messages.BufferFree id) allowed bytes f g kept is = buffer_free-kept id f g kept is

@@ -8,7 +8,7 @@ use Rattle.sof_base.specs.declared.format.Params.{Params}
 use Rattle.stream_law.specs.declared.graph.Graph.{Graph}
 use Rattle.stream_law.specs.declared.stream.StreamView.{StreamView}
 use Rattle.stream_law.specs.State.{View}
-use Rattle.stream_law.specs.Ways.{components, buffers, source_of, sink_of, on_way, is_live_phase, live, live_end, channels_of, touch, same_shape, agree}
+use Rattle.stream_law.specs.Ways.{components, buffers, source_of, sink_of, on_way, is_live_phase, live, live_end, rate_of, channels_of, touch, same_shape, agree}
 use Rattle.stream_law.specs.Seen.{flows}
 use Rattle.stream_law.specs.Order.{is_among}
 use Rattle.mbox_link.specs.Step.{has_kind, is_host, kind_at, is_way_ready}
@@ -78,6 +78,12 @@ module _ (g g' : Graph) (keep : StreamView → Bool) (ss : List StreamView) (pla
   unfolding channels_of
   channels-same x =
       ap (λ (o : Option StreamView). option_map_or (λ (p : Params). p.channels) (option_and_then (λ s. s.params) o) 0)
+      (find-kept keep (λ s. is_live_phase s.phase && on_way g' s.host x) (λ s. is_live_phase s.phase && on_way g s.host x) ss (live-tests x ss bare ways played.each))
+
+  pub rate-same : (x : ℕ) → rate_of new x ≡ rate_of old x
+  unfolding rate_of
+  rate-same x =
+      ap (λ (o : Option StreamView). option_map_or (λ (p : Params). p.rate) (option_and_then (λ s. s.params) o) 0)
       (find-kept keep (λ s. is_live_phase s.phase && on_way g' s.host x) (λ s. is_live_phase s.phase && on_way g s.host x) ss (live-tests x ss bare ways played.each))
 
   end-same : (o : Option ℕ) → live_end new o ≡ live_end old o

@@ -17,7 +17,7 @@ use Rattle.stream_law.specs.Ways.{comp_of, components, buffers, ins, outs, leads
 use Rattle.stream_law.specs.Joins.{fits_kind}
 use Rattle.stream_law.specs.Order.{is_among}
 use Rattle.mbox_link.specs.Step.{has_comp, has_edge, has_kind, is_host, kind_at, is_complete, is_ready_comp, is_ready_edge, is_way_ready, is_used, with_setting}
-use Rattle.row_laws.specs.Kept.{ArePieces, has_piece}
+use Rattle.row_laws.specs.Kept.{ArePieces, IsRampOf, has_piece}
 use Rattle.row_laws.specs.Wired.{IsWired, HasJoinedSides, IsSide, IsBetween, IsJoinedFrom, IsJoinedTo, is_node}
 use Rattle.row_laws.specs.Played.{IsStreamSet, IsSetBy, is_idle}
 use Rattle.row_laws.proofs.Growing.{all-by}
@@ -39,6 +39,13 @@ module _ (id : ℕ) (setting : Setting) where
   set-kind c = by (c.id == id)
     where
       by : (h : Bool) → (cond h (record c { setting = setting }) c).kind ≡ c.kind
+      by true = refl
+      by false = refl
+
+  set-ramp : (c : Comp) → (set c).ramp ≡ c.ramp
+  set-ramp c = by (c.id == id)
+    where
+      by : (h : Bool) → (cond h (record c { setting = setting }) c).ramp ≡ c.ramp
       by true = refl
       by false = refl
 
@@ -132,7 +139,7 @@ module _ (id : ℕ) (setting : Setting) where
     abbrev after : Graph
     after = record { comps = map set g.comps; edges = g.edges; pipes = g.pipes; joins = g.joins }
 
-    comp-set : (n : ℕ) → comp_of after n ≡ option_map set (comp_of g n)
+    pub comp-set : (n : ℕ) → comp_of after n ≡ option_map set (comp_of g n)
     comp-set n = find-set n g.comps
 
     pub has-set : (n : ℕ) → has_comp after n ≡ has_comp g n
@@ -222,6 +229,9 @@ module _ (id : ℕ) (setting : Setting) where
       sides = all-by (λ e. IsSide g e.source × IsSide g e.sink) (λ e. IsSide after e.source × IsSide after e.sink) (λ e is. (side-set e.source is.0, side-set e.sink is.1)) g.edges wired.sides;
       periods = wired.periods;
     }
+
+    pub ramps-set : AllByRecursion (λ c. IsRampOf c.kind c.ramp) g.comps → AllByRecursion (λ c. IsRampOf c.kind c.ramp) (map set g.comps)
+    ramps-set ramps = all-set (λ c. IsRampOf c.kind c.ramp) g.comps (all-by (λ c. IsRampOf c.kind c.ramp) (λ c. IsRampOf (set c).kind (set c).ramp) (λ c is. subst (λ (p : Kind × ℕ). IsRampOf p.0 p.1) (λ i. (sym (set-kind c) i, sym (set-ramp c) i)) is) g.comps ramps)
 
     pub pieces-set : (heap : HeapView) → length (map set g.comps) ≡ length g.comps → ArePieces g heap → ArePieces after heap
     pieces-set heap long are = record {

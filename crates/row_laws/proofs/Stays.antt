@@ -10,7 +10,7 @@ use Rattle.stream_law.specs.declared.stream.Phase.{Phase}
 use Rattle.stream_law.specs.declared.stream.Phase.TheVariants.{Idle, Prepared, Running, Paused}
 use Rattle.stream_law.specs.declared.stream.StreamView.{StreamView}
 use Rattle.stream_law.specs.State.{View}
-use Rattle.stream_law.specs.Ways.{components, buffers, on_way, live, channels_of, is_live_phase, touch, same_shape, agree}
+use Rattle.stream_law.specs.Ways.{components, buffers, on_way, live, rate_of, channels_of, is_live_phase, touch, same_shape, agree}
 use Rattle.stream_law.specs.Order.{is_among}
 use Rattle.row_laws.specs.Played.{IsStreamSet, IsSetBy, AreStreamsPlayable, KeepsLive, is_idle}
 
@@ -81,7 +81,7 @@ given g s awake is_set = by s.params is_set
     by None e = absurd (true≢false (sym e ∙ awake))
     by (Some p) e = (p, refl, e.1)
 
--- a Live stream on whose way x is, its parameters, and the channels there
+-- a Live stream on whose way x is, its parameters, and the channels and the rate there
 pub record IsHeard (v : View) (x : ℕ) : Type 0 where
   pub stream : StreamView
   pub params : Params
@@ -91,9 +91,10 @@ pub record IsHeard (v : View) (x : ℕ) : Type 0 where
   pub has : stream.params ≡ Some params
   pub bounds : (1 ≤ params.channels) × (params.channels ≤ 8)
   pub channels : channels_of v x ≡ params.channels
+  pub rate : rate_of v x ≡ params.rate
 
 pub heard : (v : View) (x : ℕ) → AreStreamsPlayable v → live v x ≡ true → IsHeard v x
-unfolding live channels_of
+unfolding live rate_of channels_of
 heard v x played now =
     let found = find-any (λ s. is_live_phase s.phase && on_way v.graph s.host x) v.streams now in
     let s : StreamView = found.0 in
@@ -109,6 +110,7 @@ heard v x played now =
       has = p.1;
       bounds = p.2;
       channels = ap (λ (o : Option StreamView). option_map_or (λ (p : Params). p.channels) (option_and_then (λ s. s.params) o) 0) found.1 ∙ ap (λ (o : Option Params). option_map_or (λ p. p.channels) o 0) p.1;
+      rate = ap (λ (o : Option StreamView). option_map_or (λ (p : Params). p.rate) (option_and_then (λ s. s.params) o) 0) found.1 ∙ ap (λ (o : Option Params). option_map_or (λ p. p.rate) o 0) p.1;
     }
 
 -- no more than 8 channels are anywhere
@@ -124,17 +126,21 @@ channels-most v x played = by (find (λ s. is_live_phase s.phase && on_way v.gra
     by None e = omega arith
     by (Some s) e = most s.params s refl (all-of (IsStreamSet v.graph) v.streams s played.each (find-some (λ s. is_live_phase s.phase && on_way v.graph s.host x) v.streams s e).1)
 
--- streams of one shape have one number of channels
-pub one-shape : (p q : Params) (a b : Option Params) → a ≡ Some p → b ≡ Some q → same_shape a b ≡ true → p.channels ≡ q.channels
-one-shape p q a b is_a is_b same =
+-- streams of one shape have one rate and one number of channels
+shape-parts : (p q : Params) (a b : Option Params) → a ≡ Some p → b ≡ Some q → same_shape a b ≡ true → (p.rate ≡ q.rate) × (p.channels ≡ q.channels)
+shape-parts p q a b is_a is_b same =
     let both : (p.rate == q.rate && p.channels == q.channels) ≡ true = sym (ap (λ (o : Option Params × Option Params). same_shape o.0 o.1) (λ i. (is_a i, is_b i))) ∙ same in
-    eqb-true p.channels q.channels (and_parts (p.rate == q.rate) (p.channels == q.channels) both).1
+    let parts = and_parts (p.rate == q.rate) (p.channels == q.channels) both in
+    (eqb-true p.rate q.rate parts.0, eqb-true p.channels q.channels parts.1)
 
--- Where streams change and each that is Live keeps its parameters, what is Live before and after has the same channels.
-pub channels-stay : (g : Graph) (streams : List StreamView) (to : StreamView → StreamView) → KeepsLive to streams → AreStreamsPlayable (record { graph = g; streams = streams }) → AreStreamsPlayable (record { graph = g; streams = map to streams })
+pub one-shape : (p q : Params) (a b : Option Params) → a ≡ Some p → b ≡ Some q → same_shape a b ≡ true → p.channels ≡ q.channels
+one-shape p q a b is_a is_b same = (shape-parts p q a b is_a is_b same).1
+
+-- Where streams change and each that is Live keeps its parameters, what is Live before and after has the same rate and the same channels.
+pub shape-stays : (g : Graph) (streams : List StreamView) (to : StreamView → StreamView) → KeepsLive to streams → AreStreamsPlayable (record { graph = g; streams = streams }) → AreStreamsPlayable (record { graph = g; streams = map to streams })
     → (x : ℕ) → is_among (components g ++ buffers g) x ≡ true → live (record { graph = g; streams = streams }) x ≡ true → live (record { graph = g; streams = map to streams }) x ≡ true
-    → channels_of (record { graph = g; streams = map to streams }) x ≡ channels_of (record { graph = g; streams = streams }) x
-channels-stay g streams to keeps was played x there before after =
+    → (rate_of (record { graph = g; streams = map to streams }) x ≡ rate_of (record { graph = g; streams = streams }) x) × (channels_of (record { graph = g; streams = map to streams }) x ≡ channels_of (record { graph = g; streams = streams }) x)
+shape-stays g streams to keeps was played x there before after =
     let old : View = record { graph = g; streams = streams } in
     let new : View = record { graph = g; streams = map to streams } in
     let a = heard old x was before in
@@ -144,4 +150,10 @@ channels-stay g streams to keeps was played x there before after =
     list_any-at (λ y. on_way g (to a.stream).host y && on_way g b.stream.host y) (components g ++ buffers g) x there
     (and_from (on_way g (to a.stream).host x) (on_way g b.stream.host x) (ap (λ host. on_way g host x) stay.0 ∙ a.way) b.way) in
     let shape = touching new played.agreed (to a.stream) b.stream (IsOf-map to a.stream streams a.among) b.among touches in
-    b.channels ∙ sym (one-shape a.params b.params (to a.stream).params b.stream.params (stay.1 a.phase ∙ a.has) b.has shape) ∙ sym a.channels
+    let same = shape-parts a.params b.params (to a.stream).params b.stream.params (stay.1 a.phase ∙ a.has) b.has shape in
+    (b.rate ∙ sym same.0 ∙ sym a.rate, b.channels ∙ sym same.1 ∙ sym a.channels)
+
+pub channels-stay : (g : Graph) (streams : List StreamView) (to : StreamView → StreamView) → KeepsLive to streams → AreStreamsPlayable (record { graph = g; streams = streams }) → AreStreamsPlayable (record { graph = g; streams = map to streams })
+    → (x : ℕ) → is_among (components g ++ buffers g) x ≡ true → live (record { graph = g; streams = streams }) x ≡ true → live (record { graph = g; streams = map to streams }) x ≡ true
+    → channels_of (record { graph = g; streams = map to streams }) x ≡ channels_of (record { graph = g; streams = streams }) x
+channels-stay g streams to keeps was played x there before after = (shape-stays g streams to keeps was played x there before after).1

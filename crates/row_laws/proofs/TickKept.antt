@@ -1,6 +1,6 @@
 -- A tick keeps what every state keeps.
-use Rattle.std.proofs.Common.{◌≡◌, refl, sym, ap, ◌∙◌, ℕ, zero, suc, ◌+◌, ◌*◌, List, [], ◌∷◌, ◌++◌, length, map, drop, take, replicate, Option, Some, None, Bool, true, false, cond, inl, inr, ◌⊎◌, ◌==◌, ◌&&◌, ◌||◌, ℤ, pos, arith, length-append}
-use Rattle.std.proofs.lemmas.Bool.{true≢false, false≢true, and_parts, eqb-true, eq-eqb, or_left, or_right}
+use Rattle.std.proofs.Common.{◌≡◌, refl, sym, ap, ◌∙◌, subst, ℕ, zero, suc, ◌+◌, ◌*◌, ◌≤◌, List, [], ◌∷◌, ◌++◌, length, map, drop, take, replicate, Option, Some, None, Bool, true, false, cond, inl, inr, ◌⊎◌, ◌==◌, ◌&&◌, ◌||◌, ℤ, pos, arith, length-append}
+use Rattle.std.proofs.lemmas.Bool.{true≢false, false≢true, and_parts, eqb-true, eq-eqb, or_left, or_right, cond-true, cond-false}
 use Rattle.std.proofs.lemmas.List.{length-replicate}
 use Rattle.std.proofs.Math.Seq.{drop-nil}
 use Rattle.std.specs.Prelude.{find, slice_get}
@@ -15,22 +15,25 @@ use Rattle.stream_law.specs.declared.graph.Setting.{Setting}
 use Rattle.stream_law.specs.declared.graph.Comp.{Comp}
 use Rattle.stream_law.specs.State.{FwState, View, RingView, History, view_of}
 use Rattle.stream_law.specs.Table.{table, list_of, updated}
-use Rattle.stream_law.specs.Ways.{comp_of, source_of, sink_of, outs, is_end, live, live_end, active_end, channels_of, inputs}
+use Rattle.stream_law.specs.Ways.{comp_of, is_of, source_of, sink_of, outs, is_end, live, live_end, active_end, channels_of, inputs}
 use Rattle.stream_law.specs.Moves.{fed, fed_by}
 use Rattle.stream_law.specs.Order.{is_among, order}
-use Rattle.stream_law.specs.Made.{frames_made, frames_by, only_slice, chosen_slice}
+use Rattle.stream_law.specs.Made.{Passing, gains, frames_made, frames_by, only_slice, chosen_slice}
 use Rattle.stream_law.specs.Endpoints.{format_of}
 use Rattle.stream_law.specs.Equaliser.{sections_of, passed_sections, passed_channels, passed_frames, numbers_after, next_inner, number_at}
-use Rattle.stream_law.specs.Move.{Audio, after_move, after_moves, frames_moved, looked_now, fronts, made_now, audio_of, audio_after, next_clock}
-use Rattle.stream_law.specs.Seen.{flows, ring_seen, blob_in, fresh_from, fresh_numbers}
+use Rattle.stream_law.specs.Ramps.{ramped_frames, ramp_place, ramp_numbers, numbers_from, numbers_place, ramped_on}
+use Rattle.stream_law.specs.Move.{Audio, after_move, after_moves, frames_moved, looked_now, fronts, made_now, numbers_moved, audio_of, audio_after, next_clock}
+use Rattle.stream_law.specs.Seen.{is_volume, flows, ring_seen, blob_in, gains_in, ramp_length, fresh_from, fresh_numbers}
 use Rattle.stream_law.proofs.Among.{is_among-filter}
 use Rattle.stream_law.proofs.Keyed.{keys-remade}
 use Rattle.stream_law.proofs.Silent.{active-live, frames_to_move-idle}
 use Rattle.stream_law.proofs.Tables.{value_of-updated_cases}
 use Rattle.mbox_link.specs.Exchange.{ticked}
-use Rattle.row_laws.specs.Kept.{IsKeptState, numbers_held}
+use Rattle.row_laws.specs.Kept.{IsKeptState, AreRampNumbers, numbers_held}
 use Rattle.stream_law.proofs.Members.{IsIn, in-each}
+use Rattle.stream_law.proofs.Ramping.{from-numbers, place-numbers}
 use Rattle.row_laws.proofs.RingViews.{seen-each, seen-all}
+use Rattle.row_laws.proofs.SeenKept.{AreLow, AreWithin, AreHeld, all-held, length-numbers, length-from}
 
 -- ---- how many numbers an equaliser has after frames
 
@@ -54,6 +57,30 @@ length-after : (blob : List ℕ) (channels : ℕ) (numbers : List ℤ) (frames :
 length-after blob channels numbers [] same = same
 length-after blob channels numbers (f ∷ fs) same = length-after blob channels (passed_channels blob 0 channels numbers f).numbers fs (length-channels blob 0 channels numbers f)
 
+-- ---- a volume's numbers after frames
+
+length-on : (over : ℕ) (numbers : List ℤ) (n : ℕ) → 1 ≤ length numbers → length (ramped_on over numbers n) ≡ length numbers
+length-on over numbers zero some = refl
+length-on over numbers (suc n) some = length-numbers (numbers_from numbers) over (numbers_place numbers + suc n) ∙ (let e : length (numbers_from numbers) + 1 ≡ length numbers = omega (arith, some, length-from numbers) in e)
+
+within-on : (over : ℕ) (numbers : List ℤ) (n : ℕ) → AreWithin over numbers → AreWithin over (ramped_on over numbers n)
+within-on over numbers zero was = was
+within-on over numbers (suc n) was =
+    let place : numbers_place (ramp_numbers (numbers_from numbers) over (numbers_place numbers + suc n)) ≡ ramp_place over (numbers_place numbers + suc n) = place-numbers (numbers_from numbers) over (numbers_place numbers + suc n) in
+    (subst AreLow (sym (from-numbers (numbers_from numbers) over (numbers_place numbers + suc n))) was.0, omega (arith, place))
+
+-- so either keeps what its numbers are
+held-moved : (v : View) (x : ℕ) (numbers : List ℤ) (frames : List Frame) → AreHeld v x numbers → AreHeld v x (cond (is_of v.graph is_volume x) (ramped_on (ramp_length v x) numbers (length frames)) (numbers_after (blob_in v x) (channels_of v x) numbers frames))
+held-moved v x numbers frames was = by (is_of v.graph is_volume x) refl
+  where
+    by : (t : Bool) → is_of v.graph is_volume x ≡ t → AreHeld v x (cond t (ramped_on (ramp_length v x) numbers (length frames)) (numbers_after (blob_in v x) (channels_of v x) numbers frames))
+    by true volume =
+        let count : length numbers ≡ length (gains_in v x) + 1 = was.0 ∙ cond-true (is_of v.graph is_volume x) (length (gains_in v x) + 1) (length (fresh_numbers (blob_in v x) (channels_of v x))) volume in
+        (length-on (ramp_length v x) numbers (length frames) (omega (arith, count)) ∙ was.0, λ is. within-on (ramp_length v x) numbers (length frames) (was.1 is))
+    by false other =
+        let plain : numbers_held v x ≡ length (fresh_numbers (blob_in v x) (channels_of v x)) = cond-false (is_of v.graph is_volume x) (length (gains_in v x) + 1) (length (fresh_numbers (blob_in v x) (channels_of v x))) other in
+        (length-after (blob_in v x) (channels_of v x) numbers frames (was.0 ∙ plain) ∙ sym plain, λ is. absurd (true≢false (sym is ∙ other)))
+
 -- ---- nothing is made of no frames
 
 none-taken : (ids : List ℕ) (rings : List (ℕ × List Frame)) → only_slice (table ids (λ b. take 0 (list_of rings b))) ≡ []
@@ -69,14 +96,17 @@ none-chosen (i ∷ ids) rings b = by (i == b) (none-chosen ids rings b)
     by false rest = rest
 
 module _ (v : View) (t c : ℕ) (a : Audio) where
-  abbrev equalise : List ℕ → ℕ → List Frame → List Frame
+  abbrev equalise : Passing
   equalise blob channels frames = passed_frames blob channels (list_of a.numbers c) frames
+
+  abbrev amplify : Passing
+  amplify = ramped_frames (numbers_from (list_of a.numbers c)) (ramp_length v c) (numbers_place (list_of a.numbers c))
 
   abbrev slices : ℕ → List (ℕ × List Frame)
   slices n = table (looked_now v (blob_in v) t c a) (λ b. take n (list_of a.rings b))
 
-  none-by : (kind : Kind) (setting : Setting) → frames_by kind setting v c 0 [] (slices 0) equalise ≡ []
-  none-by Volume setting = ap (map _) (none-taken (looked_now v (blob_in v) t c a) a.rings)
+  none-by : (kind : Kind) (setting : Setting) → frames_by kind setting v c 0 [] (slices 0) equalise amplify ≡ []
+  none-by Volume setting = ap (amplify (gains setting) (channels_of v c)) (none-taken (looked_now v (blob_in v) t c a) a.rings)
   none-by Mux setting = by (slice_get (inputs v.graph c) _)
     where
       by : (o : Option ℕ) → chosen_slice (slices 0) (channels_of v c) 0 o ≡ []
@@ -88,9 +118,9 @@ module _ (v : View) (t c : ℕ) (a : Audio) where
   made-none : frames_moved v (blob_in v) t c a ≡ 0 → made_now v (blob_in v) t c a ≡ []
   unfolding frames_made
   made-none none =
-      ap (λ n. frames_made v c n (frames_in (format_of v c) (channels_of v c) (list_of a.left c) 0 n) (slices n) equalise) none ∙ by (comp_of v.graph c)
+      ap (λ n. frames_made v c n (frames_in (format_of v c) (channels_of v c) (list_of a.left c) 0 n) (slices n) equalise amplify) none ∙ by (comp_of v.graph c)
     where
-      by : (o : Option Comp) → option_map_or (λ x. frames_by x.kind x.setting v c 0 [] (slices 0) equalise) o [] ≡ []
+      by : (o : Option Comp) → option_map_or (λ x. frames_by x.kind x.setting v c 0 [] (slices 0) equalise amplify) o [] ≡ []
       by None = refl
       by (Some x) = none-by x.kind x.setting
 
@@ -150,19 +180,19 @@ module _ (v : View) (t : ℕ) where
   empty-all [] a was = was
   empty-all (c ∷ cs) a was = empty-all cs (after_move v (blob_in v) t c a) (empty-one c a was)
 
-  -- ---- and an equaliser keeps as many numbers
+  -- ---- and equalisers and volumes keep what their numbers are
 
-  held-one : (x c : ℕ) (a : Audio) → length (list_of a.numbers x) ≡ numbers_held v x → length (list_of (after_move v (blob_in v) t c a).numbers x) ≡ numbers_held v x
+  held-one : (x c : ℕ) (a : Audio) → AreHeld v x (list_of a.numbers x) → AreHeld v x (list_of (after_move v (blob_in v) t c a).numbers x)
   held-one x c a was = by (value_of-updated_cases [] (c ∷ []) after a.numbers x)
     where
       after : ℕ → List ℤ
-      after c' = numbers_after (blob_in v c') (channels_of v c') (list_of a.numbers c') (only_slice (fronts v (blob_in v) t c a))
+      after = numbers_moved v (blob_in v) t c a
 
-      by : ((is_among (c ∷ []) x ≡ true) × (list_of (after_move v (blob_in v) t c a).numbers x ≡ after x)) ⊎ ((is_among (c ∷ []) x ≡ false) × (list_of (after_move v (blob_in v) t c a).numbers x ≡ list_of a.numbers x)) → length (list_of (after_move v (blob_in v) t c a).numbers x) ≡ numbers_held v x
-      by (inl p) = ap (λ (ns : List ℤ). length ns) p.1 ∙ length-after (blob_in v x) (channels_of v x) (list_of a.numbers x) (only_slice (fronts v (blob_in v) t c a)) was
-      by (inr p) = ap (λ (ns : List ℤ). length ns) p.1 ∙ was
+      by : ((is_among (c ∷ []) x ≡ true) × (list_of (after_move v (blob_in v) t c a).numbers x ≡ after x)) ⊎ ((is_among (c ∷ []) x ≡ false) × (list_of (after_move v (blob_in v) t c a).numbers x ≡ list_of a.numbers x)) → AreHeld v x (list_of (after_move v (blob_in v) t c a).numbers x)
+      by (inl p) = subst (AreHeld v x) (sym p.1) (held-moved v x (list_of a.numbers x) (only_slice (fronts v (blob_in v) t c a)) was)
+      by (inr p) = subst (AreHeld v x) (sym p.1) was
 
-  held-all : (x : ℕ) (cs : List ℕ) (a : Audio) → length (list_of a.numbers x) ≡ numbers_held v x → length (list_of (after_moves v (blob_in v) t cs a).numbers x) ≡ numbers_held v x
+  held-all : (x : ℕ) (cs : List ℕ) (a : Audio) → AreHeld v x (list_of a.numbers x) → AreHeld v x (list_of (after_moves v (blob_in v) t cs a).numbers x)
   held-all x [] a was = was
   held-all x (c ∷ cs) a was = held-all x cs (after_move v (blob_in v) t c a) (held-one x c a was)
 
@@ -177,12 +207,12 @@ empty-first v (r ∷ rs) all b dead = by (r.buffer == b) refl (empty-first v rs 
     by true e rest = sym (ap (λ (x : RingView). x.frames) all.0) ∙ ap (λ h. cond h r.frames []) (ap (flows v) (eqb-true r.buffer b e) ∙ dead)
     by false e rest = rest
 
-held-first : (v : View) (hs : List History) → AllByRecursion (λ h. length h.numbers ≡ numbers_held v h.comp) hs → (x : ℕ) → is_among (map (λ (h : History). h.comp) hs) x ≡ true → length (list_of (map (λ (h : History). (h.comp, h.numbers)) hs) x) ≡ numbers_held v x
+held-first : (v : View) (hs : List History) → AllByRecursion (λ h. AreHeld v h.comp h.numbers) hs → (x : ℕ) → is_among (map (λ (h : History). h.comp) hs) x ≡ true → AreHeld v x (list_of (map (λ (h : History). (h.comp, h.numbers)) hs) x)
 held-first v [] all x there = absurd (false≢true there)
 held-first v (h ∷ hs) all x there = by (h.comp == x) refl there (held-first v hs all.1 x)
   where
-    by : (t : Bool) → (h.comp == x) ≡ t → (t || is_among (map (λ (h : History). h.comp) hs) x) ≡ true → (is_among (map (λ (h : History). h.comp) hs) x ≡ true → length (list_of (map (λ (h : History). (h.comp, h.numbers)) hs) x) ≡ numbers_held v x) → length (cond t h.numbers (list_of (map (λ (h : History). (h.comp, h.numbers)) hs) x)) ≡ numbers_held v x
-    by true e is rest = all.0 ∙ ap (numbers_held v) (eqb-true h.comp x e)
+    by : (t : Bool) → (h.comp == x) ≡ t → (t || is_among (map (λ (h : History). h.comp) hs) x) ≡ true → (is_among (map (λ (h : History). h.comp) hs) x ≡ true → AreHeld v x (list_of (map (λ (h : History). (h.comp, h.numbers)) hs) x)) → AreHeld v x (cond t h.numbers (list_of (map (λ (h : History). (h.comp, h.numbers)) hs) x))
+    by true e is rest = subst (λ n. AreHeld v n h.numbers) (eqb-true h.comp x e) all.0
     by false e is rest = rest is
 
 -- a member's key is among the keys
@@ -200,9 +230,9 @@ rings-after v a empty (r ∷ rs) = (ap (λ (frames : List Frame). record { buffe
     by true e = refl
     by false e = sym (empty r.buffer e)
 
-numbers-anew : (v : View) (a : Audio) (hs : List History) → AllByRecursion (λ (h : History). length (list_of a.numbers h.comp) ≡ numbers_held v h.comp) hs → AllByRecursion (λ (h : History). length h.numbers ≡ numbers_held v h.comp) (map (λ (h : History). record { comp = h.comp; numbers = list_of a.numbers h.comp }) hs)
-numbers-anew v a [] all = tt
-numbers-anew v a (h ∷ hs) all = (all.0, numbers-anew v a hs all.1)
+numbers-anew : (P : History → Type 0) (a : Audio) (hs : List History) → AllByRecursion (λ (h : History). P (record { comp = h.comp; numbers = list_of a.numbers h.comp })) hs → AllByRecursion P (map (λ (h : History). record { comp = h.comp; numbers = list_of a.numbers h.comp }) hs)
+numbers-anew P a [] all = tt
+numbers-anew P a (h ∷ hs) all = (all.0, numbers-anew P a hs all.1)
 
 pub tick-kept : (f : FwState) (io : Io) → IsKeptState f → IsKeptState (ticked (f, io)).0
 tick-kept f io kept = record {
@@ -215,6 +245,7 @@ tick-kept f io kept = record {
   indices = kept.indices;
   sizes = kept.sizes;
   settings = kept.settings;
+  ramps = kept.ramps;
   pieces = kept.pieces;
   tiled = kept.tiled;
   wired = kept.wired;
@@ -224,7 +255,8 @@ tick-kept f io kept = record {
   seen = seen-all (view_of f) _ (rings-after (view_of f) after empty f.rings);
   histories = record {
     comps = keys-remade (λ (h : History). h.comp) (λ h. record { comp = h.comp; numbers = list_of after.numbers h.comp }) (λ h. refl) f.histories ∙ kept.histories.comps;
-    numbers = numbers-anew (view_of f) after f.histories (in-each (λ h. length (list_of after.numbers h.comp) ≡ numbers_held (view_of f) h.comp) f.histories held);
+    numbers = numbers-anew (λ h. length h.numbers ≡ numbers_held (view_of f) h.comp) after f.histories (in-each (λ h. length (list_of after.numbers h.comp) ≡ numbers_held (view_of f) h.comp) f.histories (λ h there. (held h there).0));
+    ramps = numbers-anew (AreRampNumbers (view_of f)) after f.histories (in-each (λ h. AreRampNumbers (view_of f) (record { comp = h.comp; numbers = list_of after.numbers h.comp })) f.histories (λ h there. (held h there).1));
   };
   staging = kept.staging;
 }
@@ -235,5 +267,5 @@ tick-kept f io kept = record {
     empty : AreEmpty (view_of f) after
     empty = empty-all (view_of f) (next_clock f.clock) (order f.graph) (audio_of f io) (empty-first (view_of f) f.rings (seen-each (view_of f) f.rings kept.seen))
 
-    held : (h : History) → IsIn h f.histories → length (list_of after.numbers h.comp) ≡ numbers_held (view_of f) h.comp
-    held h there = held-all (view_of f) (next_clock f.clock) h.comp (order f.graph) (audio_of f io) (held-first (view_of f) f.histories kept.histories.numbers h.comp (in-key (λ (h : History). h.comp) f.histories h there))
+    held : (h : History) → IsIn h f.histories → AreHeld (view_of f) h.comp (list_of after.numbers h.comp)
+    held h there = held-all (view_of f) (next_clock f.clock) h.comp (order f.graph) (audio_of f io) (held-first (view_of f) f.histories (all-held f kept) h.comp (in-key (λ (h : History). h.comp) f.histories h there))

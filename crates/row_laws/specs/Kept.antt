@@ -1,5 +1,5 @@
 -- What is so of every state of a device that is on.
-use Rattle.std.specs.Prelude.{◌≡◌, ◌⊎◌, ℕ, ◌+◌, ◌*◌, ◌<◌, ◌≤◌, List, [], map, length, filter, Bool, true, ◌==◌, slice_index}
+use Rattle.std.specs.Prelude.{◌≡◌, ◌⊎◌, ℕ, ◌+◌, ◌*◌, ◌<◌, ◌≤◌, List, [], map, length, filter, max, Bool, true, if◌then◌else◌, ◌==◌, slice_index}
 use Rattle.std.specs.List.{list_any, AllByRecursion}
 use Rattle.sof_base.specs.BlobParts.{IsBlob}
 use Rattle.stream_law.specs.declared.graph.Kind.{Kind}
@@ -9,8 +9,9 @@ use Rattle.stream_law.specs.declared.graph.Setting.TheVariants.{Nothing, Gains, 
 use Rattle.stream_law.specs.declared.graph.Graph.{Graph}
 use Rattle.stream_law.specs.Placed.{Ascends, HasDistinct}
 use Rattle.stream_law.specs.State.{FwState, HeapView, View, History, Staging, view_of}
-use Rattle.stream_law.specs.Ways.{components, channels_of}
-use Rattle.stream_law.specs.Seen.{ring_seen, is_equaliser, equalises, blob_in, fresh_numbers}
+use Rattle.stream_law.specs.Ways.{components, is_of, channels_of}
+use Rattle.stream_law.specs.Ramps.{numbers_from, numbers_place}
+use Rattle.stream_law.specs.Seen.{ring_seen, is_equaliser, is_volume, remembers, blob_in, gains_in, ramp_length, fresh_numbers}
 use Rattle.ipc3_model.specs.Allowed.{is_buffer_size}
 use Rattle.mbox_link.specs.Step.{has_kind, kind_at, is_used}
 use Rattle.row_laws.specs.Tiled.{IsTiled, heap_bytes}
@@ -45,17 +46,29 @@ IsSettingOf Eq setting = ⊥
 IsSettingOf kind Nothing = Unit {0}
 IsSettingOf kind setting = ⊥
 
--- ---- equalisers
+-- a volume's ramp has at most 10000 milliseconds, and no other kind has one
+abbrev pub IsRampOf : Kind → ℕ → Type 0
+IsRampOf Volume n = n ≤ 10000
+IsRampOf kind n = n ≡ 0
 
--- how many numbers an equaliser has: two for each section in series of each channel, as at the beginning of an epoch
+-- ---- equalisers and volumes
+
+-- how many numbers an equaliser has: two for each section in series of each channel, as at the beginning of an epoch; and how many a
+-- volume has: one for each gain, and its place in the ramp
 abbrev pub numbers_held : View → ℕ → ℕ
-numbers_held v c = length (fresh_numbers (blob_in v c) (channels_of v c))
+numbers_held v c = if is_of v.graph is_volume c then length (gains_in v c) + 1 else length (fresh_numbers (blob_in v c) (channels_of v c))
 
--- What is so of the histories of a view: each Live equaliser has one, in the order of components, with as many numbers as its
--- sections ask for.
+-- a volume's numbers: gains of at most 16777216, and a place that is not past the end of the ramp
+abbrev pub AreRampNumbers : View → History → Type 0
+AreRampNumbers v h = is_of v.graph is_volume h.comp ≡ true →
+    AllByRecursion (λ n. n ≤ 16777216) (numbers_from h.numbers) × (numbers_place h.numbers ≤ max (ramp_length v h.comp) 1)
+
+-- What is so of the histories of a view: each Live equaliser and volume has one, in the order of components, with as many numbers as
+-- its sections or gains ask for.
 pub record AreHistories (v : View) (histories : List History) : Type 0 where
-  pub comps : map (λ h. h.comp) histories ≡ filter (equalises v) (components v.graph)
+  pub comps : map (λ h. h.comp) histories ≡ filter (remembers v) (components v.graph)
   pub numbers : AllByRecursion (λ h. length h.numbers ≡ numbers_held v h.comp) histories
+  pub ramps : AllByRecursion (AreRampNumbers v) histories
 
 -- What is so of the parts that are staged: they are an equaliser's. Those that came have 260 bytes each, behind the 32 of their
 -- common header. More are to come, up to 992 bytes in all.
@@ -80,8 +93,8 @@ pub record AreAscending (f : FwState) : Type 0 where
 
 -- What is so of every state: its lists are within their limits and ascend, each join is at a side of its own, each stream has a
 -- component. Pieces and holes share the heap. Graph, settings and streams are as they should be, and no two pipelines have one
--- index. Each edge has a ring, and a ring in which no frame may lie is empty. Each Live equaliser has its numbers, and what is
--- staged is within the rules of parts.
+-- index. Each edge has a ring, and a ring in which no frame may lie is empty. Each Live equaliser and volume has its numbers, and
+-- what is staged is within the rules of parts.
 pub record IsKeptState (f : FwState) : Type 0 where
   pub comps : length f.graph.comps ≤ 128
   pub edges : length f.graph.edges ≤ 128
@@ -92,6 +105,7 @@ pub record IsKeptState (f : FwState) : Type 0 where
   pub indices : HasDistinct (λ p. p.index) f.graph.pipes
   pub sizes : AllByRecursion (λ e. is_buffer_size e.size ≡ true) f.graph.edges
   pub settings : AllByRecursion (λ c. IsSettingOf c.kind c.setting) f.graph.comps
+  pub ramps : AllByRecursion (λ c. IsRampOf c.kind c.ramp) f.graph.comps
   pub pieces : ArePieces f.graph f.heap
   pub tiled : IsTiled (heap_bytes f.heap) f.heap
   pub wired : IsWired f.graph

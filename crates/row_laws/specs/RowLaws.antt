@@ -14,7 +14,7 @@ use Rattle.ipc3_model.specs.Allowed.{is_buffer_size, is_period_allowed, is_chann
 use Rattle.ipc3_model.specs.Messages.{IsAllowed}
 use Rattle.mbox_link.specs.Step.{comp_new, comp_free, buffer_new, buffer_free, pipe_new, pipe_free, connect, pipe_complete, set_value, get_value, set_data, get_data, pcm_params, pcm_free, trigger, is_prepared, is_paused, row, step, fresh}
 use Rattle.mbox_link.specs.Exchange.{ticked}
-use Rattle.row_laws.specs.Kept.{IsKeptState, IsSettingOf}
+use Rattle.row_laws.specs.Kept.{IsKeptState, IsSettingOf, IsRampOf}
 
 -- A row that is done keeps what every state keeps. Where it is refused, the state stays as it was.
 abbrev pub RowIsKept : (FwState → Result FwState ℤ) → Type 0
@@ -23,7 +23,8 @@ RowIsKept row = (f g : FwState) → IsKeptState f → row f ≡ Ok g → IsKeptS
 -- ---- one row each
 
 abbrev pub CompNewKeeps : Type 0
-CompNewKeeps = (id pipe : ℕ) (kind : Kind) (setting : Setting) → IsSettingOf kind setting → RowIsKept (λ f. comp_new f id pipe kind setting)
+CompNewKeeps = (id pipe : ℕ) (kind : Kind) (setting : Setting) (ramp : ℕ) → IsSettingOf kind setting → IsRampOf kind ramp →
+    RowIsKept (λ f. comp_new f id pipe kind setting ramp)
 
 abbrev pub CompFreeKeeps : Type 0
 CompFreeKeeps = (id : ℕ) → RowIsKept (λ f. comp_free f id)

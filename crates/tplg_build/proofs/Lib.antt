@@ -4,3 +4,4 @@ pub mod OfProgram
 pub mod RecordSizes
 pub mod ArraySizes
 pub mod Padded
+pub mod SmallLaws

@@ -1,3 +1,4 @@
 pub mod WidgetForm
 pub mod PcmForm
 pub mod TopologyForm
+pub mod SmallSource

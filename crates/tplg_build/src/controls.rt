@@ -1,9 +1,10 @@
 // The controls of a widget.
-ghost use Rattle.std.specs.Prelude.{◌≡◌, ◌≤◌, ◌*◌, length, map, IfOk};
-ghost use Rattle.std.specs.List.{flat_map};
+ghost use Rattle.std.specs.Prelude.{◌≡◌, ◌≤◌, ◌*◌, true, length, map, IfOk};
+ghost use Rattle.std.specs.List.{flat_map, list_all};
 ghost use Rattle.std.specs.Int.{w32, cast_unsigned};
 ghost use Rattle.tplg_model.specs.Arrays.{Each};
 ghost use Rattle.tplg_model.specs.Spelling.{IsControl, items_cells, control_cells};
+ghost use Rattle.tplg_build.specs.SmallSource.{is_small_control};
 ghost use Rattle.tplg_build.specs.WidgetForm as form;
 
 use crate::choices::Choices;
@@ -19,11 +20,6 @@ const CHANNELS: [u32; 32] = [
     16, 0, 0, 0, 16, 0, 0, 0, 16, 0, 0, 0, 16, 0, 0, 0, 16, 0, 0, 0, 16, 0, 0, 0, 16, 0, 0, 0, 16,
     0, 0, 0,
 ];
-
-/// The most bytes of a blob, and the most controls of a widget, so that its size fits its word.
-const MOST_BYTES: usize = 4_000_000;
-
-const MOST_CONTROLS: usize = 1000;
 
 // A head without a scale.
 fn plain_head(type_word: u32, name: Name44) -> ControlHead
@@ -95,15 +91,13 @@ fn choice(alloc: Global, name: &Name44, items: &Choices) -> Result<Control, NoMe
     })
 }
 
-// A bytes control with this blob, which is at most 4 million bytes.
+// A bytes control with this blob.
 fn data(alloc: Global, name: &Name44, max: u32, blob: &[u8]) -> Result<Control, NoMemory>
+    requires { length blob.now ≤ 4000000 }
     ensures value { IfOk result (λ x. x ≡ form.control_record (SourceControl.Blob name.now max blob.now)) }
     ensures is { IfOk result IsControl }
     ensures short { IfOk result (λ x. length (control_cells x) ≤ 4001764) }
 {
-    if blob.len() > MOST_BYTES {
-        return Err(NoMemory);
-    }
     Ok(Control::Bytes {
         head: plain_head(2, copied(name)),
         max,
@@ -117,6 +111,7 @@ fn data(alloc: Global, name: &Name44, max: u32, blob: &[u8]) -> Result<Control, 
 
 // The control that a source states.
 fn control(alloc: Global, control: &SourceControl) -> Result<Control, NoMemory>
+    requires { is_small_control control.now ≡ true }
     ensures value { IfOk result (λ x. x ≡ form.control_record control.now) }
     ensures is { IfOk result IsControl }
     ensures short { IfOk result (λ x. length (control_cells x) ≤ 4001764) }
@@ -145,16 +140,15 @@ fn control(alloc: Global, control: &SourceControl) -> Result<Control, NoMemory>
     }
 }
 
-/// The controls that a source states, at most 1000, in their order.
+/// The controls that a source states, in their order.
 pub fn controls(alloc: Global, stated: &[SourceControl]) -> Result<Items<Control>, NoMemory>
+    requires few { length stated.now ≤ 1000 }
+    requires small { list_all is_small_control stated.now ≡ true }
     ensures value { IfOk result (λ x. x ≡ map form.control_record stated.now) }
     ensures are { IfOk result (Each IsControl) }
     ensures few { IfOk result (λ x. length x ≤ 1000) }
     ensures short { IfOk result (λ x. length (items_cells control_cells x) ≤ 4001764000) }
 {
-    if stated.len() > MOST_CONTROLS {
-        return Err(NoMemory);
-    }
     let mut controls = Items::new(alloc);
     for one in stated {
         controls.push(control(alloc, one)?)?;

@@ -3,9 +3,11 @@
 #![tactic(auto)]
 
 mod blocks;
+mod build_fault;
 mod building;
 mod choices;
 mod controls;
+mod limits;
 mod names;
 mod pcms;
 mod routes;
@@ -13,8 +15,10 @@ mod source;
 mod tokens;
 mod widgets;
 
+pub use build_fault::BuildFault;
 pub use building::build;
 pub use choices::Choices;
+pub use limits::is_small;
 pub use names::empty_name;
 pub use source::{
     PcmLimits, SourceControl, SourcePcm, SourceRoute, SourceWidget, TopologySource, WidgetKind,

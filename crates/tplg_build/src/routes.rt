@@ -1,5 +1,5 @@
 // Routes: one block of all.
-ghost use Rattle.std.specs.Prelude.{◌≡◌, map, IfOk};
+ghost use Rattle.std.specs.Prelude.{◌≡◌, ◌≤◌, length, map, IfOk};
 ghost use Rattle.tplg_model.specs.Arrays.{Each};
 ghost use Rattle.tplg_model.specs.Spelling.{IsRoute, IsBlock};
 ghost use Rattle.tplg_model.specs.declared.block.Body.TheVariants.{Routes};
@@ -12,9 +12,6 @@ use crate::source::SourceRoute;
 use sof_base::{Items, NoMemory};
 use std::alloc::Global;
 use tplg_model::{Block, Body, Route};
-
-/// The most routes of a block, so that its size fits its word.
-const MOST: usize = 32_000_000;
 
 // The route that a source states.
 fn route(stated: &SourceRoute) -> Route
@@ -42,11 +39,9 @@ fn routes(alloc: Global, stated: &[SourceRoute]) -> Result<Items<Route>, NoMemor
 
 /// The block of all routes.
 pub fn route_block(alloc: Global, stated: &[SourceRoute]) -> Result<Block, NoMemory>
+    requires { length stated.now ≤ 32000000 }
     ensures value { IfOk result (λ x. x ≡ block_of 0 (Routes (map route_of stated.now))) }
     ensures is { IfOk result IsBlock }
 {
-    if stated.len() > MOST {
-        return Err(NoMemory);
-    }
     Ok(block(0, Body::Routes(routes(alloc, stated)?)))
 }

@@ -1,6 +1,7 @@
 // Widgets: a block each.
-ghost use Rattle.std.specs.Prelude.{◌≡◌, ◌≤◌, length, IfOk};
+ghost use Rattle.std.specs.Prelude.{◌≡◌, ◌≤◌, true, length, IfOk};
 ghost use Rattle.tplg_model.specs.Spelling.{IsWidget, widget_cells, IsBlock};
+ghost use Rattle.tplg_build.specs.SmallSource.{is_small_widget};
 ghost use Rattle.tplg_build.specs.WidgetForm.{widget_of};
 ghost use Rattle.tplg_build.specs.TopologyForm as form;
 
@@ -15,6 +16,7 @@ use tplg_model::{Block, Body, Widget};
 
 // The widget that a source states.
 fn widget(alloc: Global, stated: &SourceWidget) -> Result<Widget, NoMemory>
+    requires { is_small_widget stated.now ≡ true }
     ensures value { IfOk result (λ x. x ≡ widget_of stated.now) }
     ensures is { IfOk result IsWidget }
     ensures short { IfOk result (λ x. length (widget_cells x) ≤ 4100000000) }
@@ -37,6 +39,7 @@ fn widget(alloc: Global, stated: &SourceWidget) -> Result<Widget, NoMemory>
 
 /// The block of a widget.
 pub fn widget_block(alloc: Global, stated: &SourceWidget) -> Result<Block, NoMemory>
+    requires { is_small_widget stated.now ≡ true }
     ensures value { IfOk result (λ x. x ≡ form.widget_block stated.now) }
     ensures is { IfOk result IsBlock }
 {

@@ -1,8 +1,10 @@
 // From a text to a topology.
-ghost use Rattle.std.specs.Prelude.{◌≡◌, ◌≤◌, ◌⊎◌, length, IfOk, IfErr, OnOk, Ok, Err};
+ghost use Rattle.std.specs.Prelude.{◌≡◌, ◌<◌, ◌≤◌, ◌^◌, ◌⊎◌, length, IfOk, IfErr, OnOk, Ok, Err};
 ghost use Rattle.toml.specs.View.{table_view};
 ghost use Rattle.tplg_model.specs.File.{IsTopology};
 ghost use Rattle.tplg_model.specs.declared.block.Topology.{Topology as TopologyValue};
+ghost use Rattle.tplg_widgets.specs.Entries.{entries_of};
+ghost use Rattle.tplg_widgets.specs.Ends.{ends_in};
 ghost use Rattle.tplg_compile.specs.declared.source_fault.SourceFault.{SourceFault as Fault};
 ghost use Rattle.tplg_compile.specs.Results.{AnswerIs};
 ghost use Rattle.tplg_compile.specs.InOrder.{compiled_of};
@@ -45,6 +47,8 @@ fn told(fault: PlanFault) -> SourceFault
 
 // Whether a topology keeps all rules.
 fn check_rules(alloc: Global, topology: &Topology) -> Result<(), SourceFault>
+    requires widgets { length (entries_of topology.now) < 2 ^ 32 }
+    requires routes { length (ends_in topology.now) < 2 ^ 32 }
     ensures ok { OnOk result (KeepsRules topology.now) }
     ensures err { IfErr result (λ f. (f ≡ SourceFault.OutOfMemory) ⊎ IsRuleFault topology.now f) }
 {

@@ -5,6 +5,8 @@ use Rattle.tplg_model.specs.Spelling.{IsControl, items_cells}
 use Rattle.tplg_build.specs.WidgetForm.{control_record}
 use Rattle.tplg_build.proofs.ArraySizes.{each_append, each_one}
 use Rattle.tplg_build.proofs.RecordSizes.{controls_more}
+use Rattle.tplg_build.specs.SmallSource.{is_small_control}
+use Rattle.tplg_build.proofs.SmallLaws.{item-holds}
 use Rattle.tplg_build.proofs.controls.controls.Goals as goal
 
 pub loop-one-init : goal.loop-one-init
@@ -22,3 +24,6 @@ loop-one-preserved c =
       each_append IsControl c.loop-one.controls _ c.loop-one.invariant.1 (each_one IsControl c.in_ok-control.field-0 c.in_ok-control.ensures.is),
       controls_more c.loop-one.controls c.in_ok-control.field-0 4001764 i c.loop-one.invariant.2 c.in_ok-control.ensures.short,
     )
+
+pub control-requires : goal.control-requires
+control-requires c = item-holds is_small_control c.args.stated.now c.loop-one.one-index c.one-item.result c.requires.small c.loop-one-test.true c.one-item.is

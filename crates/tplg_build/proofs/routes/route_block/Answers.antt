@@ -10,7 +10,7 @@ block-requires c =
     let count : length rs ≡ length c.args.stated.now = ap length c.in_ok-routes.ensures.value ∙ length-map c.args.stated.now route_of in
     record {
       records = c.in_ok-routes.ensures.are;
-      sound = record { size = omega (arith, routes_size rs c.in_ok-routes.ensures.are, count, c.if-stated-gt-MOST.false); kept = tt };
+      sound = record { size = omega (arith, routes_size rs c.in_ok-routes.ensures.are, count, c.requires); kept = tt };
       kind = lit< tt;
-      count = omega (arith, count, c.if-stated-gt-MOST.false);
+      count = omega (arith, count, c.requires);
     }

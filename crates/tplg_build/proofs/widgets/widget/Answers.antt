@@ -2,6 +2,7 @@ use Rattle.std.proofs.Common.{length, sym, subst, refl, arith, rules}
 use Rattle.sof_base.specs.Slots.{IsName}
 use Rattle.tplg_build.proofs.OfProgram.{widget_head_is}
 use Rattle.tplg_build.proofs.RecordSizes.{widget_size}
+use Rattle.tplg_build.proofs.SmallLaws.{small-widget}
 use Rattle.tplg_build.proofs.widgets.widget.Goals as goal
 
 pub returns-clause-is : goal.returns-clause-is
@@ -17,3 +18,9 @@ returns-clause-is c =
 
 pub returns-clause-short : goal.returns-clause-short
 returns-clause-short c = omega (arith, widget_size _ (returns-clause-is c), c.in_ok-tokens.ensures.short, c.in_ok-controls.ensures.short)
+
+pub arrays-requires : goal.arrays-requires
+arrays-requires c = let small = small-widget c.args.stated.now c.requires in record { numbers = search (rules, small.numbers); texts = search (rules, small.texts) }
+
+pub controls-requires : goal.controls-requires
+controls-requires c = let small = small-widget c.args.stated.now c.requires in record { few = search (rules, small.controls); small = search (rules, small.small) }

@@ -6,7 +6,6 @@ use Rattle.std.proofs.lemmas.Bool.{false≢true, and_parts}
 use Rattle.std.proofs.lemmas.List.Sums.{sum_by-cons}
 use Rattle.sof_base.specs.Holes.{rounded}
 use Rattle.stream_law.specs.declared.graph.Kind.{Kind}
-use Rattle.stream_law.specs.declared.graph.Setting.TheVariants.{Nothing}
 use Rattle.stream_law.specs.declared.graph.Comp.{Comp}
 use Rattle.stream_law.specs.declared.graph.Edge.{Edge}
 use Rattle.stream_law.specs.declared.graph.Pipe.{Pipe}
@@ -19,7 +18,7 @@ use Rattle.tplg_widgets.specs.declared.route_end.End.TheVariants as an_end
 use Rattle.tplg_widgets.specs.declared.tokens.FormatToken.{FormatToken}
 use Rattle.tplg_widgets.specs.Entries.{is_interpreted, is_buffer_entry, is_buffer_role, is_scheduler, is_scheduler_role, interpreted}
 use Rattle.tplg_widgets.specs.Ends.{end_named}
-use Rattle.tplg_widgets.specs.GraphLists.{component_kind, component_of, buffer_edge, is_sink, route_in, route_out}
+use Rattle.tplg_widgets.specs.GraphLists.{component_kind, component_made, component_of, buffer_edge, is_sink, route_in, route_out}
 use Rattle.tplg_graph.specs.PlanLists.{pipeline_of, component_end}
 use Rattle.stream_law.specs.Sizes.{comp_bytes}
 use Rattle.tplg_plan.specs.HeapNeed.{components_need, edges_need, need_on}
@@ -42,9 +41,9 @@ abbrev kind_size : Option Kind → ℕ
 kind_size None = 0
 kind_size (Some k) = comp_bytes k
 
-more-comps : (id pipe : ℕ) (o : Option Kind) (cs : List Comp) → components_need (cons_option (option_map (λ k. record { id = id; kind = k; pipe = pipe; setting = Nothing }) o) cs) ≡ kind_size o + components_need cs
-more-comps id pipe None cs = nothing (components_need cs)
-more-comps id pipe (Some k) cs = sum_by-cons (λ x. x) (comp_bytes k) (map (λ (c : Comp). comp_bytes c.kind) cs)
+more-comps : (id : ℕ) (e : Entry) (o : Option Kind) (cs : List Comp) → components_need (cons_option (option_map (component_made id e) o) cs) ≡ kind_size o + components_need cs
+more-comps id e None cs = nothing (components_need cs)
+more-comps id e (Some k) cs = sum_by-cons (λ x. x) (comp_bytes k) (map (λ (c : Comp). comp_bytes c.kind) cs)
 
 more-edges : (b : Bool) (e : Edge) (es : List Edge) → edges_need (cons_option (cond b (Some e) None) es) ≡ cond b (rounded (32 + e.size)) 0 + edges_need es
 more-edges true e es = sum_by-cons (λ x. x) (rounded (32 + e.size)) (map (λ (e : Edge). rounded (32 + e.size)) es)
@@ -91,7 +90,7 @@ needs es js i (p ∷ ps) all scheds =
     let size = unwrap_or p.tokens.size 0 in
     let own_need = ap (λ b. kind_size (component_kind p.role p.tokens.format (is_sink js i)) + cond (is_buffer_role p.role) (rounded (32 + size)) 0 + 64 * cond b 1 0) (is-pipe (is_scheduler_role p.role) (end_named es p.sname) (λ sched. record { id = i; index = p.index; sched = sched; period = unwrap_or p.tokens.period 0; complete = true }) s.0) ∙ role-need p.role p.tokens.format (is_sink js i) size a.0 in
     add-up _ _ _ _ _ _ _ _ _ _ _
-    (more-comps i p.index (component_kind p.role p.tokens.format (is_sink js i)) (indexed (component_of js) (i + 1) ps))
+    (more-comps i p (component_kind p.role p.tokens.format (is_sink js i)) (indexed (component_of js) (i + 1) ps))
     (more-edges (is_buffer_entry p) (record { buffer = i; pipe = p.index; size = size; source = option_map (λ j. j.source) (route_in js i); sink = option_map (λ j. j.sink) (route_out js i) }) (indexed (buffer_edge js) (i + 1) ps))
     (more-pipes (pipeline_of es i p) (indexed (pipeline_of es) (i + 1) ps))
     own_need

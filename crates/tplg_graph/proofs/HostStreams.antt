@@ -5,7 +5,6 @@ use Rattle.std.specs.List.{find, list_any, list_all, filter_map, cons_option, ra
 use Rattle.std.proofs.lemmas.Bool.{false≢true, and_parts}
 use Rattle.stream_law.specs.declared.graph.Comp.{Comp}
 use Rattle.stream_law.specs.declared.graph.Join.{Join}
-use Rattle.stream_law.specs.declared.graph.Setting.TheVariants.{Nothing}
 use Rattle.tplg_widgets.specs.declared.entry.Role.{Role}
 use Rattle.tplg_widgets.specs.declared.entry.Role.TheVariants.{HostPlay, HostCapture, Dai, Volume, Mixer, Mux, Eq, Buffer, Scheduler}
 use Rattle.tplg_widgets.specs.declared.entry.Entry.{Entry}
@@ -14,7 +13,7 @@ use Rattle.tplg_plan.specs.declared.plans.StreamPlan.{StreamPlan}
 use Rattle.tplg_widgets.specs.declared.tokens.FormatToken.{FormatToken}
 use Rattle.tplg_widgets.specs.Entries.{is_host_play_role, is_host_capture_role, interpreted}
 use Rattle.tplg_widgets.specs.PcmList.{is_side_of, caps_of_side}
-use Rattle.tplg_widgets.specs.GraphLists.{component_kind, is_sink, component_of, component_at, components_on}
+use Rattle.tplg_widgets.specs.GraphLists.{component_kind, component_made, is_sink, component_of, component_at, components_on}
 use Rattle.tplg_graph.specs.PlanLists.{stream_of, stream_plan_at, streams_on}
 use Rattle.tplg_rules.specs.Rules.{HoldsAll}
 use Rattle.tplg_rules.specs.RuleTable.{is_host_widget, has_pcm, hosts_rule}
@@ -46,25 +45,25 @@ caps-found p (x ∷ xs) h = by_test (p x) refl h (caps-found p xs)
 abbrev host_pair : StreamPlan → ℕ × Bool
 host_pair s = (s.host, s.capture)
 
-abbrev made : ℕ → ℕ → Option Role → FormatToken → Bool → Option Comp
-made i index r format ends = option_map (λ k. record { id = i; kind = k; pipe = index; setting = Nothing }) (component_kind r format ends)
+abbrev made : ℕ → Entry → Option Role → FormatToken → Bool → Option Comp
+made i e r format ends = option_map (component_made i e) (component_kind r format ends)
 
-host-same : (pcms : List PcmCaps) (i index : ℕ) (r : Option Role) (format : FormatToken) (ends : Bool) (sname : List ℕ) → (not (is_host_play_role r || is_host_capture_role r) || (not (length sname == 0) && list_any (is_side_of (is_host_capture_role r) sname) pcms)) ≡ true → option_map host_pair (stream_of pcms i r sname) ≡ option_and_then host_of (made i index r format ends)
-host-same pcms i index None format ends sname h = refl
-host-same pcms i index (Some HostPlay) format ends sname h =
+host-same : (pcms : List PcmCaps) (i : ℕ) (e : Entry) (r : Option Role) (format : FormatToken) (ends : Bool) (sname : List ℕ) → (not (is_host_play_role r || is_host_capture_role r) || (not (length sname == 0) && list_any (is_side_of (is_host_capture_role r) sname) pcms)) ≡ true → option_map host_pair (stream_of pcms i r sname) ≡ option_and_then host_of (made i e r format ends)
+host-same pcms i e None format ends sname h = refl
+host-same pcms i e (Some HostPlay) format ends sname h =
     let c = caps-found (is_side_of false sname) pcms (and_parts (not (length sname == 0)) (list_any (is_side_of false sname) pcms) h).1 in
     ap (λ o. option_map host_pair (option_map (λ caps. record { host = i; capture = false; caps = caps }) (option_map (caps_of_side false) o))) c.1
-host-same pcms i index (Some HostCapture) format ends sname h =
+host-same pcms i e (Some HostCapture) format ends sname h =
     let c = caps-found (is_side_of true sname) pcms (and_parts (not (length sname == 0)) (list_any (is_side_of true sname) pcms) h).1 in
     ap (λ o. option_map host_pair (option_map (λ caps. record { host = i; capture = true; caps = caps }) (option_map (caps_of_side true) o))) c.1
-host-same pcms i index (Some Dai) format true sname h = refl
-host-same pcms i index (Some Dai) format false sname h = refl
-host-same pcms i index (Some Volume) format ends sname h = refl
-host-same pcms i index (Some Mixer) format ends sname h = refl
-host-same pcms i index (Some Mux) format ends sname h = refl
-host-same pcms i index (Some Eq) format ends sname h = refl
-host-same pcms i index (Some Buffer) format ends sname h = refl
-host-same pcms i index (Some Scheduler) format ends sname h = refl
+host-same pcms i e (Some Dai) format true sname h = refl
+host-same pcms i e (Some Dai) format false sname h = refl
+host-same pcms i e (Some Volume) format ends sname h = refl
+host-same pcms i e (Some Mixer) format ends sname h = refl
+host-same pcms i e (Some Mux) format ends sname h = refl
+host-same pcms i e (Some Eq) format ends sname h = refl
+host-same pcms i e (Some Buffer) format ends sname h = refl
+host-same pcms i e (Some Scheduler) format ends sname h = refl
 
 pub hosts-are : (es : List Entry) (js : List Join) (pcms : List PcmCaps) → HoldsAll (hosts_rule es pcms) → map (λ s. (s.host, s.capture)) (streams_on (interpreted es) pcms) ≡ filter_map host_of (components_on (interpreted es) js)
 hosts-are es js pcms rule = same-lists host_pair host_of (stream_plan_at (interpreted es) pcms) (component_at (interpreted es) js) (λ i. by_entry i (slice_get (interpreted es) i) refl) (range_with_len 0 (length (interpreted es)))
@@ -74,4 +73,4 @@ hosts-are es js pcms rule = same-lists host_pair host_of (stream_plan_at (interp
 
     by_entry : (i : ℕ) (o : Option Entry) → slice_get (interpreted es) i ≡ o → option_map host_pair (option_and_then (λ e. stream_of pcms i e.role e.sname) o) ≡ option_and_then host_of (option_and_then (component_of js i) o)
     by_entry i None f = refl
-    by_entry i (Some e) f = host-same pcms i e.index e.role e.tokens.format (is_sink js i) e.sname (passes-at (λ x. not (is_host_widget x) || has_pcm pcms x) (interpreted es) heard i e f)
+    by_entry i (Some e) f = host-same pcms i e e.role e.tokens.format (is_sink js i) e.sname (passes-at (λ x. not (is_host_widget x) || has_pcm pcms x) (interpreted es) heard i e f)

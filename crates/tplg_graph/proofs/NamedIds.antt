@@ -9,7 +9,6 @@ use Rattle.stream_law.specs.declared.graph.Comp.{Comp}
 use Rattle.stream_law.specs.declared.graph.Pipe.{Pipe}
 use Rattle.stream_law.specs.declared.graph.Join.{Join}
 use Rattle.stream_law.specs.declared.graph.Graph.{Graph}
-use Rattle.stream_law.specs.declared.graph.Setting.TheVariants.{Nothing}
 use Rattle.stream_law.specs.Ways.{comp_of, edge_of}
 use Rattle.tplg_widgets.specs.declared.entry.Role.{Role}
 use Rattle.tplg_widgets.specs.declared.entry.Role.TheVariants.{HostPlay, HostCapture, Dai, Volume, Mixer, Mux, Eq, Buffer, Scheduler}
@@ -20,7 +19,8 @@ use Rattle.tplg_plan.specs.declared.plans.WidgetPlan.{WidgetPlan}
 use Rattle.tplg_widgets.specs.declared.tokens.FormatToken.{FormatToken}
 use Rattle.tplg_widgets.specs.Entries.{is_interpreted, is_buffer_entry, is_scheduler, is_component, is_buffer_role, is_scheduler_role, is_component_role, interpreted}
 use Rattle.tplg_widgets.specs.Ends.{end_named}
-use Rattle.tplg_widgets.specs.GraphLists.{component_kind, is_sink, component_of, component_at, route_in, route_out, edge_at, buffer_edge}
+use Rattle.tplg_plan.specs.WidgetWords.{kind_ramp}
+use Rattle.tplg_widgets.specs.GraphLists.{component_kind, component_made, is_sink, component_of, component_at, route_in, route_out, edge_at, buffer_edge}
 use Rattle.tplg_graph.specs.PlanLists.{component_end, pipeline_of, pipeline_at, widget_plan, widgets_on}
 use Rattle.tplg_widgets.specs.Tokens.{stated_format}
 use Rattle.tplg_plan.specs.WidgetWords.{format_number}
@@ -54,7 +54,7 @@ pipe-by-id es js id = by-key (λ p. p.id) (pipeline_at es (interpreted es)) (key
 -- ---- what is there, and what is not
 
 no-comp : (ps : List Entry) (js : List Join) (id : ℕ) (e : Entry) → slice_get ps id ≡ Some e → is_component e ≡ false → component_at ps js id ≡ None
-no-comp ps js id e there h = ap (option_and_then (component_of js id)) there ∙ ap (option_map (λ k. record { id = id; kind = k; pipe = e.index; setting = Nothing })) (no-kind e.role e.tokens.format (is_sink js id) h)
+no-comp ps js id e there h = ap (option_and_then (component_of js id)) there ∙ ap (option_map (component_made id e)) (no-kind e.role e.tokens.format (is_sink js id) h)
 
 no-edge : (ps : List Entry) (js : List Join) (id : ℕ) (e : Entry) → slice_get ps id ≡ Some e → is_buffer_entry e ≡ false → edge_at ps js id ≡ None
 no-edge ps js id e there h = ap (option_and_then (buffer_edge js id)) there ∙ cond-none (is_buffer_entry e) (Some (made_edge js id e)) h
@@ -71,8 +71,8 @@ pub record Known (es : List Entry) (js : List Join) (id : ℕ) : Type 0 where
 pub known : (es : List Entry) (js : List Join) (id : ℕ) → IsComp (interpreted es) id → Known es js id
 known es js id c =
     let k = component-kind c.entry.role c.entry.tokens.format (is_sink js id) c.sort in
-    let comp : Comp = record { id = id; kind = k.0; pipe = c.entry.index; setting = Nothing } in
-    let there : component_at (interpreted es) js id ≡ Some comp = ap (option_and_then (component_of js id)) c.there ∙ ap (option_map (λ kind. record { id = id; kind = kind; pipe = c.entry.index; setting = Nothing })) k.1 in
+    let comp : Comp = component_made id c.entry k.0 in
+    let there : component_at (interpreted es) js id ≡ Some comp = ap (option_and_then (component_of js id)) c.there ∙ ap (option_map (component_made id c.entry)) k.1 in
     record { comp = comp; there = there; found = comp-by-id es js id ∙ there; id_is = refl }
 
 pub edge-there : (ps : List Entry) (js : List Join) (id : ℕ) (b : IsBuf ps id) → edge_at ps js id ≡ Some (made_edge js id b.entry)
@@ -158,6 +158,7 @@ names-component es js id e there sort =
         pipe = sym (o.pipe ∙ ap (λ (x : Entry). x.index) same);
         format = number-of e.role e.tokens.format (is_sink js id) k.comp.kind (ap (λ (x : Entry). component_kind x.role x.tokens.format (is_sink js id)) (sym same) ∙ o.kind);
         setting = o.setting;
+        ramp = o.ramp ∙ ap (λ (x : Entry). kind_ramp k.comp.kind (unwrap_or x.tokens.ramp_type 0) (unwrap_or x.tokens.ramp_ms 0)) same;
       };
     })
 

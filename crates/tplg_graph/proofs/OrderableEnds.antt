@@ -7,7 +7,6 @@ use Rattle.std.proofs.lemmas.List.Elements.{filter_map-append}
 use Rattle.std.proofs.lemmas.Option.{slice_get_within}
 use Rattle.stream_law.specs.declared.graph.Kind.{Kind}
 use Rattle.stream_law.specs.declared.graph.Comp.{Comp}
-use Rattle.stream_law.specs.declared.graph.Setting.TheVariants.{Nothing}
 use Rattle.stream_law.specs.declared.graph.Join.{Join}
 use Rattle.stream_law.specs.Order.{is_among}
 use Rattle.tplg_graph.proofs.Known.{ids_of, is_known}
@@ -24,7 +23,7 @@ use Rattle.tplg_widgets.specs.Entries.{is_buffer_entry, is_component, is_buffer_
 use Rattle.tplg_widgets.specs.Names.{has_name}
 use Rattle.tplg_widgets.specs.Ends.{end_at, end_named, ends_of, join_of, real_of, block_ends}
 use Rattle.tplg_widgets.specs.declared.tokens.FormatToken.{FormatToken}
-use Rattle.tplg_widgets.specs.GraphLists.{component_kind, is_sink, component_of, component_at, components_on, route_in, route_out, buffer_edge, edge_at, edges_on}
+use Rattle.tplg_widgets.specs.GraphLists.{component_kind, component_made, is_sink, component_of, component_at, components_on, route_in, route_out, buffer_edge, edge_at, edges_on}
 use Rattle.tplg_widgets.specs.Ends.{joins_of}
 
 -- ---- a component's id is among those of the components
@@ -68,8 +67,8 @@ pub record IsBuf (es : List Entry) (a : ℕ) : Type 0 where
 comp-among : (ps : List Entry) (js : List Join) (a : ℕ) → IsComp ps a → is_among (ids_of (components_on ps js)) a ≡ true
 comp-among ps js a c =
     let k = component-kind c.entry.role c.entry.tokens.format (is_sink js a) c.sort in
-    let made : Comp = record { id = a; kind = k.0; pipe = c.entry.index; setting = Nothing } in
-    let e : component_at ps js a ≡ Some made = ap (option_and_then (component_of js a)) c.there ∙ ap (option_map (λ kind. record { id = a; kind = kind; pipe = c.entry.index; setting = Nothing })) k.1 in
+    let made : Comp = component_made a c.entry k.0 in
+    let e : component_at ps js a ≡ Some made = ap (option_and_then (component_of js a)) c.there ∙ ap (option_map (component_made a c.entry)) k.1 in
     made-among (component_at ps js) 0 (length ps) a made (omega arith) (let w = slice_get_within ps a c.entry c.there in omega (arith, w)) e
 
 -- ---- what an end names

@@ -25,7 +25,7 @@ use Rattle.tplg_widgets.specs.PcmList.{caps_named}
 use Rattle.tplg_widgets.specs.Tokens.{stated_format}
 use Rattle.tplg_widgets.specs.Entries.{is_scheduler}
 use Rattle.tplg_widgets.specs.Ends.{end_named}
-use Rattle.tplg_rules.specs.ControlRanges.{is_volume}
+use Rattle.tplg_rules.specs.ControlRanges.{is_volume_range}
 
 -- ---- pipelines
 
@@ -76,7 +76,7 @@ streams_on ps pcms = filter_map (stream_plan_at ps pcms) (range_with_len 0 (leng
 -- what a volume takes, where its values and channels are in range
 abbrev pub volume_kind : ControlHead → ℤ → ℤ → ℕ → Option ControlKind
 volume_kind head min max channels =
-    if is_volume min max channels then Some (Volume (nat_abs min) (nat_abs max) channels (cast_signed w32 (scale_word head 0)) (scale_word head 1) (scale_word head 2)) else None
+    if is_volume_range min max channels then Some (Volume (nat_abs min) (nat_abs max) channels (cast_signed w32 (scale_word head 0)) (scale_word head 1) (scale_word head 2)) else None
 
 -- what a live control takes
 abbrev pub kind_in : Control → Option ControlKind

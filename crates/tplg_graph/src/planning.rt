@@ -3,6 +3,8 @@ ghost use Rattle.std.specs.Prelude.{◌≡◌, ◌<◌, ◌^◌, ℕ, All, lengt
 ghost use Rattle.tplg_plan.specs.HeapNeed.{IsSmall, need_on};
 ghost use Rattle.tplg_plan.specs.Sound.{IsSound};
 ghost use Rattle.tplg_plan.specs.WidgetWords.{FitsWords};
+ghost use Rattle.tplg_widgets.specs.Entries.{entries_of};
+ghost use Rattle.tplg_widgets.specs.Ends.{ends_in};
 ghost use Rattle.tplg_rules.specs.Rules.{AllHold};
 ghost use Rattle.tplg_rules.specs.WellFormed as rules;
 ghost use Rattle.tplg_graph.specs.Orderable.{IsOrderable, IsAcyclic};
@@ -104,6 +106,8 @@ fn plan_ruled(alloc: Global, wiring: &Wiring) -> Result<Plan, PlanFault>
 }
 
 fn plan_in_form(alloc: Global, topology: &Topology) -> Result<Plan, PlanFault>
+    requires widgets { length (entries_of topology.now) < 2 ^ 32 }
+    requires routes { length (ends_in topology.now) < 2 ^ 32 }
     ensures ok { OnOk result (rules.IsWellFormed topology.now) }
     ensures lists { IfOk result (λ p. p ≡ law.plan_of topology.now) }
     ensures fit { IfOk result (λ p. All FitsWords p.widgets) }
@@ -116,6 +120,8 @@ fn plan_in_form(alloc: Global, topology: &Topology) -> Result<Plan, PlanFault>
 /// The plan of a topology: the lists of its graph exactly where all fourteen rules hold, and else the first rule that fails,
 /// with its least item. Want of memory may stand for either.
 pub fn plan(alloc: Global, topology: &Topology) -> Result<Plan, PlanFault>
+    requires widgets { length (entries_of topology.now) < 2 ^ 32 }
+    requires routes { length (ends_in topology.now) < 2 ^ 32 }
     ensures ok { OnOk result (rules.IsWellFormed topology.now) }
     ensures lists { IfOk result (λ p. p ≡ law.plan_of topology.now) }
     ensures err { IfErr result (rules.IsFaultOf (rules.rules_of topology.now)) }

@@ -18,7 +18,7 @@ use Rattle.tplg_plan.specs.declared.plans.WidgetPlan.{WidgetPlan}
 use Rattle.tplg_plan.specs.declared.plans.ControlPlan.{ControlPlan}
 use Rattle.tplg_plan.specs.declared.plans.ControlKind.{ControlKind}
 use Rattle.tplg_plan.specs.declared.plans.ControlKind.TheVariants.{Volume, Choice, Blob}
-use Rattle.tplg_plan.specs.WidgetWords.{format_number}
+use Rattle.tplg_plan.specs.WidgetWords.{format_number, kind_ramp}
 use Rattle.tplg_plan.specs.Printable.{is_widget_name}
 use Rattle.tplg_plan.specs.Ranges.{is_initial, is_period}
 use Rattle.tplg_plan.specs.WidgetWords.{FitsWords}
@@ -40,6 +40,7 @@ pub record IsComponentOf (widget : WidgetPlan) (c : Comp) : Type 0 where
   pub pipe : widget.pipe ≡ c.pipe
   pub format : has_number c.kind widget.frame_fmt ≡ true
   pub setting : c.setting ≡ Nothing
+  pub ramp : c.ramp ≡ kind_ramp c.kind widget.ramp_type widget.ramp_ms
 
 -- a buffer, of a size in bytes that messages can say, with both its sides joined
 pub record IsBufferOf (g : Graph) (widget : WidgetPlan) (e : Edge) : Type 0 where

@@ -1,6 +1,7 @@
 // Whether a topology keeps all rules, and else the first that fails.
 ghost use Rattle.std.specs.Prelude.{◌≡◌, ◌<◌, ◌^◌, ℕ, [], ◌∷◌, length, OnOk, IfErr};
-ghost use Rattle.tplg_widgets.specs.Entries.{interpreted};
+ghost use Rattle.tplg_widgets.specs.Entries.{interpreted, entries_of};
+ghost use Rattle.tplg_widgets.specs.Ends.{ends_in};
 ghost use Rattle.tplg_widgets.specs.GraphLists.{components_on, edges_on};
 ghost use Rattle.tplg_rules.specs.Rules.{AllHold};
 ghost use Rattle.tplg_rules.specs.RuleTable.{counts_rule};
@@ -72,6 +73,8 @@ pub fn check_wiring(alloc: Global, wiring: &Wiring) -> Result<(), PlanFault>
 }
 
 fn check_in_form(alloc: Global, topology: &Topology) -> Result<(), PlanFault>
+    requires widgets { length (entries_of topology.now) < 2 ^ 32 }
+    requires routes { length (ends_in topology.now) < 2 ^ 32 }
     ensures ok { OnOk result (rules.IsWellFormed topology.now) }
     ensures err { IfErr result (rules.IsFaultOf (rules.rules_of topology.now)) }
 {
@@ -82,6 +85,8 @@ fn check_in_form(alloc: Global, topology: &Topology) -> Result<(), PlanFault>
 /// Whether a topology keeps all fourteen rules: else the first rule that fails, with its least item. Want of memory may stand
 /// for either.
 pub fn check_topology(alloc: Global, topology: &Topology) -> Result<(), PlanFault>
+    requires widgets { length (entries_of topology.now) < 2 ^ 32 }
+    requires routes { length (ends_in topology.now) < 2 ^ 32 }
     ensures ok { OnOk result (rules.IsWellFormed topology.now) }
     ensures err { IfErr result (rules.IsFaultOf (rules.rules_of topology.now)) }
     ensures kept { rules.IsWellFormed topology.now → IfErr result (λ e. e ≡ PlanFault.OutOfMemory) }

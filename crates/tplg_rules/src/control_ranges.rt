@@ -10,7 +10,7 @@ use tplg_model::Control;
 
 /// Whether a volume's least and greatest value and its number of channels are in range.
 pub fn is_volume(min: i32, max: i32, channels: u32) -> bool
-    ensures { result ≡ ranges.is_volume min max channels }
+    ensures { result ≡ ranges.is_volume_range min max channels }
 {
     0 <= min && min <= max && max <= 65535 && 1 <= channels && channels <= 8
 }

@@ -1,6 +1,9 @@
 // The thin graph's plan, the rules that it breaks with some bytes changed, and the gain of a volume's value.
+ghost use Rattle.std.specs.Prelude.{IfOk};
+ghost use Rattle.tplg_plan.specs.HeapNeed.{IsSmall};
+
 use crate::same::same;
-use crate::stated::{put_byte, topology_of};
+use crate::stated::put_byte;
 use crate::thin::thin_graph;
 use sof_base::{Format, Name44};
 use std::alloc::Global;
@@ -8,11 +11,24 @@ use std::process::Abort;
 use std::test::Fail;
 use stream_law::{Comp, Edge, Graph, Join, Kind, Pipe};
 use tplg_graph::{ControlKind, Plan, PlanFault, StreamPlan, WidgetPlan, gain, need, plan};
+use tplg_read::read;
+
+/// The plan of a file of at most a mebibyte, or why there is none.
+fn plan_in(alloc: Global, bytes: &[u8]) -> Result<Result<Plan, PlanFault>, Fail>
+    ensures { IfOk result (λ planned. IfOk planned (λ plan. IsSmall plan.graph)) }
+{
+    if bytes.len() > 1048576 {
+        return Err("too long a file")?;
+    }
+    match read(alloc, bytes) {
+        Ok(topology) => Ok(plan(alloc, &topology)),
+        Err(_fault) => Err("no topology")?,
+    }
+}
 
 /// The thin graph's plan and its need in bytes.
 fn planned(alloc: Global) -> Result<(Plan, u64), Fail> {
-    let topology = topology_of(alloc, &thin_graph(alloc)?).ok_or("no topology")?;
-    let Ok(plan) = plan(alloc, &topology) else {
+    let Ok(plan) = plan_in(alloc, &thin_graph(alloc)?)? else {
         return Err("no plan")?;
     };
     let bytes = need(&plan);
@@ -120,8 +136,7 @@ fn fault_with(alloc: Global, changes: &[(usize, u8)]) -> Result<Option<PlanFault
     for &(at, changed) in changes {
         put_byte(&mut bytes, at, changed)?;
     }
-    let topology = topology_of(alloc, &bytes).ok_or("no topology")?;
-    match plan(alloc, &topology) {
+    match plan_in(alloc, &bytes)? {
         Ok(_plan) => Ok(None),
         Err(fault) => Ok(Some(fault)),
     }

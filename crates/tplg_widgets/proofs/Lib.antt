@@ -4,3 +4,4 @@ pub mod Positions
 pub mod FoundEnds
 pub mod Indexed
 pub mod ListLengths
+pub mod FileCounts

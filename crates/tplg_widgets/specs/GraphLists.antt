@@ -14,6 +14,7 @@ use Rattle.tplg_widgets.specs.declared.entry.Role.TheVariants.{HostPlay, HostCap
 use Rattle.tplg_widgets.specs.declared.entry.Role.TheVariants as role_is
 use Rattle.tplg_widgets.specs.declared.entry.Entry.{Entry}
 use Rattle.tplg_widgets.specs.declared.tokens.FormatToken.{FormatToken}
+use Rattle.tplg_plan.specs.WidgetWords.{kind_ramp}
 use Rattle.tplg_widgets.specs.Tokens.{stated_format}
 use Rattle.tplg_widgets.specs.Entries.{is_buffer_entry}
 
@@ -41,11 +42,12 @@ component_kind (Some Mux) format ends = Some kind.Mux
 component_kind (Some Eq) format ends = Some kind.Eq
 component_kind _ format ends = None
 
--- a component has no setting here: the host's record has them
+-- the component of this id and kind that a widget is: it has no setting here, since the host's record has them; a volume has its ramp
+abbrev pub component_made : ℕ → Entry → Kind → Comp
+component_made id e k = record { id = id; kind = k; pipe = e.index; setting = Nothing; ramp = kind_ramp k (unwrap_or e.tokens.ramp_type 0) (unwrap_or e.tokens.ramp_ms 0) }
+
 abbrev pub component_of : List Join → ℕ → Entry → Option Comp
-component_of js id e =
-    option_map (λ k. record { id = id; kind = k; pipe = e.index; setting = Nothing })
-    (component_kind e.role e.tokens.format (is_sink js id))
+component_of js id e = option_map (component_made id e) (component_kind e.role e.tokens.format (is_sink js id))
 
 -- the component of this id, where it is one
 abbrev pub component_at : List Entry → List Join → ℕ → Option Comp

@@ -1,12 +1,13 @@
 // The components and the buffers of a topology, by id.
-ghost use Rattle.std.specs.Prelude.{◌≡◌, ◌<◌, ◌^◌, length, IfOk};
-ghost use Rattle.std.specs.Option.{option_map};
+ghost use Rattle.std.specs.Prelude.{◌≡◌, ◌<◌, ◌^◌, ◌++◌, length, IfOk, OnOk};
+ghost use Rattle.std.specs.Option.{option_map, option_to_list};
 ghost use Rattle.tplg_widgets.specs.GraphLists as law;
 
 use crate::entry::{Entry, Role, is_buffer};
 use crate::tokens::{FormatToken, stated_format};
 use std::alloc::{AllocError, Global};
 use stream_law::{Comp, Edge, Join, Kind, Setting};
+use tplg_plan::kind_ramp;
 
 /// Whether a real route ends at this id.
 fn is_sink(joins: &[Join], id: u32) -> bool
@@ -38,13 +39,32 @@ fn component_at(parts: &[Entry], joins: &[Join], id: u32) -> Option<Comp>
     ensures { result ≡ law.component_at parts.now joins.now id }
 {
     let entry = parts.get(id as usize)?;
-    let kind = component_kind(entry.role(), entry.tokens().format, is_sink(joins, id))?;
+    let tokens = entry.tokens();
+    let kind = component_kind(entry.role(), tokens.format, is_sink(joins, id))?;
     Some(Comp {
         id,
         kind,
         pipe: entry.index(),
         setting: Setting::Nothing,
+        ramp: kind_ramp(
+            kind,
+            tokens.ramp_type.unwrap_or(0),
+            tokens.ramp_ms.unwrap_or(0),
+        ),
     })
+}
+
+/// One more component, where it is there.
+fn add_component(comp: Option<Comp>, out: &mut Vec<Comp>) -> Result<(), AllocError>
+    ensures { OnOk result (out.new.items ≡ out.old.items ++ option_to_list comp) }
+{
+    match comp {
+        None => Ok(()),
+        Some(comp) => {
+            out.push(comp)?;
+            Ok(())
+        }
+    }
 }
 
 /// The components by id.
@@ -52,9 +72,11 @@ pub fn components(alloc: Global, parts: &[Entry], joins: &[Join]) -> Result<Vec<
     requires { length parts.now < 2 ^ 32 }
     ensures { IfOk result (λ xs. xs.items ≡ law.components_on parts.now joins.now) }
 {
-    (0..parts.len() as u32)
-        .filter_map(|id| component_at(parts, joins, id))
-        .collect(alloc)
+    let mut out = Vec::new(alloc);
+    for id in 0..parts.len() as u32 {
+        add_component(component_at(parts, joins, id), &mut out)?;
+    }
+    Ok(out)
 }
 
 /// The first real route into an id.
@@ -101,12 +123,27 @@ fn edge_at(parts: &[Entry], joins: &[Join], id: u32) -> Option<Edge>
     })
 }
 
+/// One more buffer, where it is there.
+fn add_edge(edge: Option<Edge>, out: &mut Vec<Edge>) -> Result<(), AllocError>
+    ensures { OnOk result (out.new.items ≡ out.old.items ++ option_to_list edge) }
+{
+    match edge {
+        None => Ok(()),
+        Some(edge) => {
+            out.push(edge)?;
+            Ok(())
+        }
+    }
+}
+
 /// The buffers by id, each with its real route in and its real route out.
 pub fn edges(alloc: Global, parts: &[Entry], joins: &[Join]) -> Result<Vec<Edge>, AllocError>
     requires { length parts.now < 2 ^ 32 }
     ensures { IfOk result (λ xs. xs.items ≡ law.edges_on parts.now joins.now) }
 {
-    (0..parts.len() as u32)
-        .filter_map(|id| edge_at(parts, joins, id))
-        .collect(alloc)
+    let mut out = Vec::new(alloc);
+    for id in 0..parts.len() as u32 {
+        add_edge(edge_at(parts, joins, id), &mut out)?;
+    }
+    Ok(out)
 }

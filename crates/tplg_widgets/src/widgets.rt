@@ -14,9 +14,6 @@ use std::collections::HashMap;
 use std::marker::Model;
 use tplg_model::Topology;
 
-/// The most widgets and the most routes that an item can number. A topology with more does not fit into any memory.
-pub const MOST: usize = 4_294_967_295;
-
 /// The widgets of a topology in file order, with the interpreted ones by id and the first of each name. Contracts see the
 /// widgets.
 #[derive(Drop)]
@@ -43,14 +40,12 @@ impl<'t> Model for Widgets<'t> {
 }
 
 impl<'t> Widgets<'t> {
-    /// The widgets of a topology. More than the items of a rule can number want more memory than there is.
+    /// The widgets of a topology, of which there are so few that a word can number them.
     pub fn of(alloc: Global, topology: &'t Topology) -> Result<Widgets<'t>, NoMemory>
+        requires { length (entries_of topology.now) < 2 ^ 32 }
         ensures { IfOk result (λ widgets. widgets ≡ entries_of topology.now) }
     {
         let all = entries(alloc, topology)?;
-        if all.len() > MOST {
-            return Err(NoMemory);
-        }
         let interpreted = interpreted(alloc, all.as_slice())?;
         let firsts = interpreted_by_name(alloc, all.as_slice())?;
         let ids = all_by_name(alloc, interpreted.as_slice())?;

@@ -1,10 +1,12 @@
 // What the rules and the plan are read off.
 ghost use Rattle.std.specs.Prelude.{◌≡◌, ◌<◌, ◌^◌, length, IfOk};
+ghost use Rattle.tplg_widgets.specs.Entries.{entries_of};
+ghost use Rattle.tplg_widgets.specs.Ends.{ends_in};
 ghost use Rattle.tplg_widgets.specs.WiringValue.{wiring_of};
 
 use crate::pcm_caps::{PcmCaps, pcm_caps};
 use crate::route_end::{Ends, all_ends, joins};
-use crate::widgets::{MOST, Widgets};
+use crate::widgets::Widgets;
 use sof_base::NoMemory;
 use std::alloc::Global;
 use std::marker::Model;
@@ -32,16 +34,15 @@ impl<'t> Model for Wiring<'t> {
 }
 
 impl<'t> Wiring<'t> {
-    /// The wiring of a topology. More routes than a rule's items can number want more memory than there is.
+    /// The wiring of a topology, of whose widgets and routes there are so few that a word can number them.
     pub fn of(alloc: Global, topology: &'t Topology) -> Result<Wiring<'t>, NoMemory>
+        requires widgets { length (entries_of topology.now) < 2 ^ 32 }
+        requires routes { length (ends_in topology.now) < 2 ^ 32 }
         ensures { IfOk result (λ wiring. wiring ≡ wiring_of topology.now) }
     {
         let widgets = Widgets::of(alloc, topology)?;
         let pcms = pcm_caps(alloc, topology)?;
         let ends = all_ends(alloc, topology, &widgets)?;
-        if ends.len() > MOST {
-            return Err(NoMemory);
-        }
         let joins = joins(alloc, ends.as_slice())?;
         Ok(Wiring {
             widgets,

@@ -5,7 +5,7 @@ use Rattle.stream_law.specs.declared.graph.Join.{Join}
 use Rattle.stream_law.proofs.Placing.{Ascends-filter}
 use Rattle.fw_units.specs.declared.component.Component.{Component}
 use Rattle.fw_components.specs.Tables.{Tables}
-use Rattle.fw_components.specs.Kept.{IsKept, IsBuffering, IsPiping, IsStreaming, is_plain}
+use Rattle.fw_components.specs.Kept.{IsKept, IsUnitSound, IsBuffering, IsPiping, IsStreaming, is_plain}
 use Rattle.mbox_link.specs.Step.{touches}
 use Rattle.fw_units.specs.Changes.{has_id}
 use Rattle.fw_units.proofs.Ids.{all-left}
@@ -30,6 +30,7 @@ module _ (t : Tables) (kept : IsKept t) (id : ℕ) where
     buffers = kept.buffers;
     pipes = kept.pipes;
     plain = all-left (λ (c : Component). is_plain c.unit ≡ true) keep t.comps kept.plain;
+    sound = all-left (λ (c : Component). IsUnitSound c.unit) keep t.comps kept.sound;
     buffering = kept.buffering;
     piping = kept.piping;
     named = record {
@@ -50,6 +51,7 @@ module _ (t : Tables) (kept : IsKept t) (id : ℕ) where
     buffers = omega (arith, kept.buffers, fewer keep t.buffers);
     pipes = kept.pipes;
     plain = kept.plain;
+    sound = kept.sound;
     buffering = all-left (λ (c : Component). IsBuffering c.unit) keep t.buffers kept.buffering;
     piping = kept.piping;
     named = record {
@@ -70,6 +72,7 @@ module _ (t : Tables) (kept : IsKept t) (id : ℕ) where
     buffers = kept.buffers;
     pipes = omega (arith, kept.pipes, fewer keep t.pipes);
     plain = kept.plain;
+    sound = kept.sound;
     buffering = kept.buffering;
     piping = all-left (λ (c : Component). IsPiping c.unit) keep t.pipes kept.piping;
     named = record {

@@ -29,6 +29,7 @@ empty-kept = record {
   buffers = omega arith;
   pipes = omega arith;
   plain = tt;
+  sound = tt;
   buffering = tt;
   piping = tt;
   named = record { comps = tt; buffers = tt; pipes = tt; comps_buffers = tt; comps_pipes = tt; buffers_pipes = tt };
@@ -50,6 +51,7 @@ length-changed f (c ∷ cs) = ap suc (length-changed f cs)
 pub new-sound : (u : units.Unit) → IsNew u → IsUnitSound u
 new-sound (Buffer size ring source sink) fresh = fresh.3
 new-sound (Pipeline sched period complete piece) fresh = fresh
+new-sound (Volume gains ramp from done frames piece) fresh = (fresh.3, fresh.2, fresh.4, fresh.5)
 new-sound u fresh = tt
 
 pub new-streaming : (u : units.Unit) → IsNew u → IsStreaming u
@@ -96,6 +98,7 @@ module _ (t : Tables) (kept : IsKept t) where
         buffers = kept.buffers;
         pipes = kept.pipes;
         plain = each-placed (λ x. is_plain x.unit ≡ true) c t.comps (ap (λ (p : Bool × Bool). not (p.0 || p.1)) (λ i. (buffer i, pipeline i))) kept.plain;
+        sound = each-placed (λ x. IsUnitSound x.unit) c t.comps (new-sound c.unit fresh) kept.sound;
         buffering = kept.buffering;
         piping = kept.piping;
         named = record {
@@ -118,6 +121,7 @@ module _ (t : Tables) (kept : IsKept t) where
         buffers = omega (arith, room, length-placed (λ (x : Component). x.id) c t.buffers);
         pipes = kept.pipes;
         plain = kept.plain;
+        sound = kept.sound;
         buffering = each-placed (λ x. IsBuffering x.unit) c t.buffers (buffer, new-sound c.unit fresh) kept.buffering;
         piping = kept.piping;
         named = record {
@@ -140,6 +144,7 @@ module _ (t : Tables) (kept : IsKept t) where
         buffers = kept.buffers;
         pipes = omega (arith, room, length-placed (λ (x : Component). x.id) c t.pipes);
         plain = kept.plain;
+        sound = kept.sound;
         buffering = kept.buffering;
         piping = each-placed (λ x. IsPiping x.unit) c t.pipes (pipeline, new-sound c.unit fresh) kept.piping;
         named = record {
@@ -154,13 +159,14 @@ module _ (t : Tables) (kept : IsKept t) where
         streaming = kept.streaming;
       })
 
-  -- components are changed, each under its id, to no buffer and no pipeline, and with a right stream
-  pub comps-changed : (f : Component → Component) (new : List Component) → ((c : Component) → (f c).id ≡ c.id) → ((c : Component) → is_plain c.unit ≡ true → is_plain (f c).unit ≡ true) → ((c : Component) → IsStreaming c.unit → IsStreaming (f c).unit) → new ≡ map f t.comps → IsKept (record { comps = new; buffers = t.buffers; pipes = t.pipes; joins = t.joins })
-  comps-changed f new same plain streaming is = subst (λ cs. IsKept (record { comps = cs; buffers = t.buffers; pipes = t.pipes; joins = t.joins })) (sym is) (record {
+  -- components are changed, each under its id, to no buffer and no pipeline, as it should be, and with a right stream
+  pub comps-changed : (f : Component → Component) (new : List Component) → ((c : Component) → (f c).id ≡ c.id) → ((c : Component) → is_plain c.unit ≡ true → is_plain (f c).unit ≡ true) → AllByRecursion (λ c. IsUnitSound c.unit) (map f t.comps) → ((c : Component) → IsStreaming c.unit → IsStreaming (f c).unit) → new ≡ map f t.comps → IsKept (record { comps = new; buffers = t.buffers; pipes = t.pipes; joins = t.joins })
+  comps-changed f new same plain sound streaming is = subst (λ cs. IsKept (record { comps = cs; buffers = t.buffers; pipes = t.pipes; joins = t.joins })) (sym is) (record {
     comps = subst (λ n. n ≤ 128) (sym (length-changed f t.comps)) kept.comps;
     buffers = kept.buffers;
     pipes = kept.pipes;
     plain = all-map (λ c. is_plain c.unit ≡ true) f plain t.comps kept.plain;
+    sound = sound;
     buffering = kept.buffering;
     piping = kept.piping;
     named = record {
@@ -193,6 +199,7 @@ module _ (t : Tables) (kept : IsKept t) where
     buffers = subst (λ n. n ≤ 128) (sym (length-changed f t.buffers)) kept.buffers;
     pipes = kept.pipes;
     plain = kept.plain;
+    sound = kept.sound;
     buffering = all-map (λ c. IsBuffering c.unit) f buffer t.buffers kept.buffering;
     piping = kept.piping;
     named = buffers-named f same t.joins;
@@ -206,6 +213,7 @@ module _ (t : Tables) (kept : IsKept t) where
     buffers = kept.buffers;
     pipes = subst (λ n. n ≤ 32) (sym (length-changed f t.pipes)) kept.pipes;
     plain = kept.plain;
+    sound = kept.sound;
     buffering = kept.buffering;
     piping = all-map (λ c. IsPiping c.unit) f pipeline t.pipes kept.piping;
     named = record {
@@ -232,6 +240,7 @@ module _ (t : Tables) (kept : IsKept t) where
     buffers = subst (λ n. n ≤ 128) (sym (length-changed (joined_at j) t.buffers)) kept.buffers;
     pipes = kept.pipes;
     plain = kept.plain;
+    sound = kept.sound;
     buffering = all-map (λ c. IsBuffering c.unit) (joined_at j) (joined-buffering j) t.buffers kept.buffering;
     piping = kept.piping;
     named = buffers-named (joined_at j) (joined-id j) (t.joins ++ j ∷ []);
@@ -248,6 +257,10 @@ completed-pipeline u e = e
 set-plain : (phase : Phase) (params : Option Params) (u : units.Unit) → is_plain u ≡ true → is_plain (set_unit phase params u) ≡ true
 set-plain phase params (Host capture was before piece) e = refl
 set-plain phase params u e = e
+
+set-sound : (phase : Phase) (params : Option Params) (u : units.Unit) → IsUnitSound u → IsUnitSound (set_unit phase params u)
+set-sound phase params (Host capture was before piece) e = tt
+set-sound phase params u e = e
 
 set-streaming : (phase : Phase) (params : Option Params) → IsStreamOf (is_idle_phase phase) params → (u : units.Unit) → IsStreaming u → IsStreaming (set_unit phase params u)
 set-streaming phase params right (Host capture was before piece) e = right
@@ -268,6 +281,9 @@ at-unit P g keeps id c e = by (c.id == id)
     by true = keeps c e
     by false = e
 
+pub sound-changed : (g : Component → Component) → ((c : Component) → IsUnitSound c.unit → IsUnitSound (g c).unit) → (id : ℕ) (cs : List Component) → AllByRecursion (λ c. IsUnitSound c.unit) cs → AllByRecursion (λ c. IsUnitSound c.unit) (map (λ c. cond {A = Component} (c.id == id) (g c) c) cs)
+sound-changed g keeps id cs all = all-map (λ c. IsUnitSound c.unit) (λ c. cond {A = Component} (c.id == id) (g c) c) (at-unit IsUnitSound g keeps id) cs all
+
 pub at-sides : (g : Component → Component) → ((c : Component) → sides_by (g c).unit ≡ sides_by c.unit) → (id : ℕ) (c : Component) → sides_by (cond {A = Component} (c.id == id) (g c) c).unit ≡ sides_by c.unit
 at-sides g same id c = by (c.id == id)
   where
@@ -279,7 +295,7 @@ pub completed-kept : (t : Tables) → IsKept t → (id : ℕ) (new : List Compon
 completed-kept t kept id new is = pipes-changed t kept (completed_at id) new (at-id (with_unit completed_unit) (λ c. refl) id) (at-unit IsPiping (with_unit completed_unit) (λ c. completed-pipeline c.unit) id) is
 
 pub stream-kept : (t : Tables) → IsKept t → (id : ℕ) (phase : Phase) (params : Option Params) → IsStreamOf (is_idle_phase phase) params → (new : List Component) → new ≡ map (set_at id phase params) t.comps → IsKept (record { comps = new; buffers = t.buffers; pipes = t.pipes; joins = t.joins })
-stream-kept t kept id phase params right new is = comps-changed t kept (set_at id phase params) new (at-id (with_unit (set_unit phase params)) (λ c. refl) id) (at-unit (λ u. is_plain u ≡ true) (with_unit (set_unit phase params)) (λ c. set-plain phase params c.unit) id) (at-unit IsStreaming (with_unit (set_unit phase params)) (λ c. set-streaming phase params right c.unit) id) is
+stream-kept t kept id phase params right new is = comps-changed t kept (set_at id phase params) new (at-id (with_unit (set_unit phase params)) (λ c. refl) id) (at-unit (λ u. is_plain u ≡ true) (with_unit (set_unit phase params)) (λ c. set-plain phase params c.unit) id) (sound-changed (with_unit (set_unit phase params)) (λ c. set-sound phase params c.unit) id t.comps kept.sound) (at-unit IsStreaming (with_unit (set_unit phase params)) (λ c. set-streaming phase params right c.unit) id) is
 
 ended-buffer : (u : units.Unit) → IsBuffering u → IsBuffering (ended_unit u)
 ended-buffer (Buffer size ring source sink) e = e
@@ -291,15 +307,3 @@ ended-sides u = refl
 
 pub ended-kept : (t : Tables) → IsKept t → (id : ℕ) (new : List Component) → new ≡ map (with_ended id) t.buffers → IsKept (record { comps = t.comps; buffers = new; pipes = t.pipes; joins = t.joins })
 ended-kept t kept id new is = buffers-changed t kept (with_ended id) new (at-id (with_unit ended_unit) (λ c. refl) id) (at-sides (with_unit ended_unit) (λ c. ended-sides c.unit) id) (at-unit IsBuffering (with_unit ended_unit) (λ c. ended-buffer c.unit) id) is
-
-valued-plain : (values : List ℕ) (u : units.Unit) → is_plain u ≡ true → is_plain (valued_unit values u) ≡ true
-valued-plain values (Volume gains piece) e = refl
-valued-plain values (Mux choice piece) e = refl
-valued-plain values u e = e
-
-valued-streaming : (values : List ℕ) (u : units.Unit) → IsStreaming u → IsStreaming (valued_unit values u)
-valued-streaming values (Buffer size ring source sink) e = e
-valued-streaming values u e = e
-
-pub valued-kept : (t : Tables) → IsKept t → (id : ℕ) (values : List ℕ) (new : List Component) → new ≡ map (valued_at id values) t.comps → IsKept (record { comps = new; buffers = t.buffers; pipes = t.pipes; joins = t.joins })
-valued-kept t kept id values new is = comps-changed t kept (valued_at id values) new (at-id (with_unit (valued_unit values)) (λ c. refl) id) (at-unit (λ u. is_plain u ≡ true) (with_unit (valued_unit values)) (λ c. valued-plain values c.unit) id) (at-unit IsStreaming (with_unit (valued_unit values)) (λ c. valued-streaming values c.unit) id) is

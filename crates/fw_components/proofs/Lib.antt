@@ -2,6 +2,7 @@ mod Apart
 mod Begun
 mod Going
 mod GoneKept
+mod HeldRamps
 pub mod HostWays
 mod Joining
 mod KeptLaws
@@ -16,3 +17,4 @@ mod Started
 mod TallyKept
 pub mod Tallying
 mod Told
+mod ValuedKept

@@ -14,11 +14,11 @@ use Rattle.fw_units.specs.declared.component.Unit as units
 use Rattle.fw_units.specs.declared.component.Unit.TheVariants.{Eq, Buffer}
 use Rattle.fw_units.specs.Units.{comp_by, kind_by, setting_by}
 use Rattle.fw_components.specs.Tables.{Tables, graph_of}
-use Rattle.fw_components.specs.Kept.{IsKept, IsStreaming, is_plain}
+use Rattle.fw_components.specs.Kept.{IsKept, IsUnitSound, IsStreaming, is_plain}
 use Rattle.fw_components.specs.Changes.{is_there}
 use Rattle.fw_parts.specs.Staged.{staging_in, CanBeStaged}
 use Rattle.fw_components.specs.Parts.{part_or, part_got, takes_part, parted_unit, parted_by, parted_at, parted, part_set, staging_after, IsParted}
-use Rattle.fw_components.proofs.KeptLaws.{comps-changed, at-id, at-unit}
+use Rattle.fw_components.proofs.KeptLaws.{comps-changed, sound-changed, at-id, at-unit}
 use Rattle.fw_units.proofs.Taking.{never-found-by}
 
 -- ---- what a unit keeps
@@ -27,6 +27,10 @@ module _ (part : Part) (words : List ℤ) where
   parted-plain : (id : ℕ) (u : units.Unit) → is_plain u ≡ true → is_plain (parted_unit id part words u) ≡ true
   parted-plain id (Buffer size ring source sink) e = e
   parted-plain id u e = e
+
+  parted-sound : (id : ℕ) (u : units.Unit) → IsUnitSound u → IsUnitSound (parted_unit id part words u)
+  parted-sound id (Eq eq next remaining) e = tt
+  parted-sound id u e = e
 
   parted-streaming : ((part.remaining == 0) ≡ false → 260 * (part.index + 1) + part.remaining ≤ 992) → (id : ℕ) (u : units.Unit) → IsStreaming u → IsStreaming (parted_unit id part words u)
   parted-streaming within id (Eq eq next remaining) e = by (part.remaining == 0) refl
@@ -43,6 +47,7 @@ module _ (t : Tables) (kept : IsKept t) (id : ℕ) (part : Part) where
   parted-kept words bytes new joined is =
       comps-changed t kept (parted_at id part words) new (at-id (parted_by part words) (λ c. refl) id)
       (at-unit (λ u. is_plain u ≡ true) (parted_by part words) (λ c. parted-plain part words c.id c.unit) id)
+      (sound-changed (parted_by part words) (λ c. parted-sound part words c.id c.unit) id t.comps kept.sound)
       (at-unit IsStreaming (parted_by part words) (λ c. parted-streaming part words joined.within c.id c.unit) id)
       is
 

@@ -11,7 +11,7 @@ use Rattle.stream_law.specs.Joins.{joined_edge}
 use Rattle.fw_units.specs.declared.component.Component.{Component}
 use Rattle.fw_units.specs.declared.component.Unit as units
 use Rattle.fw_units.specs.declared.component.Unit.TheVariants.{Buffer}
-use Rattle.fw_units.specs.Units.{comp_by, edge_by, pipe_by, ring_by, streams_by, with_stream_by, setting_by, size_by, source_by, sink_by, sched_by, period_by, complete_by, is_buffer}
+use Rattle.fw_units.specs.Units.{comp_by, edge_by, pipe_by, ring_by, streams_by, with_stream_by, setting_by, ramp_by, size_by, source_by, sink_by, sched_by, period_by, complete_by, is_buffer}
 use Rattle.fw_units.specs.Changes.{joined_at, ended_unit, with_ended}
 use Rattle.fw_units.specs.Frames.{begun_unit, begun_by, begun_at}
 use Rattle.fw_components.specs.Frames.{with_frames}
@@ -39,21 +39,25 @@ edge_of_unit id pipe u = record { buffer = id; pipe = pipe; size = size_by u; so
 abbrev pipe_of_unit : ℕ → ℕ → units.Unit → Pipe
 pipe_of_unit id pipe u = record { id = id; index = pipe; sched = sched_by u; period = period_by u; complete = complete_by u }
 
-begun-setting : (channels : ℕ) → (words : List ℤ) → (u : units.Unit) → setting_by (begun_unit channels words u) ≡ setting_by u
-begun-setting channels words (Buffer size ring source sink) = refl
-begun-setting channels words u = refl
+begun-setting : (channels rate : ℕ) → (words : List ℤ) → (u : units.Unit) → setting_by (begun_unit channels rate words u) ≡ setting_by u
+begun-setting channels rate words (Buffer size ring source sink) = refl
+begun-setting channels rate words u = refl
 
-begun-edge : (id pipe : ℕ) → (channels : ℕ) → (words : List ℤ) → (u : units.Unit) → edge_of_unit id pipe (begun_unit channels words u) ≡ edge_of_unit id pipe u
-begun-edge id pipe channels words (Buffer size ring source sink) = refl
-begun-edge id pipe channels words u = refl
+begun-ramp : (channels rate : ℕ) → (words : List ℤ) → (u : units.Unit) → ramp_by (begun_unit channels rate words u) ≡ ramp_by u
+begun-ramp channels rate words (Buffer size ring source sink) = refl
+begun-ramp channels rate words u = refl
 
-begun-pipe : (id pipe : ℕ) → (channels : ℕ) → (words : List ℤ) → (u : units.Unit) → pipe_of_unit id pipe (begun_unit channels words u) ≡ pipe_of_unit id pipe u
-begun-pipe id pipe channels words (Buffer size ring source sink) = refl
-begun-pipe id pipe channels words u = refl
+begun-edge : (id pipe : ℕ) → (channels rate : ℕ) → (words : List ℤ) → (u : units.Unit) → edge_of_unit id pipe (begun_unit channels rate words u) ≡ edge_of_unit id pipe u
+begun-edge id pipe channels rate words (Buffer size ring source sink) = refl
+begun-edge id pipe channels rate words u = refl
 
-begun-stream : (id : ℕ) → (channels : ℕ) → (words : List ℤ) → (rest : List StreamView) → (u : units.Unit) → with_stream_by id (begun_unit channels words u) rest ≡ with_stream_by id u rest
-begun-stream id channels words rest (Buffer size ring source sink) = refl
-begun-stream id channels words rest u = refl
+begun-pipe : (id pipe : ℕ) → (channels rate : ℕ) → (words : List ℤ) → (u : units.Unit) → pipe_of_unit id pipe (begun_unit channels rate words u) ≡ pipe_of_unit id pipe u
+begun-pipe id pipe channels rate words (Buffer size ring source sink) = refl
+begun-pipe id pipe channels rate words u = refl
+
+begun-stream : (id : ℕ) → (channels rate : ℕ) → (words : List ℤ) → (rest : List StreamView) → (u : units.Unit) → with_stream_by id (begun_unit channels rate words u) rest ≡ with_stream_by id u rest
+begun-stream id channels rate words rest (Buffer size ring source sink) = refl
+begun-stream id channels rate words rest u = refl
 
 ended-edge : (id pipe : ℕ) → (u : units.Unit) → edge_of_unit id pipe (ended_unit u) ≡ edge_of_unit id pipe u
 ended-edge id pipe (Buffer size ring source sink) = refl
@@ -87,53 +91,53 @@ module _ (j : Join) where
 
 -- ---- beginnings
 
-module _ (id channels : ℕ) (words : List ℤ) where
-  comp-begun : (c : Component) → comp_by (begun_at id channels words c) ≡ comp_by c
+module _ (id channels rate : ℕ) (words : List ℤ) where
+  comp-begun : (c : Component) → comp_by (begun_at id channels rate words c) ≡ comp_by c
   comp-begun c = by (c.id == id)
     where
-      by : (h : Bool) → comp_by (cond {A = Component} h (begun_by channels words c) c) ≡ comp_by c
-      by true = λ i. record { id = c.id; kind = begun-kind channels words c.unit i; pipe = c.pipe; setting = begun-setting channels words c.unit i }
+      by : (h : Bool) → comp_by (cond {A = Component} h (begun_by channels rate words c) c) ≡ comp_by c
+      by true = λ i. record { id = c.id; kind = begun-kind channels rate words c.unit i; pipe = c.pipe; setting = begun-setting channels rate words c.unit i; ramp = begun-ramp channels rate words c.unit i }
       by false = refl
 
-  edge-begun : (c : Component) → edge_by (begun_at id channels words c) ≡ edge_by c
+  edge-begun : (c : Component) → edge_by (begun_at id channels rate words c) ≡ edge_by c
   edge-begun c = by (c.id == id)
     where
-      by : (h : Bool) → edge_by (cond {A = Component} h (begun_by channels words c) c) ≡ edge_by c
-      by true = begun-edge c.id c.pipe channels words c.unit
+      by : (h : Bool) → edge_by (cond {A = Component} h (begun_by channels rate words c) c) ≡ edge_by c
+      by true = begun-edge c.id c.pipe channels rate words c.unit
       by false = refl
 
-  pipe-begun : (c : Component) → pipe_by (begun_at id channels words c) ≡ pipe_by c
+  pipe-begun : (c : Component) → pipe_by (begun_at id channels rate words c) ≡ pipe_by c
   pipe-begun c = by (c.id == id)
     where
-      by : (h : Bool) → pipe_by (cond {A = Component} h (begun_by channels words c) c) ≡ pipe_by c
-      by true = begun-pipe c.id c.pipe channels words c.unit
+      by : (h : Bool) → pipe_by (cond {A = Component} h (begun_by channels rate words c) c) ≡ pipe_by c
+      by true = begun-pipe c.id c.pipe channels rate words c.unit
       by false = refl
 
-  ring-begun : (c : Component) → ring_by (begun_at id channels words c) ≡ with_frames (λ fs. []) id (ring_by c)
+  ring-begun : (c : Component) → ring_by (begun_at id channels rate words c) ≡ with_frames (λ fs. []) id (ring_by c)
   ring-begun c = by (c.id == id)
     where
-      by : (h : Bool) → ring_by (cond {A = Component} h (begun_by channels words c) c) ≡ cond h (record { buffer = c.id; frames = [] }) (ring_by c)
-      by true = ap (λ (fs : List Frame). record { buffer = c.id; frames = fs }) (begun-frames channels words c.unit)
+      by : (h : Bool) → ring_by (cond {A = Component} h (begun_by channels rate words c) c) ≡ cond h (record { buffer = c.id; frames = [] }) (ring_by c)
+      by true = ap (λ (fs : List Frame). record { buffer = c.id; frames = fs }) (begun-frames channels rate words c.unit)
       by false = refl
 
-  pub comps-begun : (cs : List Component) → map comp_by (map (begun_at id channels words) cs) ≡ map comp_by cs
-  comps-begun cs = map-same comp_by (begun_at id channels words) comp-begun cs
+  pub comps-begun : (cs : List Component) → map comp_by (map (begun_at id channels rate words) cs) ≡ map comp_by cs
+  comps-begun cs = map-same comp_by (begun_at id channels rate words) comp-begun cs
 
-  pub edges-begun : (cs : List Component) → map edge_by (map (begun_at id channels words) cs) ≡ map edge_by cs
-  edges-begun cs = map-same edge_by (begun_at id channels words) edge-begun cs
+  pub edges-begun : (cs : List Component) → map edge_by (map (begun_at id channels rate words) cs) ≡ map edge_by cs
+  edges-begun cs = map-same edge_by (begun_at id channels rate words) edge-begun cs
 
-  pub pipes-begun : (cs : List Component) → map pipe_by (map (begun_at id channels words) cs) ≡ map pipe_by cs
-  pipes-begun cs = map-same pipe_by (begun_at id channels words) pipe-begun cs
+  pub pipes-begun : (cs : List Component) → map pipe_by (map (begun_at id channels rate words) cs) ≡ map pipe_by cs
+  pipes-begun cs = map-same pipe_by (begun_at id channels rate words) pipe-begun cs
 
-  pub rings-begun : (cs : List Component) → map ring_by (map (begun_at id channels words) cs) ≡ map (with_frames (λ fs. []) id) (map ring_by cs)
-  rings-begun cs = map-after ring_by (with_frames (λ fs. []) id) (begun_at id channels words) ring-begun cs
+  pub rings-begun : (cs : List Component) → map ring_by (map (begun_at id channels rate words) cs) ≡ map (with_frames (λ fs. []) id) (map ring_by cs)
+  rings-begun cs = map-after ring_by (with_frames (λ fs. []) id) (begun_at id channels rate words) ring-begun cs
 
-  pub streams-begun : (cs : List Component) → streams_by (map (begun_at id channels words) cs) ≡ streams_by cs
+  pub streams-begun : (cs : List Component) → streams_by (map (begun_at id channels rate words) cs) ≡ streams_by cs
   streams-begun [] = refl
   streams-begun (c ∷ cs) = by (c.id == id) ∙ ap (with_stream_by c.id c.unit) (streams-begun cs)
     where
-      by : (h : Bool) → with_stream_by (cond {A = Component} h (begun_by channels words c) c).id (cond {A = Component} h (begun_by channels words c) c).unit (streams_by (map (begun_at id channels words) cs)) ≡ with_stream_by c.id c.unit (streams_by (map (begun_at id channels words) cs))
-      by true = begun-stream c.id channels words (streams_by (map (begun_at id channels words) cs)) c.unit
+      by : (h : Bool) → with_stream_by (cond {A = Component} h (begun_by channels rate words c) c).id (cond {A = Component} h (begun_by channels rate words c) c).unit (streams_by (map (begun_at id channels rate words) cs)) ≡ with_stream_by c.id c.unit (streams_by (map (begun_at id channels rate words) cs))
+      by true = begun-stream c.id channels rate words (streams_by (map (begun_at id channels rate words) cs)) c.unit
       by false = refl
 
 -- ---- endings

@@ -11,7 +11,7 @@ use Rattle.mbox_link.specs.Step.{completed, set_stream}
 use Rattle.fw_units.specs.declared.component.Component.{Component}
 use Rattle.fw_units.specs.declared.component.Unit as units
 use Rattle.fw_units.specs.declared.component.Unit.TheVariants.{Host, Buffer, Pipeline}
-use Rattle.fw_units.specs.Units.{comp_by, pipe_by, streams_by, with_stream_by, is_pipeline, kind_by, setting_by, sched_by, period_by, complete_by}
+use Rattle.fw_units.specs.Units.{comp_by, pipe_by, streams_by, with_stream_by, is_pipeline, kind_by, setting_by, ramp_by, sched_by, period_by, complete_by}
 use Rattle.fw_units.specs.Changes.{completed_at, completed_unit, set_at, set_unit}
 
 pub gone : {Y : Type 0} (f : Component → Y) (name : Y → ℕ) → ((c : Component) → name (f c) ≡ c.id) → (id : ℕ) (cs : List Component) → map f (filter (λ x. not (x.id == id)) cs) ≡ filter (λ y. not (name y == id)) (map f cs)
@@ -48,7 +48,7 @@ module _ (host : ℕ) (phase : Phase) (params : Option Params) where
   comp-one : (c : Component) → comp_by (set_at host phase params c) ≡ comp_by c
   comp-one c = by (c.id == host) c.unit
     where
-      by : (h : Bool) (u : units.Unit) → comp_by (cond h (record { id = c.id; pipe = c.pipe; channels = c.channels; unit = set_unit phase params u }) (record { id = c.id; pipe = c.pipe; channels = c.channels; unit = u })) ≡ record { id = c.id; kind = kind_by u; pipe = c.pipe; setting = setting_by u }
+      by : (h : Bool) (u : units.Unit) → comp_by (cond h (record { id = c.id; pipe = c.pipe; channels = c.channels; unit = set_unit phase params u }) (record { id = c.id; pipe = c.pipe; channels = c.channels; unit = u })) ≡ record { id = c.id; kind = kind_by u; pipe = c.pipe; setting = setting_by u; ramp = ramp_by u }
       by false u = refl
       by true (Buffer size ring source sink) = refl
       by true u = refl

@@ -1,20 +1,25 @@
 -- Tables once something begins, or has more frames.
-use Rattle.std.proofs.Common.{◌≡◌, refl, sym, ap, ◌∙◌, subst, ℕ, List, [], ◌∷◌, ◌++◌, map, Bool, true, false, cond, ◌==◌, ◌||◌, Option, Some, None, ℤ}
+use Rattle.std.proofs.Common.{◌≡◌, refl, sym, ap, ◌∙◌, subst, ℕ, List, [], ◌∷◌, ◌++◌, ◌/◌, ◌≤◌, min, length, map, Bool, true, false, cond, ◌==◌, ◌||◌, Option, Some, None, ℤ, set, get_or}
 use Rattle.std.proofs.lemmas.Bool.{eq-eqb, or_parts, or_left, or_right}
-use Rattle.std.specs.Prelude.{find, option_map}
+use Rattle.std.specs.Prelude.{find, option_map, position}
 use Rattle.std.specs.Option.{option_map_or}
 use Rattle.std.specs.List.{list_any}
+use Rattle.stream_law.specs.Placed.{Ascends}
 use Rattle.sof_base.specs.Samples.{Frame}
 use Rattle.fw_units.specs.declared.component.Component.{Component}
 use Rattle.fw_components.specs.Tables.{Tables}
 use Rattle.fw_components.specs.Kept.{IsKept}
 use Rattle.fw_units.specs.Changes.{has_id}
 use Rattle.fw_components.specs.Changes.{found}
-use Rattle.fw_units.specs.Frames.{words_by, begun_by, begun_at, IsFreshBy, staged_in, staged_of_one, pushed_by, pushed_at}
+use Rattle.fw_units.specs.Units.{unit_frames}
+use Rattle.fw_units.specs.Frames.{buffer_frames, channels_by, channels_in, IsFresh, staged_by, kept_words, words_by, begun_by, begun_at, IsFreshBy, staged_in, staged_of_one, pushed_by, pushed_at}
 use Rattle.fw_components.specs.Frames.{words_at, begun, staged_at, pushed}
 use Rattle.fw_units.proofs.Ids.{has-map}
+use Rattle.fw_units.proofs.Putting.{put-words}
+use Rattle.fw_units.proofs.Standing.{frames-is, channels-is, fewest}
+use Rattle.fw_units.proofs.Taking.{taken-found}
 use Rattle.fw_components.proofs.Apart.{not-first, not-second}
-use Rattle.fw_units.proofs.Found.{find-first, find-past}
+use Rattle.fw_units.proofs.Found.{find-first, find-past, placed-there}
 use Rattle.fw_components.proofs.KeptLaws.{at-id}
 
 -- where no one has the id nothing changes
@@ -25,41 +30,53 @@ none-here g id (c ∷ cs) none =
     ap (λ h. cond {A = Component} h (g c) c ∷ map (λ c. cond {A = Component} (c.id == id) (g c) c) cs) parts.0 ∙ ap (λ (xs : List Component). c ∷ xs) (none-here g id cs parts.1)
 
 module _ (t : Tables) (kept : IsKept t) (id : ℕ) where
-  module _ (channels : ℕ) (new : List Component) where
-    there-still : (words : List ℤ) (cs : List Component) → has_id cs id ≡ true → new ≡ map (begun_at id channels words) cs → has_id new id ≡ true
-    there-still words cs there is = ap (λ (xs : List Component). has_id xs id) is ∙ has-map (begun_at id channels words) (at-id (begun_by channels words) (λ c. refl) id) id cs ∙ there
+  module _ (channels rate at : ℕ) (x y : Component) where
+    -- what stands at the place of the id begins
+    abbrev IsBegun : List Component → Type 0
+    IsBegun cs = (set cs at y ≡ map (begun_at id channels rate (words_by (find (λ c. c.id == id) (set cs at y)))) cs) × (IsFreshBy (find (λ c. c.id == id) (set cs at y)) × (staged_in (set cs at y) id ≡ staged_in cs id))
+
+    pub begun-put : (cs : List Component) → Ascends (λ c. c.id) cs → Some at ≡ position (λ c. c.id == id) cs → x ≡ get_or cs at x → y ≡ begun_by channels rate (kept_words y) x → IsFresh y.unit → staged_by y.unit ≡ staged_by x.unit → IsBegun cs
+    begun-put cs ascends place is begun fresh staged =
+        let put = put-words (begun_by channels rate) (λ words c. refl) id at cs (set cs at y) y x ascends place refl (begun ∙ ap (begun_by channels rate (kept_words y)) is) in
+        (put.1, (subst IsFreshBy put.0 fresh, ap staged_of_one (sym put.0) ∙ staged ∙ ap staged_of_one (ap (λ (c : Component). Some c) is ∙ taken-found id cs at x place)))
+
+    there-still : (new : List Component) (words : List ℤ) (cs : List Component) → has_id cs id ≡ true → new ≡ map (begun_at id channels rate words) cs → has_id new id ≡ true
+    there-still new words cs there is = ap (λ (xs : List Component). has_id xs id) is ∙ has-map (begun_at id channels rate words) (at-id (begun_by channels rate words) (λ c. refl) id) id cs ∙ there
 
     abbrev Begun : Tables → Type 0
-    Begun now = (now ≡ begun id channels (words_at now id) t) × (IsFreshBy (found now id) × (staged_at now id ≡ staged_at t id))
+    Begun now = (now ≡ begun id channels rate (words_at now id) t) × (IsFreshBy (found now id) × (staged_at now id ≡ staged_at t id))
 
-    pub comp-begins : has_id t.comps id ≡ true → new ≡ map (begun_at id channels (words_by (find (λ c. c.id == id) new))) t.comps → IsFreshBy (find (λ c. c.id == id) new) → staged_in new id ≡ staged_in t.comps id → Begun (record { comps = new; buffers = t.buffers; pipes = t.pipes; joins = t.joins })
-    comp-begins there is fresh staged =
+    pub comp-begins : Some at ≡ position (λ c. c.id == id) t.comps → IsBegun t.comps → Begun (record { comps = set t.comps at y; buffers = t.buffers; pipes = t.pipes; joins = t.joins })
+    comp-begins place put =
+        let new = set t.comps at y in let there = placed-there id t.comps at place in
         let rest = t.buffers ++ t.pipes in
-        let at : find (λ c. c.id == id) (new ++ rest) ≡ find (λ c. c.id == id) new = find-first id new rest (there-still (words_by (find (λ c. c.id == id) new)) t.comps there is) in
+        let stands : find (λ c. c.id == id) (new ++ rest) ≡ find (λ c. c.id == id) new = find-first id new rest (there-still new (words_by (find (λ c. c.id == id) new)) t.comps there put.0) in
         let before : find (λ c. c.id == id) (t.comps ++ rest) ≡ find (λ c. c.id == id) t.comps = find-first id t.comps rest there in
         let words = words_by (find (λ c. c.id == id) (new ++ rest)) in
-        let no_buffer = none-here (begun_by channels words) id t.buffers (not-second id t.comps t.buffers kept.named.comps_buffers there) in
-        let no_pipe = none-here (begun_by channels words) id t.pipes (not-second id t.comps t.pipes kept.named.comps_pipes there) in
-        ((λ i. record { comps = (is ∙ ap (λ (o : Option Component). map (begun_at id channels (words_by o)) t.comps) (sym at)) i; buffers = sym no_buffer i; pipes = sym no_pipe i; joins = t.joins }), (subst IsFreshBy (sym at) fresh, ap staged_of_one at ∙ staged ∙ ap staged_of_one (sym before)))
+        let no_buffer = none-here (begun_by channels rate words) id t.buffers (not-second id t.comps t.buffers kept.named.comps_buffers there) in
+        let no_pipe = none-here (begun_by channels rate words) id t.pipes (not-second id t.comps t.pipes kept.named.comps_pipes there) in
+        ((λ i. record { comps = (put.0 ∙ ap (λ (o : Option Component). map (begun_at id channels rate (words_by o)) t.comps) (sym stands)) i; buffers = sym no_buffer i; pipes = sym no_pipe i; joins = t.joins }), (subst IsFreshBy (sym stands) put.1.0, ap staged_of_one stands ∙ put.1.1 ∙ ap staged_of_one (sym before)))
 
-    pub buffer-begins : has_id t.buffers id ≡ true → new ≡ map (begun_at id channels (words_by (find (λ c. c.id == id) new))) t.buffers → IsFreshBy (find (λ c. c.id == id) new) → staged_in new id ≡ staged_in t.buffers id → Begun (record { comps = t.comps; buffers = new; pipes = t.pipes; joins = t.joins })
-    buffer-begins there is fresh staged =
+    pub buffer-begins : Some at ≡ position (λ c. c.id == id) t.buffers → IsBegun t.buffers → Begun (record { comps = t.comps; buffers = set t.buffers at y; pipes = t.pipes; joins = t.joins })
+    buffer-begins place put =
+        let new = set t.buffers at y in let there = placed-there id t.buffers at place in
         let gone = not-first id t.comps t.buffers kept.named.comps_buffers there in
-        let at : find (λ c. c.id == id) (t.comps ++ (new ++ t.pipes)) ≡ find (λ c. c.id == id) new = find-past id t.comps (new ++ t.pipes) gone ∙ find-first id new t.pipes (there-still (words_by (find (λ c. c.id == id) new)) t.buffers there is) in
+        let stands : find (λ c. c.id == id) (t.comps ++ (new ++ t.pipes)) ≡ find (λ c. c.id == id) new = find-past id t.comps (new ++ t.pipes) gone ∙ find-first id new t.pipes (there-still new (words_by (find (λ c. c.id == id) new)) t.buffers there put.0) in
         let before : find (λ c. c.id == id) (t.comps ++ (t.buffers ++ t.pipes)) ≡ find (λ c. c.id == id) t.buffers = find-past id t.comps (t.buffers ++ t.pipes) gone ∙ find-first id t.buffers t.pipes there in
         let words = words_by (find (λ c. c.id == id) (t.comps ++ (new ++ t.pipes))) in
-        let no_comp = none-here (begun_by channels words) id t.comps gone in
-        let no_pipe = none-here (begun_by channels words) id t.pipes (not-second id t.buffers t.pipes kept.named.buffers_pipes there) in
-        ((λ i. record { comps = sym no_comp i; buffers = (is ∙ ap (λ (o : Option Component). map (begun_at id channels (words_by o)) t.buffers) (sym at)) i; pipes = sym no_pipe i; joins = t.joins }), (subst IsFreshBy (sym at) fresh, ap staged_of_one at ∙ staged ∙ ap staged_of_one (sym before)))
+        let no_comp = none-here (begun_by channels rate words) id t.comps gone in
+        let no_pipe = none-here (begun_by channels rate words) id t.pipes (not-second id t.buffers t.pipes kept.named.buffers_pipes there) in
+        ((λ i. record { comps = sym no_comp i; buffers = (put.0 ∙ ap (λ (o : Option Component). map (begun_at id channels rate (words_by o)) t.buffers) (sym stands)) i; pipes = sym no_pipe i; joins = t.joins }), (subst IsFreshBy (sym stands) put.1.0, ap staged_of_one stands ∙ put.1.1 ∙ ap staged_of_one (sym before)))
 
-    pub pipe-begins : has_id t.comps id ≡ false → has_id t.buffers id ≡ false → new ≡ map (begun_at id channels (words_by (find (λ c. c.id == id) new))) t.pipes → IsFreshBy (find (λ c. c.id == id) new) → staged_in new id ≡ staged_in t.pipes id → Begun (record { comps = t.comps; buffers = t.buffers; pipes = new; joins = t.joins })
-    pipe-begins gone far is fresh staged =
-        let at : find (λ c. c.id == id) (t.comps ++ (t.buffers ++ new)) ≡ find (λ c. c.id == id) new = find-past id t.comps (t.buffers ++ new) gone ∙ find-past id t.buffers new far in
+    pub pipe-begins : has_id t.comps id ≡ false → has_id t.buffers id ≡ false → IsBegun t.pipes → Begun (record { comps = t.comps; buffers = t.buffers; pipes = set t.pipes at y; joins = t.joins })
+    pipe-begins gone far put =
+        let new = set t.pipes at y in
+        let stands : find (λ c. c.id == id) (t.comps ++ (t.buffers ++ new)) ≡ find (λ c. c.id == id) new = find-past id t.comps (t.buffers ++ new) gone ∙ find-past id t.buffers new far in
         let before : find (λ c. c.id == id) (t.comps ++ (t.buffers ++ t.pipes)) ≡ find (λ c. c.id == id) t.pipes = find-past id t.comps (t.buffers ++ t.pipes) gone ∙ find-past id t.buffers t.pipes far in
         let words = words_by (find (λ c. c.id == id) (t.comps ++ (t.buffers ++ new))) in
-        let no_comp = none-here (begun_by channels words) id t.comps gone in
-        let no_buffer = none-here (begun_by channels words) id t.buffers far in
-        ((λ i. record { comps = sym no_comp i; buffers = sym no_buffer i; pipes = (is ∙ ap (λ (o : Option Component). map (begun_at id channels (words_by o)) t.pipes) (sym at)) i; joins = t.joins }), (subst IsFreshBy (sym at) fresh, ap staged_of_one at ∙ staged ∙ ap staged_of_one (sym before)))
+        let no_comp = none-here (begun_by channels rate words) id t.comps gone in
+        let no_buffer = none-here (begun_by channels rate words) id t.buffers far in
+        ((λ i. record { comps = sym no_comp i; buffers = sym no_buffer i; pipes = (put.0 ∙ ap (λ (o : Option Component). map (begun_at id channels rate (words_by o)) t.pipes) (sym stands)) i; joins = t.joins }), (subst IsFreshBy (sym stands) put.1.0, ap staged_of_one stands ∙ put.1.1 ∙ ap staged_of_one (sym before)))
 
   -- a buffer has more frames
   pub more-frames : (frames : List Frame) (new : List Component) → has_id t.buffers id ≡ true → new ≡ map (pushed_at id frames (words_by (find (λ c. c.id == id) new))) t.buffers → record { comps = t.comps; buffers = new; pipes = t.pipes; joins = t.joins } ≡ pushed id frames (words_at (record { comps = t.comps; buffers = new; pipes = t.pipes; joins = t.joins }) id) t
@@ -69,6 +86,9 @@ module _ (t : Tables) (kept : IsKept t) (id : ℕ) where
       let still : has_id new id ≡ true = ap (λ (xs : List Component). has_id xs id) is ∙ has-map (pushed_at id frames words) (at-id (pushed_by frames words) (λ c. refl) id) id t.buffers ∙ there in
       let at : find (λ c. c.id == id) (t.comps ++ (new ++ t.pipes)) ≡ find (λ c. c.id == id) new = find-past id t.comps (new ++ t.pipes) gone ∙ find-first id new t.pipes still in
       ap (λ (cs : List Component). record { comps = t.comps; buffers = cs; pipes = t.pipes; joins = t.joins }) (is ∙ ap (λ (o : Option Component). map (pushed_at id frames (words_by o)) t.buffers) (sym at))
+
+pub most-taken : (id : ℕ) (cs : List Component) (c : Component) → Some c ≡ find (λ x. x.id == id) cs → (n k : ℕ) → k ≡ min (n / channels_by c.unit) (length (unit_frames c.unit)) → n / channels_in cs id ≤ length (buffer_frames cs id) → k ≡ n / channels_in cs id
+most-taken id cs c it n k is held = fewest (n / channels_in cs id) (length (buffer_frames cs id)) k (is ∙ (λ i. min (n / channels-is id cs c it i) (length (frames-is id cs c it i)))) held
 
 -- ---- the first that passes a test
 

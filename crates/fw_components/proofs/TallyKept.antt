@@ -28,9 +28,9 @@ use Rattle.fw_units.proofs.Units.{begun-kind, valued-kind}
 
 -- ---- each change keeps streams and kinds
 
-begun-stream : (channels : ℕ) (words : List ℤ) (id : ℕ) (ss : List StreamView) (u : units.Unit) → with_stream_by id (begun_unit channels words u) ss ≡ with_stream_by id u ss
-begun-stream channels words id ss (Buffer size ring source sink) = refl
-begun-stream channels words id ss u = refl
+begun-stream : (channels rate : ℕ) (words : List ℤ) (id : ℕ) (ss : List StreamView) (u : units.Unit) → with_stream_by id (begun_unit channels rate words u) ss ≡ with_stream_by id u ss
+begun-stream channels rate words id ss (Buffer size ring source sink) = refl
+begun-stream channels rate words id ss u = refl
 
 valued-stream : (values : List ℕ) (id : ℕ) (ss : List StreamView) (u : units.Unit) → with_stream_by id (valued_unit values u) ss ≡ with_stream_by id u ss
 valued-stream values id ss (Buffer size ring source sink) = refl
@@ -44,13 +44,13 @@ parted-kind : (id : ℕ) → (part : Part) → (words : List ℤ) → (u : units
 parted-kind id part words (Buffer size ring source sink) = refl
 parted-kind id part words u = refl
 
-run-stream : (words : List ℤ) (id : ℕ) (ss : List StreamView) (u : units.Unit) → with_stream_by id (run_unit words u) ss ≡ with_stream_by id u ss
-run-stream words id ss (Buffer size ring source sink) = refl
-run-stream words id ss u = refl
+run-stream : (words : List ℤ) (n id : ℕ) (ss : List StreamView) (u : units.Unit) → with_stream_by id (run_unit words n u) ss ≡ with_stream_by id u ss
+run-stream words n id ss (Buffer size ring source sink) = refl
+run-stream words n id ss u = refl
 
-run-kind : (words : List ℤ) → (u : units.Unit) → kind_by (run_unit words u) ≡ kind_by u
-run-kind words (Buffer size ring source sink) = refl
-run-kind words u = refl
+run-kind : (words : List ℤ) → (n : ℕ) → (u : units.Unit) → kind_by (run_unit words n u) ≡ kind_by u
+run-kind words n (Buffer size ring source sink) = refl
+run-kind words n u = refl
 
 -- another unit
 abbrev with_unit : (units.Unit → units.Unit) → Component → Component
@@ -124,11 +124,11 @@ any-live id (c ∷ cs) out =
 -- ---- the tables after a change
 
 module _ (t : Tables) (s : Tallies) (tied : IsTallied t s) (id : ℕ) where
-  pub begun-tallied : (channels : ℕ) (words : List ℤ) (new : List Component) → new ≡ map (begun_at id channels words) t.comps → IsTallied (record { comps = new; buffers = t.buffers; pipes = t.pipes; joins = t.joins }) s
-  begun-tallied channels words new is = comps-tallied t s tied (begun_at id channels words) new is
-      (at-same (λ c. c.id) (begun_by channels words) (λ c. refl) id)
-      (λ c ss. at-same (λ c. with_stream_by c.id c.unit ss) (begun_by channels words) (λ c. begun-stream channels words c.id ss c.unit) id c)
-      (at-same (λ c. kind_by c.unit) (begun_by channels words) (λ c. begun-kind channels words c.unit) id)
+  pub begun-tallied : (channels rate : ℕ) (words : List ℤ) (new : List Component) → new ≡ map (begun_at id channels rate words) t.comps → IsTallied (record { comps = new; buffers = t.buffers; pipes = t.pipes; joins = t.joins }) s
+  begun-tallied channels rate words new is = comps-tallied t s tied (begun_at id channels rate words) new is
+      (at-same (λ c. c.id) (begun_by channels rate words) (λ c. refl) id)
+      (λ c ss. at-same (λ c. with_stream_by c.id c.unit ss) (begun_by channels rate words) (λ c. begun-stream channels rate words c.id ss c.unit) id c)
+      (at-same (λ c. kind_by c.unit) (begun_by channels rate words) (λ c. begun-kind channels rate words c.unit) id)
 
   pub valued-tallied : (values : List ℕ) (new : List Component) → new ≡ map (valued_at id values) t.comps → IsTallied (record { comps = new; buffers = t.buffers; pipes = t.pipes; joins = t.joins }) s
   valued-tallied values new is = comps-tallied t s tied (valued_at id values) new is
@@ -142,8 +142,8 @@ module _ (t : Tables) (s : Tallies) (tied : IsTallied t s) (id : ℕ) where
       (λ c ss. at-same (λ c. with_stream_by c.id c.unit ss) (parted_by part words) (λ c. parted-stream part words c.id ss c.unit) id c)
       (at-same (λ c. kind_by c.unit) (parted_by part words) (λ c. parted-kind c.id part words c.unit) id)
 
-  pub begun-buffers-tallied : (channels : ℕ) (words : List ℤ) (new : List Component) → new ≡ map (begun_at id channels words) t.buffers → IsTallied (record { comps = t.comps; buffers = new; pipes = t.pipes; joins = t.joins }) s
-  begun-buffers-tallied channels words new is = buffers-tallied t s tied (begun_at id channels words) new is (at-same (λ c. c.id) (begun_by channels words) (λ c. refl) id)
+  pub begun-buffers-tallied : (channels rate : ℕ) (words : List ℤ) (new : List Component) → new ≡ map (begun_at id channels rate words) t.buffers → IsTallied (record { comps = t.comps; buffers = new; pipes = t.pipes; joins = t.joins }) s
+  begun-buffers-tallied channels rate words new is = buffers-tallied t s tied (begun_at id channels rate words) new is (at-same (λ c. c.id) (begun_by channels rate words) (λ c. refl) id)
 
   pub pushed-tallied : (frames : List Frame) (words : List ℤ) (new : List Component) → new ≡ map (pushed_at id frames words) t.buffers → IsTallied (record { comps = t.comps; buffers = new; pipes = t.pipes; joins = t.joins }) s
   pushed-tallied frames words new is = buffers-tallied t s tied (pushed_at id frames words) new is (at-same (λ c. c.id) (pushed_by frames words) (λ c. refl) id)
@@ -154,12 +154,12 @@ module _ (t : Tables) (s : Tallies) (tied : IsTallied t s) (id : ℕ) where
   pub ended-tallied : (new : List Component) → new ≡ map (with_ended id) t.buffers → IsTallied (record { comps = t.comps; buffers = new; pipes = t.pipes; joins = t.joins }) s
   ended-tallied new is = buffers-tallied t s tied (with_ended id) new is (at-same (λ c. c.id) (with_unit ended_unit) (λ c. refl) id)
 
-  pub processed-tallied : (fed n : ℕ) (looked : List ℕ) (frames : List Frame) (w v : List ℤ) (comps buffers : List Component) → comps ≡ map (run_at id w) t.comps → buffers ≡ map (pushed_at fed frames v) (map (drained_at looked n) t.buffers) → IsTallied (record { comps = comps; buffers = buffers; pipes = t.pipes; joins = t.joins }) s
+  pub processed-tallied : (fed n : ℕ) (looked : List ℕ) (frames : List Frame) (w v : List ℤ) (comps buffers : List Component) → comps ≡ map (run_at id w n) t.comps → buffers ≡ map (pushed_at fed frames v) (map (drained_at looked n) t.buffers) → IsTallied (record { comps = comps; buffers = buffers; pipes = t.pipes; joins = t.joins }) s
   processed-tallied fed n looked frames w v comps buffers run moved =
-      let one = comps-tallied t s tied (run_at id w) comps run
-      (at-same (λ c. c.id) (run_by w) (λ c. refl) id)
-      (λ c ss. at-same (λ c. with_stream_by c.id c.unit ss) (run_by w) (λ c. run-stream w c.id ss c.unit) id c)
-      (at-same (λ c. kind_by c.unit) (run_by w) (λ c. run-kind w c.unit) id) in
+      let one = comps-tallied t s tied (run_at id w n) comps run
+      (at-same (λ c. c.id) (run_by w n) (λ c. refl) id)
+      (λ c ss. at-same (λ c. with_stream_by c.id c.unit ss) (run_by w n) (λ c. run-stream w n c.id ss c.unit) id c)
+      (at-same (λ c. kind_by c.unit) (run_by w n) (λ c. run-kind w n c.unit) id) in
       let drained = map (drained_at looked n) t.buffers in
       let two = buffers-tallied (record { comps = comps; buffers = t.buffers; pipes = t.pipes; joins = t.joins }) s one (drained_at looked n) drained refl (drained-id looked n) in
       buffers-tallied (record { comps = comps; buffers = drained; pipes = t.pipes; joins = t.joins }) s two (pushed_at fed frames v) buffers moved (at-same (λ c. c.id) (pushed_by frames v) (λ c. refl) fed)

@@ -44,10 +44,13 @@ is_idle_phase Idle = true
 is_idle_phase phase = false
 
 -- a buffer is joined to nothing, and its ring is empty and has the words of its bytes; a host is Idle and without parameters; of
--- an equaliser's blob nothing is staged; a volume has 1 to 8 gains of at most 16777216; a period is that of a message
+-- an equaliser's blob nothing is staged; a volume has 1 to 8 gains of at most 16777216, as many to go from, and a ramp of at most 10000
+-- milliseconds; a period is that of a message
 abbrev pub IsNew : units.Unit → Type 0
 IsNew (Host capture phase params piece) = (is_idle_phase phase ≡ true) × (params ≡ None)
-IsNew (Volume gains piece) = (1 ≤ length gains) × (length gains ≤ 8) × (list_all (λ g. nat_le g 16777216) gains ≡ true)
+IsNew (Volume gains ramp from done frames piece) =
+    (1 ≤ length gains) × (length gains ≤ 8) × (list_all (λ g. nat_le g 16777216) gains ≡ true)
+    × (length from ≡ length gains) × (list_all (λ g. nat_le g 16777216) from ≡ true) × (ramp ≤ 10000)
 IsNew (Eq eq next remaining) = (next ≡ 0) × (remaining ≡ 0)
 IsNew (Buffer size ring source sink) = (source ≡ None) × (sink ≡ None) × (ring.frames ≡ []) × (ring.words ≡ size / 4)
 IsNew (Pipeline sched period complete piece) = (1000 ≤ period) × (period ≤ 10000) × (period % 1000 ≡ 0)

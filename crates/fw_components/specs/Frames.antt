@@ -13,12 +13,12 @@ words_at t id = words_by (found t id)
 
 -- ---- what begins
 
--- the tables once the one of an id has so many channels, with the words of its piece after that
-abbrev pub begun : ℕ → ℕ → List ℤ → Tables → Tables
-begun id channels words t = record {
-  comps = map (begun_at id channels words) t.comps;
-  buffers = map (begun_at id channels words) t.buffers;
-  pipes = map (begun_at id channels words) t.pipes;
+-- the tables once the one of an id has so many channels, at so many frames a second, with the words of its piece after that
+abbrev pub begun : (id channels rate : ℕ) → List ℤ → Tables → Tables
+begun id channels rate words t = record {
+  comps = map (begun_at id channels rate words) t.comps;
+  buffers = map (begun_at id channels rate words) t.buffers;
+  pipes = map (begun_at id channels rate words) t.pipes;
   joins = t.joins;
 }
 

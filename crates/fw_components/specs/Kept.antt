@@ -1,12 +1,12 @@
 -- What is so of the tables of a registry.
-use Rattle.std.specs.Prelude.{◌≡◌, ℕ, ◌+◌, ◌*◌, ◌/◌, ◌%◌, ◌≤◌, List, [], ◌∷◌, length, filter, Bool, true, false, ◌||◌, ◌&&◌, not, Option, None, Some}
-use Rattle.std.specs.List.{AllByRecursion}
+use Rattle.std.specs.Prelude.{◌≡◌, ℕ, ◌+◌, ◌*◌, ◌/◌, ◌%◌, ◌≤◌, List, [], ◌∷◌, length, filter, Bool, true, false, ◌||◌, ◌&&◌, not, Option, None, Some, nat_le}
+use Rattle.std.specs.List.{list_all, AllByRecursion}
 use Rattle.sof_base.specs.declared.format.Params.{Params}
 use Rattle.sof_base.specs.Rates.{is_rate}
 use Rattle.stream_law.specs.declared.graph.Join.{Join}
 use Rattle.stream_law.specs.Placed.{Ascends}
 use Rattle.fw_units.specs.declared.component.Unit as units
-use Rattle.fw_units.specs.declared.component.Unit.TheVariants.{Host, Eq, Buffer, Pipeline}
+use Rattle.fw_units.specs.declared.component.Unit.TheVariants.{Host, Volume, Eq, Buffer, Pipeline}
 use Rattle.fw_units.specs.declared.component.Component.{Component}
 use Rattle.fw_units.specs.Units.{is_buffer, is_pipeline, source_by, sink_by}
 use Rattle.fw_components.specs.Tables.{Tables}
@@ -71,8 +71,11 @@ pub record AreJoined (comps buffers : List Component) (joins : List Join) : Type
 
 -- ---- all of it
 
--- a ring has the words of its bytes; a period is a multiple of 1000 µs from 1000 to 10000
+-- a ring has the words of its bytes; a period is a multiple of 1000 µs from 1000 to 10000; a volume has as many gains to go from as to
+-- go to, each at most 16777216, and a ramp of at most 10000 milliseconds
 abbrev pub IsUnitSound : units.Unit → Type 0
+IsUnitSound (Volume gains ramp from done frames piece) =
+    (length from ≡ length gains) × (list_all (λ g. nat_le g 16777216) gains ≡ true) × (list_all (λ g. nat_le g 16777216) from ≡ true) × (ramp ≤ 10000)
 IsUnitSound (Buffer size ring source sink) = ring.words ≡ size / 4
 IsUnitSound (Pipeline sched period complete piece) = (1000 ≤ period) × (period ≤ 10000) × (period % 1000 ≡ 0)
 IsUnitSound unit = Unit {0}
@@ -95,13 +98,14 @@ IsStreaming (Host capture phase params piece) = IsStreamOf (is_idle_phase phase)
 IsStreaming (Eq eq next remaining) = 260 * next + remaining ≤ 992
 IsStreaming unit = Unit {0}
 
--- There is no more than the limits say, each table holds what is its own, no id is that of two, joins have sides of buffers, a host
+-- There is no more than the limits say, each table holds what is its own and as it should be, no id is that of two, joins have sides of buffers, a host
 -- has parameters exactly where its stream is not Idle, and what is staged of a blob is within its bytes.
 pub record IsKept (t : Tables) : Type 0 where
   pub comps : length t.comps ≤ 128
   pub buffers : length t.buffers ≤ 128
   pub pipes : length t.pipes ≤ 32
   pub plain : AllByRecursion (λ c. is_plain c.unit ≡ true) t.comps
+  pub sound : AllByRecursion (λ c. IsUnitSound c.unit) t.comps
   pub buffering : AllByRecursion (λ c. IsBuffering c.unit) t.buffers
   pub piping : AllByRecursion (λ c. IsPiping c.unit) t.pipes
   pub named : IsNamed t

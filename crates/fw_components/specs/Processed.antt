@@ -5,6 +5,7 @@ use Rattle.sof_base.specs.Samples.{Frame}
 use Rattle.stream_law.specs.State.{RingView, History}
 use Rattle.stream_law.specs.Order.{is_among}
 use Rattle.fw_units.specs.declared.component.Unit as units
+use Rattle.fw_units.specs.declared.component.Unit.TheVariants.{Volume}
 use Rattle.fw_units.specs.Units.{numbers_by}
 use Rattle.fw_components.specs.Tables.{Tables}
 use Rattle.fw_units.specs.Frames.{pushed_at}
@@ -20,6 +21,14 @@ moves_at t id inlets = option_map_or (λ c. moves_of c.unit inlets) (find (λ c.
 -- how many channels it moves
 abbrev pub channels_moved : Tables → ℕ → ℕ
 channels_moved t id = option_map_or (λ c. c.channels) (find (λ c. c.id == id) t.comps) 0
+
+-- of how many frames a volume's ramp is
+abbrev pub ramp_frames_by : units.Unit → ℕ
+ramp_frames_by (Volume gains ramp from done frames piece) = frames
+ramp_frames_by unit = 0
+
+abbrev pub ramp_frames_at : Tables → ℕ → ℕ
+ramp_frames_at t id = option_map_or (λ c. ramp_frames_by c.unit) (find (λ c. c.id == id) t.comps) 0
 
 -- ---- what is made
 
@@ -39,7 +48,7 @@ numbers_made_at t id looked n = option_map_or (λ c. made_numbers c.unit c.chann
 -- and of the component's after that.
 abbrev pub processed : (id : ℕ) → List ℕ → (n fed : ℕ) → List Frame → (fed_words words : List ℤ) → Tables → Tables
 processed id looked n fed frames fed_words words t = record {
-  comps = map (run_at id words) t.comps;
+  comps = map (run_at id words n) t.comps;
   buffers = map (pushed_at fed frames fed_words) (map (drained_at looked n) t.buffers);
   pipes = t.pipes;
   joins = t.joins;
@@ -55,6 +64,6 @@ drained_ring looked n r = if is_among looked r.buffer then record { buffer = r.b
 abbrev pub moved_rings : List ℕ → (n fed : ℕ) → List Frame → List RingView → List RingView
 moved_rings looked n fed frames rings = map (with_frames (λ own. own ++ frames) fed) (map (drained_ring looked n) rings)
 
--- an equaliser's numbers
+-- the numbers of an equaliser or a volume
 abbrev pub with_numbers : ℕ → List ℤ → History → History
 with_numbers id numbers h = if h.comp == id then record { comp = h.comp; numbers = numbers } else h

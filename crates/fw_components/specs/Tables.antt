@@ -6,7 +6,7 @@ use Rattle.stream_law.specs.declared.graph.Graph.{Graph}
 use Rattle.stream_law.specs.declared.stream.StreamView.{StreamView}
 use Rattle.stream_law.specs.State.{PieceView, RingView, History, Staging, View}
 use Rattle.stream_law.specs.Ways.{components, buffers}
-use Rattle.stream_law.specs.Seen.{equalises}
+use Rattle.stream_law.specs.Seen.{remembers}
 use Rattle.fw_units.specs.declared.component.Component.{Component}
 use Rattle.fw_units.specs.Units.{capacity_by, comp_by, edge_by, numbers_by, pieces_by, pipe_by, ring_by, staging_by, streams_by, unit_frames}
 
@@ -40,9 +40,9 @@ view_by t = record { graph = graph_of t; streams = streams_of t }
 abbrev pub rings_of : Tables → List RingView
 rings_of t = map ring_by t.buffers
 
--- the numbers of each equaliser that is Live
+-- the numbers of each equaliser and volume that is Live
 abbrev pub histories_of : Tables → List History
-histories_of t = map (λ c. record { comp = c.id; numbers = numbers_by c.unit c.channels }) (filter (λ c. equalises (view_by t) c.id) t.comps)
+histories_of t = map (λ c. record { comp = c.id; numbers = numbers_by c.unit c.channels }) (filter (λ c. remembers (view_by t) c.id) t.comps)
 
 abbrev pub staging_of : Tables → List Staging
 staging_of t = staging_by t.comps

@@ -8,9 +8,10 @@ ghost use Rattle.stream_law.specs.declared.stream.Phase.{Phase};
 ghost use Rattle.stream_law.specs.Placed.{placed};
 ghost use Rattle.stream_law.specs.Joins.{joined_edge};
 ghost use Rattle.stream_law.specs.declared.graph.Join.{Join};
-ghost use Rattle.stream_law.specs.Ways.{comp_of, channels_of};
+ghost use Rattle.stream_law.specs.Ways.{comp_of, is_of, channels_of};
 ghost use Rattle.stream_law.specs.Made.{frames_made, only_slice};
-ghost use Rattle.stream_law.specs.Seen.{is_equaliser, blob_in};
+ghost use Rattle.stream_law.specs.Ramps.{ramped_frames, numbers_from, numbers_place, ramped_on};
+ghost use Rattle.stream_law.specs.Seen.{is_equaliser, is_volume, blob_in, ramp_length};
 ghost use Rattle.stream_law.specs.Equaliser.{passed_frames, numbers_after};
 ghost use Rattle.mbox_link.specs.Step.{completed, set_stream};
 ghost use Rattle.fw_units.specs.declared.component.Component.{Component};
@@ -20,7 +21,7 @@ ghost use Rattle.fw_units.specs.Frames.{begun_at, staged_in};
 ghost use Rattle.fw_components.specs.Frames.{with_frames};
 ghost use Rattle.fw_components.specs.Kept.{IsKept};
 ghost use Rattle.fw_units.specs.Processed.{slices_in};
-ghost use Rattle.fw_components.specs.Processed.{moves_at, channels_moved, made_at, eq_numbers_at, numbers_made_at, processed, moved_rings, with_numbers};
+ghost use Rattle.fw_components.specs.Processed.{moves_at, channels_moved, ramp_frames_at, made_at, eq_numbers_at, numbers_made_at, processed, moved_rings, with_numbers};
 ghost use Rattle.fw_units.specs.Changes.{completed_at, set_at, joined_at, with_ended};
 
 /// What is placed in a table is placed in the graph and among the rings.
@@ -58,11 +59,11 @@ pub fn joins_are_seen()
 
 /// What begins is as it was in the graph and among the streams, and its ring is empty.
 pub fn beginnings_are_seen()
-    ensures comps { (id channels : ℕ) (words : List ℤ) (cs : List Component) → map comp_by (map (begun_at id channels words) cs) ≡ map comp_by cs }
-    ensures edges { (id channels : ℕ) (words : List ℤ) (cs : List Component) → map edge_by (map (begun_at id channels words) cs) ≡ map edge_by cs }
-    ensures pipes { (id channels : ℕ) (words : List ℤ) (cs : List Component) → map pipe_by (map (begun_at id channels words) cs) ≡ map pipe_by cs }
-    ensures streams { (id channels : ℕ) (words : List ℤ) (cs : List Component) → streams_by (map (begun_at id channels words) cs) ≡ streams_by cs }
-    ensures rings { (id channels : ℕ) (words : List ℤ) (cs : List Component) → map ring_by (map (begun_at id channels words) cs) ≡ map (with_frames (λ frames. []) id) (map ring_by cs) }
+    ensures comps { (id channels rate : ℕ) (words : List ℤ) (cs : List Component) → map comp_by (map (begun_at id channels rate words) cs) ≡ map comp_by cs }
+    ensures edges { (id channels rate : ℕ) (words : List ℤ) (cs : List Component) → map edge_by (map (begun_at id channels rate words) cs) ≡ map edge_by cs }
+    ensures pipes { (id channels rate : ℕ) (words : List ℤ) (cs : List Component) → map pipe_by (map (begun_at id channels rate words) cs) ≡ map pipe_by cs }
+    ensures streams { (id channels rate : ℕ) (words : List ℤ) (cs : List Component) → streams_by (map (begun_at id channels rate words) cs) ≡ streams_by cs }
+    ensures rings { (id channels rate : ℕ) (words : List ℤ) (cs : List Component) → map ring_by (map (begun_at id channels rate words) cs) ≡ map (with_frames (λ frames. []) id) (map ring_by cs) }
 {}
 
 /// A buffer that ends is as it was in the graph, and its ring is empty.
@@ -82,11 +83,15 @@ pub fn moves_are_seen()
         staged_in u.comps id ≡ staged_in t.comps id → staging_of u ≡ staging_of t }
 {}
 
-/// The frames that a component makes are those of a tick, and so are an equaliser's numbers after that, where the streams on whose
-/// way it is have its channels.
+/// The frames that a component makes are those of a tick, and so are the numbers of an equaliser or a volume after that, where the
+/// streams on whose way it is have its channels and its ramp goes over as many frames as in the view.
 pub fn moves_are_ticks()
     ensures frames { (id n : ℕ) (looked : List ℕ) (read : List Frame) (t : Tables) → moves_at t id (length looked) ≡ true → channels_of (view_by t) id ≡ channels_moved t id →
-        frames_made (view_by t) id n read (slices_in t.buffers looked n) (λ blob channels frames. passed_frames blob channels (eq_numbers_at t id) frames) ≡ made_at t id looked n }
+        (is_of (graph_of t) is_volume id ≡ true → ramp_frames_at t id ≡ ramp_length (view_by t) id) →
+        frames_made (view_by t) id n read (slices_in t.buffers looked n) (λ blob channels frames. passed_frames blob channels (eq_numbers_at t id) frames)
+        (ramped_frames (numbers_from (eq_numbers_at t id)) (ramp_length (view_by t) id) (numbers_place (eq_numbers_at t id))) ≡ made_at t id looked n }
     ensures numbers { (id n : ℕ) (looked : List ℕ) (t : Tables) → option_map_or (λ x. is_equaliser x.kind) (comp_of (graph_of t) id) false ≡ true → channels_of (view_by t) id ≡ channels_moved t id →
         numbers_after (blob_in (view_by t) id) (channels_of (view_by t) id) (eq_numbers_at t id) (only_slice (slices_in t.buffers looked n)) ≡ numbers_made_at t id looked n }
+    ensures places { (id n : ℕ) (looked : List ℕ) (t : Tables) → is_of (graph_of t) is_volume id ≡ true → ramp_frames_at t id ≡ ramp_length (view_by t) id →
+        ramped_on (ramp_length (view_by t) id) (eq_numbers_at t id) (length (only_slice (slices_in t.buffers looked n))) ≡ numbers_made_at t id looked n }
 {}

@@ -3,7 +3,7 @@ ghost use Rattle.std.specs.Prelude.{◌≡◌, ◌==◌, true, Some, None, IfSom
 ghost use Rattle.stream_law.specs.Placed.{Ascends};
 ghost use Rattle.mbox_link.specs.Step.{part_by};
 ghost use Rattle.fw_units.specs.Units.{kind_by, setting_by};
-ghost use Rattle.fw_units.specs.Frames.{words_of};
+ghost use Rattle.fw_units.specs.Frames.{kept_words};
 ghost use Rattle.fw_components.specs.Kept.{IsStreaming};
 ghost use Rattle.fw_components.specs.Values.{left_with};
 ghost use Rattle.fw_parts.specs.Staged.{CanBeStaged};
@@ -45,7 +45,7 @@ fn put_part(component: &mut Component, part: &Part, bytes: &[u8])
     requires taken { takes_part component.old.id component.old.unit part.now ≡ true }
     requires bytes { bytes.now ≡ joined_bytes component.old.id component.old.unit part.now }
     requires joined { CanBeStaged part.now bytes.now }
-    ensures component { component.new ≡ parted_by part.now (words_of component.new) component.old }
+    ensures component { component.new ≡ parted_by part.now (kept_words component.new) component.old }
     ensures parted { IsParted part.now component.old.id component.old.unit component.new.unit }
 {
     if let Unit::Eq {

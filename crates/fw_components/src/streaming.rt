@@ -7,29 +7,30 @@ ghost use Rattle.fw_components.specs.Tables.{held_frames, capacity_at};
 ghost use Rattle.fw_units.specs.Changes.{has_id};
 ghost use Rattle.fw_components.specs.Changes.{found, is_there};
 ghost use Rattle.fw_units.specs.Frames.{IsFreshBy, comes_from, goes_to};
+ghost use Rattle.sof_base.specs.Rates.{is_rate};
 ghost use Rattle.fw_components.specs.Frames.{begun, words_at, staged_at, channels_at, buffer_out_of as out_id, in_of as in_id, with_taken, pushed};
 
 use crate::registry::Registry;
-use fw_units::{
-    begin_at, in_of, out_of, place_of, pull_in, push_bytes_in, push_in, shorten_in, spans,
-};
+use fw_units::{in_of, out_of, place_of, spans};
 use sof_base::{Format, Params, Sample};
 
 impl Registry {
-    /// The one of this id becomes Live with so many channels, 1 to 8: a ring is empty, and an equaliser's epoch begins.
+    /// The one of this id becomes Live with so many channels, 1 to 8, at so many frames a second: a ring is empty, an equaliser's epoch
+    /// begins, and a volume has the gains that are set.
     pub fn begin(&mut self, id: u32, p: Params)
         requires there { is_there self.old id ≡ true }
         requires channels { (1 ≤ p.channels) × (p.channels ≤ 8) }
-        ensures tables { self.new ≡ begun id p.channels (words_at self.new id) self.old }
+        requires rate { is_rate p.rate ≡ true }
+        ensures tables { self.new ≡ begun id p.channels p.rate (words_at self.new id) self.old }
         ensures fresh { IsFreshBy (found self.new id) }
         ensures staged { staged_at self.new id ≡ staged_at self.old id }
     {
         if let Some(at) = self.comp_hints.place_of(self.comps.as_slice(), id) {
-            begin_at(&mut self.comps, at, id, p.channels);
+            self.comps[at].begin(p.channels, p.rate);
         } else if let Some(at) = self.buffer_hints.place_of(self.buffers.as_slice(), id) {
-            begin_at(&mut self.buffers, at, id, p.channels);
+            self.buffers[at].begin(p.channels, p.rate);
         } else if let Some(at) = place_of(self.pipes.as_slice(), id) {
-            begin_at(&mut self.pipes, at, id, p.channels);
+            self.pipes[at].begin(p.channels, p.rate);
         }
     }
 
@@ -41,14 +42,8 @@ impl Registry {
         requires fit { length (held_frames self.old buffer) + n ≤ capacity_at self.old buffer }
         ensures { self.new ≡ pushed buffer (frames_in format (channels_at self.old buffer) bytes.now 0 n) (words_at self.new buffer) self.old }
     {
-        push_bytes_in(
-            &self.buffer_hints,
-            &mut self.buffers,
-            buffer,
-            format,
-            n,
-            bytes,
-        );
+        let at = self.buffer_hints.place(self.buffers.as_slice(), buffer);
+        self.buffers[at].push_bytes(format, n, bytes);
     }
 
     /// The samples of the first `n` frames of this buffer, which holds them, in two parts of whole frames. This takes no memory.
@@ -68,7 +63,8 @@ impl Registry {
         requires held { n ≤ length (held_frames self.old buffer) }
         ensures { self.new ≡ with_taken buffer n self.old }
     {
-        shorten_in(&self.buffer_hints, &mut self.buffers, buffer, n);
+        let at = self.buffer_hints.place(self.buffers.as_slice(), buffer);
+        self.buffers[at].take(n);
     }
 
     /// Puts the frames of these samples behind those of the buffer that comes from this component, which has room for them: `samples`
@@ -82,7 +78,10 @@ impl Registry {
             self.new ≡ pushed buffer (frames_of channels (length samples.now / channels) samples.now) (words_at self.new buffer) self.old }
     {
         match out_of(self.buffers.as_slice(), id) {
-            Some(buffer) => push_in(&self.buffer_hints, &mut self.buffers, buffer, samples),
+            Some(buffer) => {
+                let at = self.buffer_hints.place(self.buffers.as_slice(), buffer);
+                self.buffers[at].push(samples);
+            }
             None => unreachable!(),
         }
     }
@@ -99,7 +98,13 @@ impl Registry {
             samples.new ≡ samples_of (take (length samples.old / channels_at self.old buffer) (held_frames self.old buffer)) }
     {
         match in_of(self.buffers.as_slice(), id) {
-            Some(buffer) => pull_in(&self.buffer_hints, &mut self.buffers, buffer, samples),
+            Some(buffer) => {
+                let at = self.buffer_hints.place(self.buffers.as_slice(), buffer);
+                let it = &self.buffers[at];
+                let n = (samples.len() / it.frame_samples()).min(it.held() as usize) as u32;
+                it.copy(n, samples);
+                self.buffers[at].take(n);
+            }
             None => unreachable!(),
         }
     }

@@ -1,17 +1,23 @@
 -- What kernels make of samples that lie frame after frame is what they make of the frames.
-use Rattle.std.proofs.Common.{◌≡◌, refl, sym, ap, ◌∙◌, ℕ, zero, suc, ◌+◌, ◌*◌, ◌%◌, ◌<◌, ◌≤◌, List, [], ◌∷◌, ◌++◌, map, take, drop, length, replicate, get_or, arith, ℤ, pos, ◌+ℤ◌, length-take, length-drop}
+use Rattle.std.proofs.Common.{◌≡◌, refl, sym, ap, ◌∙◌, ℕ, zero, suc, ◌+◌, ◌*◌, ◌/◌, ◌%◌, ◌<◌, ◌≤◌, List, [], ◌∷◌, ◌++◌, map, take, drop, length, replicate, get_or, arith, ℤ, pos, ◌+ℤ◌, length-take, length-drop}
 use Rattle.std.specs.List.{AllByRecursion, range_with_len}
-use Rattle.std.proofs.Math.Nat.{mod_self, mul-le-mul_right}
+use Rattle.std.proofs.Math.Nat.{div_self, div-eq_of_lt, mod-eq_of_lt, mod_self, mul-le-mul_right}
 use Rattle.std.proofs.lemmas.Int.{ints}
 use Rattle.std.proofs.lemmas.List.{length-replicate, get_or-take, get_or-drop, replicate-append-replicate}
 use Rattle.std.proofs.lemmas.List.FromFn.{fill_by_all, length-map-range_with_len}
 use Rattle.sof_base.specs.Samples.{Frame, sample_of, sat, silence}
 use Rattle.sof_base.specs.FrameLists.{AreFrames, frames_of, samples_of}
-use Rattle.sof_base.specs.Equations.{amplified, channel_gain, volume_of, exact_sum, mixed}
+use Rattle.sof_base.specs.Equations.{amplified, channel_gain, exact_sum, mixed}
+use Rattle.sof_base.specs.Ramps.{ramp_gain, ramp_gains, ramped_of}
+use Rattle.sof_base.proofs.SampleLaws.{map-range_same}
+use Rattle.sof_base.proofs.RampLaws.{channel-ramped}
+use Rattle.stream_law.specs.Ramps.{ramped_frames}
 use Rattle.stream_law.specs.Table.{table}
 use Rattle.stream_law.specs.Made.{frames_at as frames_of_each}
-use Rattle.fw_gain.specs.Kernels.{all_amplified, summed, held}
-use Rattle.fw_gain.proofs.KernelLaws.{amplified-append, amplified-frame, length-summed, length-held, silence-replicate}
+use Rattle.fw_gain.specs.RampKernels.{sample_gain, all_ramped}
+use Rattle.fw_gain.specs.Kernels.{summed, held}
+use Rattle.fw_gain.proofs.RampKernelLaws.{ramped-append}
+use Rattle.fw_gain.proofs.KernelLaws.{length-summed, length-held, silence-replicate}
 use Rattle.fw_ring.proofs.FrameLaws.{length-frames, get-frame, whole-take}
 use Rattle.fw_ring.proofs.Flat.{frames-samples, length-samples}
 use Rattle.fw_units.specs.Moving.{all_summed}
@@ -32,18 +38,31 @@ frames-back channels n fs are long = ap (λ k. frames_of channels k (samples_of 
 pub frames-taken : (channels n : ℕ) (fs : List Frame) → AreFrames channels fs → n ≤ length fs → frames_of channels n (samples_of (take n fs)) ≡ take n fs
 frames-taken channels n fs are held = frames-back channels n (take n fs) (whole-take channels n fs are) (length-first n fs held)
 
--- ---- volumes
+-- ---- volumes whose gains go from some to others
 
-pub volume-whole : (channels : ℕ) (gains : List ℕ) (fs : List Frame) → AreFrames channels (map (volume_of channels gains) fs)
-volume-whole channels gains [] = tt
-volume-whole channels gains (f ∷ fs) = (length-map-range_with_len (λ k. amplified (channel_gain gains k) (sample_of f k)) 0 channels, volume-whole channels gains fs)
+pub ramped-whole : (channels : ℕ) (from : List ℕ) (over j : ℕ) (to : List ℕ) (fs : List Frame) → AreFrames channels (ramped_frames from over j to channels fs)
+ramped-whole channels from over j to [] = tt
+ramped-whole channels from over j to (f ∷ fs) =
+    (length-map-range_with_len (λ k. amplified (channel_gain (ramp_gains from to over j) k) (sample_of f k)) 0 channels, ramped-whole channels from over (j + 1) to fs)
 
--- the volume of samples is that of frames
-pub amplified-samples : (channels : ℕ) (gains : List ℕ) (fs : List Frame) → 1 ≤ channels → AreFrames channels fs → all_amplified channels gains (samples_of fs) ≡ samples_of (map (volume_of channels gains) fs)
-amplified-samples channels gains [] some are = refl
-amplified-samples channels gains (f ∷ fs) some are =
-    amplified-append channels gains f (samples_of fs) some (ap (λ n. n % channels) are.0 ∙ mod_self channels)
-    ∙ (λ i. amplified-frame channels gains f are.0 i ++ amplified-samples channels gains fs some are.1 i)
+-- one frame
+ramped-frame : (channels : ℕ) (from to : List ℕ) (over j : ℕ) (f : Frame) → length from ≡ length to → length f ≡ channels → all_ramped channels from to over j f ≡ ramped_of channels from to over j f
+ramped-frame channels from to over j f level long =
+    ap (λ n. map (λ i. amplified (sample_gain channels from to over j i) (sample_of f i)) (range_with_len 0 n)) long
+    ∙ map-range_same (λ i. amplified (sample_gain channels from to over j i) (sample_of f i)) (λ k. amplified (channel_gain (ramp_gains from to over j) k) (sample_of f k)) 0 channels (λ k low.
+    let l : k < channels = omega arith in
+    let same : j + k / channels ≡ j = ap (λ n. j + n) (div-eq_of_lt l) ∙ (let e : j + 0 ≡ j = omega arith in e) in
+    ap (λ g. amplified g (sample_of f k))
+    ((λ i. ramp_gain (channel_gain from (mod-eq_of_lt l i)) (channel_gain to (mod-eq_of_lt l i)) over (same i)) ∙ sym (channel-ramped from to over j k level)))
+
+-- the samples of a volume whose gains go from some to others are those of its frames
+pub ramped-samples : (channels : ℕ) (from to : List ℕ) (over j : ℕ) (fs : List Frame) → 1 ≤ channels → length from ≡ length to → AreFrames channels fs → all_ramped channels from to over j (samples_of fs) ≡ samples_of (ramped_frames from over j to channels fs)
+ramped-samples channels from to over j [] some level are = refl
+ramped-samples channels from to over j (f ∷ fs) some level are =
+    let one : length f / channels ≡ 1 = ap (λ n. n / channels) are.0 ∙ div_self (let s : 0 < channels = omega arith in s) in
+    ramped-append channels from to over j f (samples_of fs) some (ap (λ n. n % channels) are.0 ∙ mod_self channels)
+    ∙ (λ i. ramped-frame channels from to over j f level are.0 i ++ all_ramped channels from to over (j + one i) (samples_of fs))
+    ∙ ap (λ (xs : List ℤ). ramped_of channels from to over j f ++ xs) (ramped-samples channels from to over (j + 1) fs some level are.1)
 
 -- ---- sums
 

@@ -1,26 +1,29 @@
 -- What a component makes of the samples of buffers is what it makes of their frames.
 use Rattle.std.proofs.Common.{◌≡◌, refl, sym, ap, ◌∙◌, subst, ℕ, zero, suc, ◌+◌, ◌*◌, ◌/◌, ◌<◌, ◌≤◌, List, [], ◌∷◌, ◌++◌, map, take, length, replicate, get_or, Bool, true, false, cond, ◌==◌, ◌||◌, Option, Some, None, arith, ℤ, pos, length-append}
-use Rattle.std.proofs.lemmas.Bool.{eqb-true, true≢false}
-use Rattle.std.proofs.lemmas.List.{length-map}
+use Rattle.std.proofs.lemmas.Bool.{eqb-true, true≢false, ltb-true, ltb-false}
 use Rattle.std.proofs.Math.Nat.{mul-div_cancel}
-use Rattle.std.specs.Prelude.{find}
+use Rattle.std.specs.Prelude.{find, min, nat_lt}
 use Rattle.std.specs.List.{AllByRecursion, range_with_len}
 use Rattle.std.specs.Option.{option_map_or}
 use Rattle.sof_base.specs.Samples.{Frame, silence}
 use Rattle.sof_base.specs.FrameLists.{AreFrames, frames_of, samples_of}
-use Rattle.sof_base.specs.Equations.{volume_of, mixed}
+use Rattle.sof_base.specs.Equations.{mixed}
 use Rattle.eq_biquad.proofs.PassLaws.{length-frames, are-frames}
 use Rattle.stream_law.specs.Order.{is_among}
 use Rattle.stream_law.specs.Table.{table}
+use Rattle.stream_law.specs.Ramps.{ramped_frames}
+use Rattle.stream_law.proofs.Ramping.{length-ramped_frames}
 use Rattle.stream_law.specs.Made.{only_slice, chosen_slice, frames_at as frames_of_each}
 use Rattle.stream_law.specs.Equaliser.{passed_frames}
-use Rattle.fw_gain.specs.Kernels.{all_amplified, held}
+use Rattle.fw_gain.specs.RampKernels.{all_ramped}
+use Rattle.fw_gain.specs.Kernels.{held}
+use Rattle.fw_gain.proofs.RampKernelLaws.{ramped-past}
 use Rattle.fw_ring.proofs.FrameLaws.{whole-take}
 use Rattle.fw_units.specs.declared.component.Component.{Component}
 use Rattle.fw_units.specs.Frames.{buffer_frames, channels_in}
 use Rattle.fw_units.specs.Processed.{IsInlet, slices_in}
 use Rattle.fw_units.specs.Moving.{samples_in, all_summed, IsWhole, looked_choice}
-use Rattle.fw_units.proofs.FrameLaws.{Enough, length-first, length-taken, frames-back, frames-taken, volume-whole, amplified-samples, frames-mixed, frames-silence}
+use Rattle.fw_units.proofs.FrameLaws.{Enough, length-first, length-taken, frames-back, frames-taken, ramped-whole, ramped-samples, frames-mixed, frames-silence}
 use Rattle.fw_units.proofs.Ids.{all-with}
 
 -- what holds of all holds of the first and of the last
@@ -58,6 +61,18 @@ pub parts : (front back : List ℤ) (cs : List Component) (n b size : ℕ) → f
 parts front back cs n b size is whole held long =
     sym (length-append front back) ∙ ap length is ∙ length-taken (channels_in cs b) n (buffer_frames cs b) whole held ∙ sym long
 
+-- a place past 32 bits is past each ramp of them
+pub ramped-held : (channels : ℕ) (from to : List ℕ) (count done : ℕ) (xs : List ℤ) → count ≤ 4294967295 → all_ramped channels from to count (min done 4294967295) xs ≡ all_ramped channels from to count done xs
+ramped-held channels from to count done xs most = by (nat_lt 4294967295 done) refl
+  where
+    by : (h : Bool) → nat_lt 4294967295 done ≡ h → all_ramped channels from to count (min done 4294967295) xs ≡ all_ramped channels from to count done xs
+    by true e =
+        let far : 4294967295 < done = ltb-true 4294967295 done e in
+        ramped-past channels from to count (min done 4294967295) xs (omega (arith, far, most)) ∙ sym (ramped-past channels from to count done xs (omega (arith, far, most)))
+    by false e =
+        let near : done ≤ 4294967295 = ltb-false 4294967295 done e in
+        ap (λ d. all_ramped channels from to count d xs) (let same : min done 4294967295 ≡ done = omega (arith, near) in same)
+
 module _ (cs : List Component) (channels n : ℕ) where
   enough : (b : ℕ) → IsInlet cs channels n b → IsWhole cs b → Enough channels n (buffer_frames cs b)
   enough b inlet whole = record { whole = subst (λ k. AreFrames k (buffer_frames cs b)) inlet.shape whole; some = inlet.held }
@@ -72,14 +87,14 @@ module _ (cs : List Component) (channels n : ℕ) where
   only [] one = absurd (omega (arith, one))
   only (b ∷ rest) one = refl
 
-  pub made-amplified : (gains looked : List ℕ) → 1 ≤ channels → length looked ≡ 1 → IsInlet cs channels n (get_or looked 0 0) → IsWhole cs (get_or looked 0 0) → frames_of channels n (all_amplified channels gains (samples_in cs n (get_or looked 0 0))) ≡ map (volume_of channels gains) (only_slice (slices_in cs looked n))
-  made-amplified gains looked wide one inlet whole =
+  pub made-ramped : (from to looked : List ℕ) (over done : ℕ) → 1 ≤ channels → length from ≡ length to → length looked ≡ 1 → IsInlet cs channels n (get_or looked 0 0) → IsWhole cs (get_or looked 0 0) → frames_of channels n (all_ramped channels from to over done (samples_in cs n (get_or looked 0 0))) ≡ ramped_frames from over done to channels (only_slice (slices_in cs looked n))
+  made-ramped from to looked over done wide level one inlet whole =
       let all = buffer_frames cs (get_or looked 0 0) in
       let e = enough (get_or looked 0 0) inlet whole in
       let fs = take n all in
-      ap (frames_of channels n) (amplified-samples channels gains fs wide (whole-take channels n all e.whole))
-      ∙ frames-back channels n (map (volume_of channels gains) fs) (volume-whole channels gains fs) (length-map fs (volume_of channels gains) ∙ length-first n all e.some)
-      ∙ ap (map (volume_of channels gains)) (only looked one)
+      ap (frames_of channels n) (ramped-samples channels from to over done fs wide level (whole-take channels n all e.whole))
+      ∙ frames-back channels n (ramped_frames from over done to channels fs) (ramped-whole channels from over done to fs) (length-ramped_frames from over done to channels fs ∙ length-first n all e.some)
+      ∙ ap (ramped_frames from over done to channels) (only looked one)
 
   -- so many samples are of so many frames
   pub count-of : (size : ℕ) → 1 ≤ channels → size ≡ n * channels → size / channels ≡ n

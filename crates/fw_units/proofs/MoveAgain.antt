@@ -8,12 +8,12 @@ use Rattle.stream_law.specs.Order.{is_among}
 use Rattle.stream_law.specs.Table.{table}
 use Rattle.fw_units.specs.declared.component.Component.{Component}
 use Rattle.fw_units.specs.Units.{numbers_by}
-use Rattle.fw_units.specs.Frames.{words_of, words_by, staged_by, buffer_frames, pushed_at}
+use Rattle.fw_units.specs.Frames.{kept_words, words_by, staged_by, buffer_frames, pushed_at}
 use Rattle.fw_units.specs.Processed.{IsInlet, slices_in, made_frames, made_numbers, drained_at, run_unit, run_by}
 use Rattle.fw_units.specs.Moving.{CanMove, frames_now, IsMoved}
 use Rattle.fw_units.proofs.Ids.{all-by, all-with}
 use Rattle.fw_units.proofs.Ids.{ascends-map}
-use Rattle.fw_units.proofs.MovedLaws.{run-twice, run-kind, drained-id, pushed-id, tables-twice, table-same}
+use Rattle.fw_units.proofs.MovedLaws.{run-twice, run-kind, run-level, drained-id, pushed-id, tables-twice, table-same}
 use Rattle.fw_units.proofs.MovedLaws.{frames-left, inlet-left, outlet-left}
 use Rattle.fw_units.proofs.RunLaws.{made-more, numbers-more}
 
@@ -35,10 +35,11 @@ module _ (chosen : Option ℕ) (looked : List ℕ) (fed a m : ℕ) (bs : List Co
   slices-left v = table-same (λ b. take m (buffer_frames (left v) b)) (λ b. take m (drop a (buffer_frames bs b))) looked
       (all-by (λ b. is_among looked b ≡ true) (λ b. take m (buffer_frames (left v) b) ≡ take m (drop a (buffer_frames bs b))) (λ b among. ap (take m) (frames-left looked fed can.apart a made v bs b among)) looked (own-among looked))
 
-  can-left : (v w : List ℤ) → length made ≡ a → CanMove (left v) looked fed m (run_by w c)
+  can-left : (v w : List ℤ) → length made ≡ a → CanMove (left v) looked fed m (run_by w a c)
   can-left v w count = record {
     ascends = ascends-map (pushed_at fed made v) (pushed-id looked fed can.apart made v) (map (drained_at looked a) bs) (ascends-map (drained_at looked a) (drained-id looked fed can.apart a) bs can.ascends);
-    kind = run-kind w (length looked) c.unit ∙ can.kind;
+    kind = run-kind w a (length looked) c.unit ∙ can.kind;
+    level = run-level w a c.unit can.level;
     few = can.few;
     distinct = can.distinct;
     apart = can.apart;
@@ -47,23 +48,23 @@ module _ (chosen : Option ℕ) (looked : List ℕ) (fed a m : ℕ) (bs : List Co
   }
 
   -- two moves in a row
-  again : (v w : List ℤ) (bs' : List Component) (c' : Component) → numbers_by (run_unit w c.unit) c.channels ≡ made_numbers c.unit c.channels (slices_in bs looked a) → staged_by (run_unit w c.unit) ≡ staged_by c.unit → length made ≡ a → IsMoved chosen looked fed m (left v) (run_by w c) bs' c' → IsMoved chosen looked fed (a + m) bs c bs' c'
+  again : (v w : List ℤ) (bs' : List Component) (c' : Component) → numbers_by (run_unit w a c.unit) c.channels ≡ made_numbers c.unit c.channels (slices_in bs looked a) → staged_by (run_unit w a c.unit) ≡ staged_by c.unit → length made ≡ a → IsMoved chosen looked fed m (left v) (run_by w a c) bs' c' → IsMoved chosen looked fed (a + m) bs c bs' c'
   again v w bs' c' numbers staged count next =
       let rest = table looked (λ b. take m (drop a (buffer_frames bs b))) in
-      let behind : frames_now chosen (left v) looked m (run_by w c) ≡ made_frames (run_unit w c.unit) c.channels m chosen rest = ap (made_frames (run_unit w c.unit) c.channels m chosen) (slices-left v) in
-      let all : frames_now chosen bs looked (a + m) c ≡ made ++ frames_now chosen (left v) looked m (run_by w c) =
+      let behind : frames_now chosen (left v) looked m (run_by w a c) ≡ made_frames (run_unit w a c.unit) c.channels m chosen rest = ap (made_frames (run_unit w a c.unit) c.channels m chosen) (slices-left v) in
+      let all : frames_now chosen bs looked (a + m) c ≡ made ++ frames_now chosen (left v) looked m (run_by w a c) =
       made-more (buffer_frames bs) a m c.unit w c.channels chosen looked numbers ∙ ap (λ (fs : List Frame). made ++ fs) (sym behind) in
       record {
-        component = next.component ∙ ap (λ u. record { id = c.id; pipe = c.pipe; channels = c.channels; unit = u }) (run-twice w (words_of c') c.unit);
+        component = next.component ∙ ap (λ u. record { id = c.id; pipe = c.pipe; channels = c.channels; unit = u }) (run-twice w (kept_words c') a m c.unit);
         numbers =
             next.numbers
-            ∙ ap (made_numbers (run_unit w c.unit) c.channels) (slices-left v)
+            ∙ ap (made_numbers (run_unit w a c.unit) c.channels) (slices-left v)
             ∙ sym (numbers-more (buffer_frames bs) a m c.unit w c.channels looked numbers);
         staged = next.staged ∙ staged;
-        count = ap length all ∙ length-append made (frames_now chosen (left v) looked m (run_by w c)) ∙ (λ i. count i + next.count i);
+        count = ap length all ∙ length-append made (frames_now chosen (left v) looked m (run_by w a c)) ∙ (λ i. count i + next.count i);
         table =
             next.table
-            ∙ tables-twice looked fed can.apart a m made (frames_now chosen (left v) looked m (run_by w c)) v (words_by (find (λ x. x.id == fed) bs')) bs
+            ∙ tables-twice looked fed can.apart a m made (frames_now chosen (left v) looked m (run_by w a c)) v (words_by (find (λ x. x.id == fed) bs')) bs
             ∙ ap (λ (fs : List Frame). map (pushed_at fed fs (words_by (find (λ x. x.id == fed) bs'))) (map (drained_at looked (a + m)) bs)) (sym all);
       }
 
@@ -73,11 +74,11 @@ module _ (chosen : Option ℕ) (looked : List ℕ) (fed a m : ℕ) (bs : List Co
     fed_words = words_by (find (λ x. x.id == fed) bs1)
 
     pub can-again : CanMove bs1 looked fed m c1
-    can-again = subst (λ (p : List Component × Component). CanMove p.0 looked fed m p.1) (λ i. (sym moved.table i, sym moved.component i)) (can-left fed_words (words_of c1) moved.count)
+    can-again = subst (λ (p : List Component × Component). CanMove p.0 looked fed m p.1) (λ i. (sym moved.table i, sym moved.component i)) (can-left fed_words (kept_words c1) moved.count)
 
     pub moved-again : (bs' : List Component) (c' : Component) → IsMoved chosen looked fed m bs1 c1 bs' c' → IsMoved chosen looked fed (a + m) bs c bs' c'
     moved-again bs' c' next =
-        again fed_words (words_of c1) bs' c'
+        again fed_words (kept_words c1) bs' c'
         (ap (λ (x : Component). numbers_by x.unit x.channels) (sym moved.component) ∙ moved.numbers)
         (ap (λ (x : Component). staged_by x.unit) (sym moved.component) ∙ moved.staged)
         moved.count
@@ -88,6 +89,7 @@ pub can-less : (looked : List ℕ) (fed n m : ℕ) (bs : List Component) (c : Co
 can-less looked fed n m bs c less can = record {
   ascends = can.ascends;
   kind = can.kind;
+  level = can.level;
   few = can.few;
   distinct = can.distinct;
   apart = can.apart;

@@ -9,23 +9,28 @@ use Rattle.sof_base.specs.Samples.{Frame}
 use Rattle.stream_law.specs.Order.{is_among}
 use Rattle.stream_law.specs.Table.{table}
 use Rattle.fw_units.specs.declared.component.Unit as units
-use Rattle.fw_units.specs.declared.component.Unit.TheVariants.{Buffer}
+use Rattle.fw_units.specs.declared.component.Unit.TheVariants.{Volume, Buffer}
 use Rattle.fw_units.specs.declared.component.Component.{Component}
 use Rattle.fw_units.specs.Units.{unit_frames, capacity_by}
 use Rattle.fw_units.specs.Frames.{channels_by, buffer_frames, taken_unit, taken_by, pushed_unit, pushed_by, pushed_at}
-use Rattle.fw_units.specs.Processed.{moves_of, IsInlet, IsOutlet, drained_at, run_unit}
+use Rattle.fw_units.specs.Processed.{moves_of, IsLevel, IsInlet, IsOutlet, drained_at, run_unit}
 use Rattle.fw_units.proofs.Ids.{has-map}
+use Rattle.fw_units.proofs.RunLaws.{done-add}
 use Rattle.fw_units.proofs.Units.{taken-unit, pushed-unit, taken-channels, pushed-channels, taken-capacity, pushed-capacity, taken-frames, pushed-most}
 
 -- ---- one unit
 
-pub run-twice : (v w : List ℤ) (u : units.Unit) → run_unit w (run_unit v u) ≡ run_unit w u
-run-twice v w (Buffer size ring source sink) = refl
-run-twice v w u = refl
+pub run-twice : (v w : List ℤ) (a m : ℕ) (u : units.Unit) → run_unit w m (run_unit v a u) ≡ run_unit w (a + m) u
+run-twice v w a m (Volume gains ramp from done frames piece) = ap (λ k. Volume gains ramp from k frames piece) (done-add frames done a m)
+run-twice v w a m u = refl
 
-pub run-kind : (w : List ℤ) (n : ℕ) (u : units.Unit) → moves_of (run_unit w u) n ≡ moves_of u n
-run-kind w n (Buffer size ring source sink) = refl
-run-kind w n u = refl
+pub run-kind : (w : List ℤ) (a n : ℕ) (u : units.Unit) → moves_of (run_unit w a u) n ≡ moves_of u n
+run-kind w a n (Buffer size ring source sink) = refl
+run-kind w a n u = refl
+
+pub run-level : (w : List ℤ) (a : ℕ) (u : units.Unit) → IsLevel u → IsLevel (run_unit w a u)
+run-level w a (Volume gains ramp from done frames piece) level = level
+run-level w a u level = tt
 
 -- what a ring keeps when frames are taken and pushed
 pub record Keeps {X : Type 0} (g : units.Unit → X) : Type 0 where

@@ -2,9 +2,10 @@
 use Rattle.std.proofs.Common.{◌≡◌, refl, sym, ap, ◌∙◌, subst, ℕ, suc, List, [], ◌∷◌, map, set, get_or, Bool, true, false, cond, ◌==◌, arith, Option, Some, None, ℤ}
 use Rattle.std.proofs.lemmas.Bool.{eqb-true, false_from_ne_true}
 use Rattle.std.specs.Prelude.{option_map, position, find}
+use Rattle.sof_base.specs.Samples.{Frame}
 use Rattle.stream_law.specs.Placed.{AreAbove, Ascends}
 use Rattle.fw_units.specs.declared.component.Component.{Component}
-use Rattle.fw_units.specs.Frames.{words_of, words_by}
+use Rattle.fw_units.specs.Frames.{kept_words, words_by, taken_by, taken_at, pushed_by, pushed_at}
 use Rattle.fw_units.proofs.Positions.{first, first-is}
 
 some-is : {X : Type 0} (d x y : X) → Some x ≡ Some y → x ≡ y
@@ -65,8 +66,16 @@ set-found id (c ∷ cs) at y d same e = by (c.id == id) refl e (λ k s. set-foun
     by false is e rest = later (first (λ x. x.id == id) cs) is e rest
 
 -- a change that names the words of what it leaves
-pub put-words : (g : List ℤ → Component → Component) → ((words : List ℤ) (c : Component) → (g words c).id ≡ c.id) → (id at : ℕ) (cs new : List Component) (y d : Component) → Ascends (λ c. c.id) cs → Some at ≡ position (λ c. c.id == id) cs → new ≡ set cs at y → y ≡ g (words_of y) (get_or cs at d) → (Some y ≡ find (λ c. c.id == id) new) × (new ≡ map (λ c. cond (c.id == id) (g (words_by (find (λ x. x.id == id) new)) c) c) cs)
+pub put-words : (g : List ℤ → Component → Component) → ((words : List ℤ) (c : Component) → (g words c).id ≡ c.id) → (id at : ℕ) (cs new : List Component) (y d : Component) → Ascends (λ c. c.id) cs → Some at ≡ position (λ c. c.id == id) cs → new ≡ set cs at y → y ≡ g (kept_words y) (get_or cs at d) → (Some y ≡ find (λ c. c.id == id) new) × (new ≡ map (λ c. cond (c.id == id) (g (words_by (find (λ x. x.id == id) new)) c) c) cs)
 put-words g same id at cs new y d all e put is =
-    let own : y.id ≡ (get_or cs at d).id = ap (λ (c : Component). c.id) is ∙ same (words_of y) (get_or cs at d) in
+    let own : y.id ≡ (get_or cs at d).id = ap (λ (c : Component). c.id) is ∙ same (kept_words y) (get_or cs at d) in
     let found : Some y ≡ find (λ c. c.id == id) new = set-found id cs at y d own (e ∙ first-is (λ (c : Component). c.id == id) cs) ∙ ap (find (λ c. c.id == id)) (sym put) in
-    (found, put ∙ ap (set cs at) is ∙ set-mapped (g (words_of y)) id cs at d all e ∙ ap (λ (o : Option Component). map (λ c. cond (c.id == id) (g (words_by o) c) c) cs) found)
+    (found, put ∙ ap (set cs at) is ∙ set-mapped (g (kept_words y)) id cs at d all e ∙ ap (λ (o : Option Component). map (λ c. cond (c.id == id) (g (words_by o) c) c) cs) found)
+
+-- a ring changed at its place
+module _ (id at : ℕ) (cs : List Component) (x y : Component) (ascends : Ascends (λ c. c.id) cs) (place : Some at ≡ position (λ c. c.id == id) cs) (is : x ≡ get_or cs at x) where
+  pub taken-put : (n : ℕ) → y ≡ taken_by n x → set cs at y ≡ map (taken_at id n) cs
+  taken-put n new = ap (set cs at) (new ∙ ap (taken_by n) is) ∙ set-mapped (taken_by n) id cs at x ascends place
+
+  pub pushed-put : (frames : List Frame) → y ≡ pushed_by frames (kept_words y) x → set cs at y ≡ map (pushed_at id frames (words_by (find (λ c. c.id == id) (set cs at y)))) cs
+  pushed-put frames new = (put-words (pushed_by frames) (λ words c. refl) id at cs (set cs at y) y x ascends place refl (new ∙ ap (pushed_by frames (kept_words y)) is)).1

@@ -24,9 +24,9 @@ pub sourced-frames : (id : ℕ) → (u : units.Unit) → unit_frames (sourced_un
 sourced-frames id (Buffer size ring source sink) = refl
 sourced-frames id u = refl
 
-pub begun-frames : (channels : ℕ) → (words : List ℤ) → (u : units.Unit) → unit_frames (begun_unit channels words u) ≡ []
-begun-frames channels words (Buffer size ring source sink) = refl
-begun-frames channels words u = refl
+pub begun-frames : (channels rate : ℕ) → (words : List ℤ) → (u : units.Unit) → unit_frames (begun_unit channels rate words u) ≡ []
+begun-frames channels rate words (Buffer size ring source sink) = refl
+begun-frames channels rate words u = refl
 
 pub ended-frames : (u : units.Unit) → unit_frames (ended_unit u) ≡ []
 ended-frames (Buffer size ring source sink) = refl
@@ -46,9 +46,9 @@ pushed-most fs w u = omega arith
 
 -- ---- what stays
 
-pub begun-kind : (channels : ℕ) → (words : List ℤ) → (u : units.Unit) → kind_by (begun_unit channels words u) ≡ kind_by u
-begun-kind channels words (Buffer size ring source sink) = refl
-begun-kind channels words u = refl
+pub begun-kind : (channels rate : ℕ) → (words : List ℤ) → (u : units.Unit) → kind_by (begun_unit channels rate words u) ≡ kind_by u
+begun-kind channels rate words (Buffer size ring source sink) = refl
+begun-kind channels rate words u = refl
 
 pub valued-kind : (values : List ℕ) → (u : units.Unit) → kind_by (valued_unit values u) ≡ kind_by u
 valued-kind values (Buffer size ring source sink) = refl

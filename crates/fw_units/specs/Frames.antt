@@ -1,6 +1,7 @@
 -- What begins with a stream, and what becomes of the frames in rings.
 use Rattle.std.specs.Prelude.{◌≡◌, ℕ, ◌*◌, List, [], ◌++◌, drop, Bool, ◌==◌, Option, Some, None, if◌then◌else◌, ℤ, find}
 use Rattle.std.specs.Option.{option_map_or}
+use Rattle.sof_base.specs.Ramps.{ramp_frames}
 use Rattle.sof_base.specs.Samples.{Frame}
 use Rattle.fw_heap.specs.Pieces.{PieceState}
 use Rattle.fw_ring.specs.RingState.{RingState, capacity_of, place_after}
@@ -8,17 +9,17 @@ use Rattle.eq_biquad.specs.EqState.{staged_of, numbers_of}
 use Rattle.stream_law.specs.Seen.{fresh_numbers}
 use Rattle.stream_law.specs.Ways.{is_end}
 use Rattle.fw_units.specs.declared.component.Unit as units
-use Rattle.fw_units.specs.declared.component.Unit.TheVariants.{Eq, Buffer}
+use Rattle.fw_units.specs.declared.component.Unit.TheVariants.{Volume, Eq, Buffer}
 use Rattle.fw_units.specs.declared.component.Component.{Component}
 use Rattle.fw_units.specs.Units.{piece_of, unit_frames, capacity_by, source_by, sink_by}
 use Rattle.fw_units.specs.Changes.{with_unit, unit_at}
 
 -- the words of a component's piece, and those of the one of an id
-abbrev pub words_of : Component → List ℤ
-words_of c = (piece_of c.unit).words
+abbrev pub kept_words : Component → List ℤ
+kept_words c = (piece_of c.unit).words
 
 abbrev pub words_by : Option Component → List ℤ
-words_by o = option_map_or words_of o []
+words_by o = option_map_or kept_words o []
 
 -- a piece with other words
 abbrev pub piece_with_words : List ℤ → PieceState → PieceState
@@ -26,21 +27,24 @@ piece_with_words words p = record { home = p.home; place = p.place; size = p.siz
 
 -- ---- what begins
 
--- a ring that is empty, for frames of so many channels; an equaliser with these words
-abbrev pub begun_unit : ℕ → List ℤ → units.Unit → units.Unit
-begun_unit channels words (Eq eq next remaining) = Eq (record { blob = eq.blob; piece = piece_with_words words eq.piece }) next remaining
-begun_unit channels words (Buffer size ring source sink) = Buffer size (record { frames = []; words = ring.words; channels = channels; start = 0; piece = ring.piece }) source sink
-begun_unit channels words unit = unit
+-- a ring that is empty, for frames of so many channels; an equaliser with these words; a volume of whose ramp nothing is done, at so
+-- many frames a second
+abbrev pub begun_unit : (channels rate : ℕ) → List ℤ → units.Unit → units.Unit
+begun_unit channels rate words (Eq eq next remaining) = Eq (record { blob = eq.blob; piece = piece_with_words words eq.piece }) next remaining
+begun_unit channels rate words (Buffer size ring source sink) = Buffer size (record { frames = []; words = ring.words; channels = channels; start = 0; piece = ring.piece }) source sink
+begun_unit channels rate words (Volume gains ramp from done frames piece) = Volume gains ramp gains 0 (ramp_frames ramp rate) piece
+begun_unit channels rate words unit = unit
 
-abbrev pub begun_by : ℕ → List ℤ → Component → Component
-begun_by channels words c = record { id = c.id; pipe = c.pipe; channels = channels; unit = begun_unit channels words c.unit }
+abbrev pub begun_by : (channels rate : ℕ) → List ℤ → Component → Component
+begun_by channels rate words c = record { id = c.id; pipe = c.pipe; channels = channels; unit = begun_unit channels rate words c.unit }
 
-abbrev pub begun_at : ℕ → ℕ → List ℤ → Component → Component
-begun_at id channels words c = if c.id == id then begun_by channels words c else c
+abbrev pub begun_at : (id channels rate : ℕ) → List ℤ → Component → Component
+begun_at id channels rate words c = if c.id == id then begun_by channels rate words c else c
 
--- the epoch of an equaliser begins: its numbers are those before the first frame
+-- the epoch of an equaliser begins: its numbers are those before the first frame. A volume has the gains that are set
 abbrev pub IsFresh : units.Unit → Type 0
 IsFresh (Eq eq next remaining) = (channels : ℕ) → numbers_of eq channels ≡ fresh_numbers eq.blob channels
+IsFresh (Volume gains ramp from done frames piece) = (from ≡ gains) × (done ≡ 0)
 IsFresh unit = Unit {0}
 
 -- the bytes that are staged of an equaliser's blob

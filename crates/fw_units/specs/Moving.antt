@@ -8,8 +8,8 @@ use Rattle.stream_law.specs.Placed.{Ascends}
 use Rattle.stream_law.specs.Order.{is_among}
 use Rattle.fw_units.specs.declared.component.Component.{Component}
 use Rattle.fw_units.specs.Units.{numbers_by}
-use Rattle.fw_units.specs.Frames.{words_of, words_by, staged_by, buffer_frames, channels_in, pushed_at}
-use Rattle.fw_units.specs.Processed.{moves_of, IsInlet, IsOutlet, slices_in, made_frames, made_numbers, drained_at, run_by}
+use Rattle.fw_units.specs.Frames.{kept_words, words_by, staged_by, buffer_frames, channels_in, pushed_at}
+use Rattle.fw_units.specs.Processed.{moves_of, IsLevel, IsInlet, IsOutlet, slices_in, made_frames, made_numbers, drained_at, run_by}
 
 -- ---- samples
 
@@ -37,6 +37,7 @@ looked_choice looked (Some b) = if is_among looked b then Some b else None
 pub record CanMove (buffers : List Component) (looked : List ℕ) (fed n : ℕ) (c : Component) : Type 0 where
   pub ascends : Ascends (λ c. c.id) buffers
   pub kind : moves_of c.unit (length looked) ≡ true
+  pub level : IsLevel c.unit
   pub few : length looked ≤ 128
   pub distinct : IsDistinct nat_eq looked
   pub apart : is_among looked fed ≡ false
@@ -49,7 +50,7 @@ frames_now chosen buffers looked n c = made_frames c.unit c.channels n chosen (s
 
 -- it has moved n frames
 pub record IsMoved (chosen : Option ℕ) (looked : List ℕ) (fed n : ℕ) (buffers : List Component) (c : Component) (buffers' : List Component) (c' : Component) : Type 0 where
-  pub component : c' ≡ run_by (words_of c') c
+  pub component : c' ≡ run_by (kept_words c') n c
   pub numbers : numbers_by c'.unit c'.channels ≡ made_numbers c.unit c.channels (slices_in buffers looked n)
   pub staged : staged_by c'.unit ≡ staged_by c.unit
   pub count : length (frames_now chosen buffers looked n c) ≡ n

@@ -1,14 +1,15 @@
 -- What a volume, a mixer, a mux or an equaliser makes of frames, and what it leaves.
-use Rattle.std.specs.Prelude.{◌≡◌, ℕ, ◌+◌, ◌≤◌, List, [], map, filter, take, length, Bool, true, false, ◌==◌, Option, None, slice_get, if◌then◌else◌, ℤ}
+use Rattle.std.specs.Prelude.{◌≡◌, ℕ, zero, suc, ◌+◌, ◌≤◌, List, [], ◌∷◌, ◌++◌, map, filter, take, length, Bool, true, false, ◌==◌, Option, None, slice_get, if◌then◌else◌, ℤ, pos}
 use Rattle.std.specs.List.{range_with_len}
 use Rattle.sof_base.specs.Samples.{Frame}
-use Rattle.sof_base.specs.Equations.{volume_of, mixed}
+use Rattle.sof_base.specs.Equations.{mixed}
 use Rattle.eq_biquad.specs.EqState.{numbers_of}
 use Rattle.stream_law.specs.declared.graph.Join.{Join}
 use Rattle.stream_law.specs.Order.{is_among}
 use Rattle.stream_law.specs.Table.{table}
 use Rattle.stream_law.specs.Made.{only_slice, chosen_slice, frames_at as frames_of_each}
 use Rattle.stream_law.specs.Equaliser.{passed_frames, numbers_after}
+use Rattle.stream_law.specs.Ramps.{ramped_frames, ramp_place}
 use Rattle.fw_units.specs.declared.component.Unit as units
 use Rattle.fw_units.specs.declared.component.Unit.TheVariants.{Volume, Mixer, Mux, Eq}
 use Rattle.fw_units.specs.declared.component.Component.{Component}
@@ -19,11 +20,16 @@ use Rattle.fw_units.specs.Frames.{piece_with_words, buffer_frames, channels_in, 
 
 -- a volume or an equaliser takes the frames of one buffer, a mixer or a mux those of any number
 abbrev pub moves_of : units.Unit → ℕ → Bool
-moves_of (Volume gains piece) inlets = inlets == 1
+moves_of (Volume gains ramp from done frames piece) inlets = inlets == 1
 moves_of (Mixer piece) inlets = true
 moves_of (Mux choice piece) inlets = true
 moves_of (Eq eq next remaining) inlets = inlets == 1
 moves_of unit inlets = false
+
+-- a volume has as many gains to go from as to go to
+abbrev pub IsLevel : units.Unit → Type 0
+IsLevel (Volume gains ramp from done frames piece) = length from ≡ length gains
+IsLevel unit = Unit {0}
 
 -- a buffer holds n frames of so many channels
 pub record IsInlet (buffers : List Component) (channels n b : ℕ) : Type 0 where
@@ -50,14 +56,20 @@ chosen_by unit id joins = None
 
 -- what a unit makes of n frames of each
 abbrev pub made_frames : units.Unit → (channels n : ℕ) → Option ℕ → List (ℕ × List Frame) → List Frame
-made_frames (Volume gains piece) channels n chosen slices = map (volume_of channels gains) (only_slice slices)
+made_frames (Volume gains ramp from done frames piece) channels n chosen slices = ramped_frames from frames done gains channels (only_slice slices)
 made_frames (Mixer piece) channels n chosen slices = map (λ j. mixed channels (frames_of_each slices j)) (range_with_len 0 n)
 made_frames (Mux choice piece) channels n chosen slices = chosen_slice slices channels n chosen
 made_frames (Eq eq next remaining) channels n chosen slices = passed_frames eq.blob channels (numbers_of eq channels) (only_slice slices)
 made_frames unit channels n chosen slices = []
 
--- an equaliser's numbers after that
+-- how many frames of a volume's ramp are done after n more: held at its end, where a ramp over no frame ends after one
+abbrev pub done_after : (over done n : ℕ) → ℕ
+done_after over done zero = done
+done_after over done (suc n) = ramp_place over (done + suc n)
+
+-- an equaliser's numbers after that, and a volume's
 abbrev pub made_numbers : units.Unit → ℕ → List (ℕ × List Frame) → List ℤ
+made_numbers (Volume gains ramp from done frames piece) channels slices = map pos from ++ pos (done_after frames done (length (only_slice slices))) ∷ []
 made_numbers (Eq eq next remaining) channels slices = numbers_after eq.blob channels (numbers_of eq channels) (only_slice slices)
 made_numbers unit channels slices = []
 
@@ -67,13 +79,14 @@ made_numbers unit channels slices = []
 abbrev pub drained_at : List ℕ → ℕ → Component → Component
 drained_at looked n c = if is_among looked c.id then taken_by n c else c
 
--- an equaliser has other words in its piece
-abbrev pub run_unit : List ℤ → units.Unit → units.Unit
-run_unit words (Eq eq next remaining) = Eq (record { blob = eq.blob; piece = piece_with_words words eq.piece }) next remaining
-run_unit words unit = unit
+-- after n frames an equaliser has other words in its piece, and a volume has done more of its ramp
+abbrev pub run_unit : List ℤ → ℕ → units.Unit → units.Unit
+run_unit words n (Eq eq next remaining) = Eq (record { blob = eq.blob; piece = piece_with_words words eq.piece }) next remaining
+run_unit words n (Volume gains ramp from done frames piece) = Volume gains ramp from (done_after frames done n) frames piece
+run_unit words n unit = unit
 
-abbrev pub run_by : List ℤ → Component → Component
-run_by words c = with_unit (run_unit words) c
+abbrev pub run_by : List ℤ → ℕ → Component → Component
+run_by words n c = with_unit (run_unit words n) c
 
-abbrev pub run_at : ℕ → List ℤ → Component → Component
-run_at id words c = unit_at (run_unit words) id c
+abbrev pub run_at : ℕ → List ℤ → ℕ → Component → Component
+run_at id words n c = unit_at (run_unit words n) id c

@@ -1,5 +1,5 @@
 -- What a unit is, and how a component, a buffer or a pipeline is seen in the firmware's state.
-use Rattle.std.specs.Prelude.{ℕ, ◌+◌, ◌*◌, List, [], ◌∷◌, take, Bool, true, false, ◌==◌, Option, None, if◌then◌else◌, ℤ}
+use Rattle.std.specs.Prelude.{ℕ, ◌+◌, ◌*◌, List, [], ◌∷◌, ◌++◌, map, take, Bool, true, false, ◌==◌, Option, None, if◌then◌else◌, ℤ, pos}
 use Rattle.sof_base.specs.declared.format.Format.{Format}
 use Rattle.fw_heap.specs.Pieces.{PieceState}
 use Rattle.fw_ring.specs.RingState.{capacity_of}
@@ -36,7 +36,7 @@ is_host_unit unit = false
 abbrev pub piece_of : Unit → PieceState
 piece_of (Host capture phase params piece) = piece
 piece_of (Dai capture format piece) = piece
-piece_of (Volume gains piece) = piece
+piece_of (Volume gains ramp from done frames piece) = piece
 piece_of (Mixer piece) = piece
 piece_of (Mux choice piece) = piece
 piece_of (Eq eq next remaining) = eq.piece
@@ -57,7 +57,7 @@ dai_kind false format = kinds.DaiPlay format
 abbrev pub kind_by : Unit → Kind
 kind_by (Host capture phase params piece) = host_kind capture
 kind_by (Dai capture format piece) = dai_kind capture format
-kind_by (Volume gains piece) = kinds.Volume
+kind_by (Volume gains ramp from done frames piece) = kinds.Volume
 kind_by (Mixer piece) = kinds.Mixer
 kind_by (Mux choice piece) = kinds.Mux
 kind_by (Eq eq next remaining) = kinds.Eq
@@ -65,13 +65,18 @@ kind_by (Buffer size ring source sink) = kinds.Mixer
 kind_by (Pipeline sched period complete piece) = kinds.Mixer
 
 abbrev pub setting_by : Unit → Setting
-setting_by (Volume gains piece) = settings.Gains gains
+setting_by (Volume gains ramp from done frames piece) = settings.Gains gains
 setting_by (Mux choice piece) = settings.Choice choice
 setting_by (Eq eq next remaining) = settings.Blob eq.blob
 setting_by unit = settings.Nothing
 
+-- the milliseconds of a volume's ramp
+abbrev pub ramp_by : Unit → ℕ
+ramp_by (Volume gains ramp from done frames piece) = ramp
+ramp_by unit = 0
+
 abbrev pub comp_by : Component → Comp
-comp_by c = record { id = c.id; kind = kind_by c.unit; pipe = c.pipe; setting = setting_by c.unit }
+comp_by c = record { id = c.id; kind = kind_by c.unit; pipe = c.pipe; setting = setting_by c.unit; ramp = ramp_by c.unit }
 
 abbrev pub size_by : Unit → ℕ
 size_by (Buffer size ring source sink) = size
@@ -125,8 +130,10 @@ capacity_by unit = 0
 abbrev pub ring_by : Component → RingView
 ring_by c = record { buffer = c.id; frames = unit_frames c.unit }
 
+-- an equaliser's numbers; of a volume the gains from which its ramp goes, and then how far it is
 abbrev pub numbers_by : Unit → ℕ → List ℤ
 numbers_by (Eq eq next remaining) channels = numbers_of eq channels
+numbers_by (Volume gains ramp from done frames piece) channels = map pos from ++ pos done ∷ []
 numbers_by unit channels = []
 
 -- what is staged of a blob whose last part did not come yet: a header, and 260 bytes a part

@@ -14,8 +14,9 @@ use stream_law::Phase;
 // The greatest gain, 256 in units of 1/65536.
 const GREATEST_GAIN: u32 = 16_777_216;
 
-/// What a component is, with its piece. An equaliser has the number of the part that is next and how many bytes remain; a buffer
-/// has the components that are joined to it.
+/// What a component is, with its piece. A volume has its ramp in milliseconds, the gains from which it goes to those that are set,
+/// how many of its frames are done, held at its end, and of how many it is. An equaliser has the number of the part that is next and
+/// how many bytes remain; a buffer has the components that are joined to it.
 pub enum Unit {
     Host {
         capture: bool,
@@ -30,6 +31,10 @@ pub enum Unit {
     },
     Volume {
         gains: Bounded<u32, 8>,
+        ramp: u32,
+        from: Bounded<u32, 8>,
+        done: u32,
+        length: u32,
         piece: Piece,
     },
     Mixer {
@@ -103,7 +108,14 @@ impl Component {
                 format: _,
                 piece,
             } => piece,
-            Unit::Volume { gains: _, piece } => piece,
+            Unit::Volume {
+                gains: _,
+                ramp: _,
+                from: _,
+                done: _,
+                length: _,
+                piece,
+            } => piece,
             Unit::Mixer { piece } => piece,
             Unit::Mux { choice: _, piece } => piece,
             Unit::Eq {

@@ -3,17 +3,21 @@ ghost use Rattle.std.specs.Prelude.{◌≡◌, ◌+◌, ◌*◌, ◌/◌, ◌%�
 ghost use Rattle.sof_base.specs.Samples.{width, frames_in};
 ghost use Rattle.sof_base.specs.FrameLists.{frames_of, samples_of, AreFrames};
 ghost use Rattle.stream_law.specs.Ways.{is_end};
-ghost use Rattle.fw_units.specs.Units.{unit_frames, capacity_by};
-ghost use Rattle.fw_units.specs.Frames.{words_of, begun_by, IsFresh, staged_by, channels_by, taken_by, pushed_by, comes_from, goes_to};
+ghost use Rattle.sof_base.specs.Ramps.{ramp_frames};
+ghost use Rattle.fw_units.specs.Units.{ramp_by, unit_frames, capacity_by};
+ghost use Rattle.fw_units.specs.Frames.{kept_words, begun_by, IsFresh, staged_by, channels_by, taken_by, pushed_by, comes_from, goes_to};
 
 use crate::component::{Component, Unit};
 use sof_base::{Format, Sample};
 
 impl Component {
-    /// It has so many channels from now on; a ring is empty and has frames of them, and an equaliser's epoch begins.
-    pub(crate) fn begin(&mut self, channels: u8)
-        requires { (1 ≤ channels) × (channels ≤ 8) }
-        ensures begun { self.new ≡ begun_by channels (words_of self.new) self.old }
+    /// It has so many channels from now on, at so many frames a second; a ring is empty and has frames of them, an equaliser's epoch
+    /// begins, and a volume has the gains that are set.
+    pub fn begin(&mut self, channels: u8, rate: u32)
+        requires channels { (1 ≤ channels) × (channels ≤ 8) }
+        requires rate { rate ≤ 192000 }
+        requires ramp { ramp_by self.old.unit ≤ 10000 }
+        ensures begun { self.new ≡ begun_by channels rate (kept_words self.new) self.old }
         ensures fresh { IsFresh self.new.unit }
         ensures staged { staged_by self.new.unit ≡ staged_by self.old.unit }
     {
@@ -24,12 +28,24 @@ impl Component {
                 ring.clear();
                 ring.set_channels(channels);
             }
+            Unit::Volume {
+                gains,
+                ramp,
+                from,
+                done,
+                length,
+                ..
+            } => {
+                *from = gains.copied();
+                *done = 0;
+                *length = frames_of_ramp(*ramp, rate);
+            }
             _ => (),
         }
     }
 
     /// The ring of a buffer loses its first frames.
-    pub(crate) fn take(&mut self, n: u32)
+    pub fn take(&mut self, n: u32)
         requires { n ≤ length (unit_frames self.old.unit) }
         ensures { self.new ≡ taken_by n self.old }
     {
@@ -39,10 +55,10 @@ impl Component {
     }
 
     /// The ring of a buffer has the frames of these samples behind its own.
-    pub(crate) fn push(&mut self, samples: &[Sample])
+    pub fn push(&mut self, samples: &[Sample])
         requires whole { length samples.now % channels_by self.old.unit ≡ 0 }
         requires fit { length (unit_frames self.old.unit) + length samples.now / channels_by self.old.unit ≤ capacity_by self.old.unit }
-        ensures { self.new ≡ pushed_by (frames_of (channels_by self.old.unit) (length samples.now / channels_by self.old.unit) samples.now) (words_of self.new) self.old }
+        ensures { self.new ≡ pushed_by (frames_of (channels_by self.old.unit) (length samples.now / channels_by self.old.unit) samples.now) (kept_words self.new) self.old }
     {
         if let Unit::Buffer { ring, .. } = &mut self.unit {
             ring.push_frames(samples);
@@ -50,10 +66,10 @@ impl Component {
     }
 
     /// The ring of a buffer has the frames of these bytes behind its own.
-    pub(crate) fn push_bytes(&mut self, format: Format, n: u32, bytes: &[u8])
+    pub fn push_bytes(&mut self, format: Format, n: u32, bytes: &[u8])
         requires whole { length bytes.now ≡ n * (channels_by self.old.unit * width format) }
         requires fit { length (unit_frames self.old.unit) + n ≤ capacity_by self.old.unit }
-        ensures { self.new ≡ pushed_by (frames_in format (channels_by self.old.unit) bytes.now 0 n) (words_of self.new) self.old }
+        ensures { self.new ≡ pushed_by (frames_in format (channels_by self.old.unit) bytes.now 0 n) (kept_words self.new) self.old }
     {
         if let Unit::Buffer { ring, .. } = &mut self.unit {
             ring.push_bytes(format, n, bytes);
@@ -75,7 +91,7 @@ impl Component {
     }
 
     /// How many samples a frame of a buffer has, 1 to 8.
-    pub(crate) fn frame_samples(&self) -> usize
+    pub fn frame_samples(&self) -> usize
         ensures some { 1 ≤ result }
         ensures few { result ≤ 8 }
         ensures is { result ≡ channels_by self.now.unit }
@@ -103,7 +119,7 @@ impl Component {
     }
 
     /// Writes the samples of the first `n` frames of a buffer.
-    pub(crate) fn copy(&self, n: u32, samples: &mut [Sample])
+    pub fn copy(&self, n: u32, samples: &mut [Sample])
         requires held { n ≤ length (unit_frames self.now.unit) }
         requires size { length samples.old ≡ n * channels_by self.now.unit }
         ensures { samples.new ≡ samples_of (take n (unit_frames self.now.unit)) }
@@ -111,6 +127,15 @@ impl Component {
         let (front, back) = self.spans(n);
         copy_both(front, back, samples);
     }
+}
+
+// The frames of a ramp of so many milliseconds.
+fn frames_of_ramp(milliseconds: u32, rate: u32) -> u32
+    requires ramp { milliseconds ≤ 10000 }
+    requires rate { rate ≤ 192000 }
+    ensures { result ≡ ramp_frames milliseconds rate }
+{
+    milliseconds * rate / 1000
 }
 
 fn is_end(end: Option<u32>, id: u32) -> bool

@@ -1,19 +1,20 @@
 // What a volume, a mixer, a mux and an equaliser make of the frames of buffers.
-ghost use Rattle.std.specs.Prelude.{◌≡◌, ◌*◌, ◌%◌, ◌≤◌, ◌<◌, ◌^◌, ◌++◌, true, map, length, replicate, pos, nat_abs, filter, slice_get, option_copied, ◌==◌};
+ghost use Rattle.std.specs.Prelude.{◌≡◌, ◌+◌, ◌*◌, ◌/◌, ◌%◌, ◌≤◌, ◌<◌, ◌^◌, ◌++◌, true, map, length, min, replicate, pos, nat_abs, filter, slice_get, option_copied, ◌==◌};
 ghost use Rattle.std.specs.List.{AllByRecursion};
 ghost use Rattle.sof_base.specs.FrameLists.{frames_of};
 ghost use Rattle.stream_law.specs.Placed.{Ascends};
-ghost use Rattle.fw_gain.specs.Kernels.{all_amplified, summed, held};
+ghost use Rattle.fw_gain.specs.Kernels.{summed, held};
+ghost use Rattle.fw_gain.specs.RampKernels.{all_ramped};
 ghost use Rattle.fw_units.specs.Units.{numbers_by};
 ghost use Rattle.fw_units.specs.Changes.{has_id};
-ghost use Rattle.fw_units.specs.Frames.{words_of, staged_by, buffer_frames, channels_in};
-ghost use Rattle.fw_units.specs.Processed.{moves_of, IsInlet, slices_in, chosen_by, made_numbers, run_by};
+ghost use Rattle.fw_units.specs.Frames.{kept_words, staged_by, buffer_frames, channels_in};
+ghost use Rattle.fw_units.specs.Processed.{moves_of, IsLevel, IsInlet, slices_in, chosen_by, done_after, made_numbers, run_by};
 ghost use Rattle.fw_units.specs.Moving.{samples_in, all_summed, IsWhole, looked_choice, frames_now};
 
 use crate::component::{Component, Unit};
 use crate::frames::copy_both;
 use crate::hints::Hints;
-use fw_gain::{mix_add, mix_begin, mix_end, mix_first, select, volume};
+use fw_gain::{mix_add, mix_begin, mix_end, mix_first, select, volume_ramp};
 use sof_base::Sample;
 use stream_law::Join;
 
@@ -40,6 +41,7 @@ impl Component {
         samples: &mut [Sample],
     )
         requires kind { moves_of self.old.unit (length looked.now) ≡ true }
+        requires level { IsLevel self.old.unit }
         requires ascends { Ascends (λ c. c.id) buffers.now }
         requires channels { (1 ≤ self.old.channels) × (self.old.channels ≤ 8) }
         requires few { length looked.now ≤ 128 }
@@ -47,21 +49,33 @@ impl Component {
         requires sums { length sums.old ≡ n * self.old.channels }
         requires samples { length samples.old ≡ n * self.old.channels }
         ensures frames { frames_of self.old.channels n samples.new ≡ frames_now chosen buffers.now looked.now n self.old }
-        ensures component { self.new ≡ run_by (words_of self.new) self.old }
+        ensures component { self.new ≡ run_by (kept_words self.new) n self.old }
         ensures numbers { numbers_by self.new.unit self.new.channels ≡ made_numbers self.old.unit self.old.channels (slices_in buffers.now looked.now n) }
         ensures staged { staged_by self.new.unit ≡ staged_by self.old.unit }
     {
         match &mut self.unit {
-            Unit::Volume { gains, .. } => {
+            Unit::Volume {
+                gains,
+                from,
+                done,
+                length,
+                ..
+            } => {
+                let starts = from.items();
+                let ends = gains.items();
                 amplify(
                     looked[0],
                     n,
                     hints,
                     buffers,
                     self.channels,
-                    gains.items(),
+                    starts,
+                    ends,
+                    *done,
+                    *length,
                     samples,
                 );
+                *done = done_after(*length, *done, n);
             }
             Unit::Mixer { .. } => mix(looked, n, hints, buffers, sums, samples),
             Unit::Mux { .. } => match looked_at(looked, chosen) {
@@ -140,14 +154,29 @@ fn copy(inlet: u32, n: u32, hints: &Hints, buffers: &[Component], samples: &mut 
     copy_both(front, back, samples);
 }
 
-// Writes the samples of the first `n` frames of a buffer, each by the gain of its channel.
+// How many frames of a ramp are done after `n` more: held at its end, where a ramp over no frame ends after one.
+fn done_after(count: u32, done: u32, n: u32) -> u32
+    ensures { result ≡ done_after count done n }
+{
+    if n == 0 {
+        done
+    } else {
+        done.saturating_add(n).min(count.max(1))
+    }
+}
+
+// Writes the samples of the first `n` frames of a buffer, each by the gain of its channel at its frame, of a ramp of which so many are
+// done.
 fn amplify(
     inlet: u32,
     n: u32,
     hints: &Hints,
     buffers: &[Component],
     channels: u8,
-    gains: &[u32],
+    from: &[u32],
+    to: &[u32],
+    done: u32,
+    count: u32,
     samples: &mut [Sample],
 )
     requires ascends { Ascends (λ c. c.id) buffers.now }
@@ -156,15 +185,27 @@ fn amplify(
     requires shape { channels_in buffers.now inlet ≡ channels }
     requires channels { (1 ≤ channels) × (channels ≤ 8) }
     requires size { length samples.old ≡ n * channels }
-    ensures samples { samples.new ≡ all_amplified channels gains.now (samples_in buffers.now n inlet) }
+    requires gains { length from.now ≡ length to.now }
+    ensures samples { samples.new ≡ all_ramped channels from.now to.now count done (samples_in buffers.now n inlet) }
     ensures frames { IsWhole buffers.now inlet }
 {
     let (front, back) = spans(hints, buffers, inlet, n);
     let (near, far) = samples.split_at_mut(front.len());
-    volume(front, near, channels, gains);
+    volume_ramp(front, near, channels, from, to, done, count);
     if !back.is_empty() {
-        volume(back, far, channels, gains);
+        let later = later_of(front.len(), n, channels, done);
+        volume_ramp(back, far, channels, from, to, later, count);
     }
+}
+
+// How many frames of a ramp come before what follows so many samples, which are of at most `n` frames: no more than 32 bits tell.
+fn later_of(samples: usize, n: u32, channels: u8, done: u32) -> u32
+    requires channels { (1 ≤ channels) × (channels ≤ 8) }
+    requires few { samples ≤ n * channels }
+    ensures { result ≡ min (done + samples / channels) 4294967295 }
+{
+    let frames = samples / usize::from(channels);
+    done.saturating_add(frames as u32)
 }
 
 // Writes the sums of the samples of the first `n` frames of each of these buffers, held once.

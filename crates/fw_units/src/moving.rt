@@ -9,7 +9,6 @@ ghost use Rattle.fw_units.specs.Moving.{CanMove, IsMoved};
 
 use crate::component::Component;
 use crate::hints::Hints;
-use crate::places::{push_in, shorten_in};
 use crate::workspace::{MOST, Workspace};
 use sof_base::Sample;
 use stream_law::Join;
@@ -100,7 +99,8 @@ impl Component {
             made,
         );
         drain_in(hints, buffers, looked, n);
-        push_in(hints, buffers, fed, made);
+        let at = hints.place(buffers.as_slice(), fed);
+        buffers[at].push(made);
     }
 }
 
@@ -137,6 +137,7 @@ fn drain_in(hints: &Hints, components: &mut Vec<Component>, looked: &[u32], n: u
     ensures capacity { vec_capacity components.new ≡ vec_capacity components.old }
 {
     for inlet in looked {
-        shorten_in(hints, components, *inlet, n);
+        let at = hints.place(components.as_slice(), *inlet);
+        components[at].take(n);
     }
 }

@@ -14,4 +14,4 @@ pub returns-clause-histories : goal.returns-clause-histories
 returns-clause-histories c id fed n looked frames words own t kept = histories-moved id fed n looked frames words own t kept
 
 pub returns-clause-staging : goal.returns-clause-staging
-returns-clause-staging c id fed n looked frames words own t kept staged = staging-same id own t.comps kept.named.comps staged
+returns-clause-staging c id fed n looked frames words own t kept staged = staging-same id own n t.comps kept.named.comps staged

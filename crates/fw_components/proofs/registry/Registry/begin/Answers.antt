@@ -1,4 +1,4 @@
-use Rattle.std.proofs.Common.{◌≡◌, ◌≤◌, ◌∙◌, sym, ap, subst, true, false, ◌==◌}
+use Rattle.std.proofs.Common.{◌≡◌, ◌∙◌, sym, ap, true, false, set, Some, ◌==◌}
 use Rattle.std.proofs.lemmas.Bool.{true≢false}
 use Rattle.std.specs.Prelude.{position}
 use Rattle.fw_units.specs.declared.component.Component.{Component}
@@ -7,100 +7,118 @@ use Rattle.fw_units.specs.Changes.{has_id}
 use Rattle.fw_components.specs.Changes.{is_there}
 use Rattle.fw_components.specs.Frames.{begun, words_at, staged_at}
 use Rattle.fw_components.specs.Laid.{tables_of}
-use Rattle.fw_units.proofs.Found.{placed-there, never-there}
+use Rattle.fw_units.proofs.Found.{never-there}
 use Rattle.fw_components.proofs.Going.{none-there}
 use Rattle.fw_components.proofs.Begun.{comp-begun, buffer-begun, pipe-begun}
-use Rattle.fw_components.proofs.Started.{comp-begins, buffer-begins, pipe-begins}
+use Rattle.fw_components.proofs.Started.{begun-put, comp-begins, buffer-begins, pipe-begins}
 use Rattle.fw_components.proofs.TallyKept.{begun-tallied, begun-buffers-tallied}
 use Rattle.fw_components.proofs.Tallying.{pipes-tallied}
 use Rattle.fw_components.proofs.registry.Registry.begin.Goals as goal
 
 pub invariant_of-self : goal.invariant_of-self
-invariant_of-self c = record {
-  comps = subst (λ n. 128 ≤ n) (sym c.begin_at.ensures.capacity) c.self.invariant.comps;
-  buffers = c.self.invariant.buffers;
-  pipes = c.self.invariant.pipes;
-  joins = c.self.invariant.joins;
-  kept = comp-begun (tables_of c.self.inside) c.self.invariant.kept c.args.id c.args.p.channels _ c.begin_at.new.components.items c.begin_at.ensures.items;
-  tallied = begun-tallied (tables_of c.self.inside) c.self.inside.tallies c.self.invariant.tallied c.args.id c.args.p.channels _ c.begin_at.new.components.items c.begin_at.ensures.items;
-}
+invariant_of-self c =
+    let t = tables_of c.self.inside in
+    let place : Some c.in-Some.at ≡ position (λ (y : Component). y.id == c.args.id) t.comps = c.in-Some.ensures ∙ ap (position (λ (y : Component). y.id == c.args.id)) c.as_slice.ensures.value in
+    let put = (begun-put t c.self.invariant.kept c.args.id c.args.p.channels _ c.in-Some.at c.index_mut.result.now c.begin.new.self t.comps c.self.invariant.kept.named.comps place c.index_mut.ensures.value c.begin.ensures.begun c.begin.ensures.fresh c.begin.ensures.staged).0 in
+    record {
+      comps = c.self.invariant.comps;
+      buffers = c.self.invariant.buffers;
+      pipes = c.self.invariant.pipes;
+      joins = c.self.invariant.joins;
+      kept = comp-begun t c.self.invariant.kept c.args.id c.args.p.channels _ _ (set t.comps c.in-Some.at c.begin.new.self) put;
+      tallied = begun-tallied t c.self.inside.tallies c.self.invariant.tallied c.args.id c.args.p.channels _ _ (set t.comps c.in-Some.at c.begin.new.self) put;
+    }
 
 pub invariant_of-self-in-Some-place_of : goal.invariant_of-self-in-Some-place_of
-invariant_of-self-in-Some-place_of c = record {
-  comps = c.self.invariant.comps;
-  buffers = subst (λ n. 128 ≤ n) (sym c.begin_at-in-Some-place_of.ensures.capacity) c.self.invariant.buffers;
-  pipes = c.self.invariant.pipes;
-  joins = c.self.invariant.joins;
-  kept = buffer-begun (tables_of c.self.inside) c.self.invariant.kept c.args.id c.args.p.channels _ c.begin_at-in-Some-place_of.new.components.items c.begin_at-in-Some-place_of.ensures.items;
-  tallied = begun-buffers-tallied (tables_of c.self.inside) c.self.inside.tallies c.self.invariant.tallied c.args.id c.args.p.channels _ c.begin_at-in-Some-place_of.new.components.items c.begin_at-in-Some-place_of.ensures.items;
-}
+invariant_of-self-in-Some-place_of c =
+    let t = tables_of c.self.inside in
+    let place : Some c.in-Some-place_of.at ≡ position (λ (y : Component). y.id == c.args.id) t.buffers = c.in-Some-place_of.ensures ∙ ap (position (λ (y : Component). y.id == c.args.id)) c.as_slice-in_default.ensures.value in
+    let put = (begun-put t c.self.invariant.kept c.args.id c.args.p.channels _ c.in-Some-place_of.at c.index_mut-in-Some-place_of.result.now c.begin-in-Some-place_of.new.self t.buffers c.self.invariant.kept.named.buffers place c.index_mut-in-Some-place_of.ensures.value c.begin-in-Some-place_of.ensures.begun c.begin-in-Some-place_of.ensures.fresh c.begin-in-Some-place_of.ensures.staged).0 in
+    record {
+      comps = c.self.invariant.comps;
+      buffers = c.self.invariant.buffers;
+      pipes = c.self.invariant.pipes;
+      joins = c.self.invariant.joins;
+      kept = buffer-begun t c.self.invariant.kept c.args.id c.args.p.channels _ _ (set t.buffers c.in-Some-place_of.at c.begin-in-Some-place_of.new.self) put;
+      tallied = begun-buffers-tallied t c.self.inside.tallies c.self.invariant.tallied c.args.id c.args.p.channels _ _ (set t.buffers c.in-Some-place_of.at c.begin-in-Some-place_of.new.self) put;
+    }
 
 pub invariant_of-self-in-Some-place_of-2 : goal.invariant_of-self-in-Some-place_of-2
-invariant_of-self-in-Some-place_of-2 c = record {
-  comps = c.self.invariant.comps;
-  buffers = c.self.invariant.buffers;
-  pipes = subst (λ n. 32 ≤ n) (sym c.begin_at-in-Some-place_of-2.ensures.capacity) c.self.invariant.pipes;
-  joins = c.self.invariant.joins;
-  kept = pipe-begun (tables_of c.self.inside) c.self.invariant.kept c.args.id c.args.p.channels _ c.begin_at-in-Some-place_of-2.new.components.items c.begin_at-in-Some-place_of-2.ensures.items;
-  tallied = pipes-tallied (tables_of c.self.inside) c.self.inside.tallies c.self.invariant.tallied c.begin_at-in-Some-place_of-2.new.components.items;
-}
+invariant_of-self-in-Some-place_of-2 c =
+    let t = tables_of c.self.inside in
+    let place : Some c.in-Some-place_of-2.at ≡ position (λ (y : Component). y.id == c.args.id) t.pipes = c.in-Some-place_of-2.ensures ∙ ap (position (λ (y : Component). y.id == c.args.id)) c.as_slice-in_default-place_of.ensures.value in
+    let put = (begun-put t c.self.invariant.kept c.args.id c.args.p.channels _ c.in-Some-place_of-2.at c.index_mut-in-Some-place_of-2.result.now c.begin-in-Some-place_of-2.new.self t.pipes c.self.invariant.kept.named.pipes place c.index_mut-in-Some-place_of-2.ensures.value c.begin-in-Some-place_of-2.ensures.begun c.begin-in-Some-place_of-2.ensures.fresh c.begin-in-Some-place_of-2.ensures.staged).0 in
+    record {
+      comps = c.self.invariant.comps;
+      buffers = c.self.invariant.buffers;
+      pipes = c.self.invariant.pipes;
+      joins = c.self.invariant.joins;
+      kept = pipe-begun t c.self.invariant.kept c.args.id c.args.p.channels _ _ (set t.pipes c.in-Some-place_of-2.at c.begin-in-Some-place_of-2.new.self) put;
+      tallied = pipes-tallied t c.self.inside.tallies c.self.invariant.tallied (set t.pipes c.in-Some-place_of-2.at c.begin-in-Some-place_of-2.new.self);
+    }
 
 pub returns-in-Some-clause-tables : goal.returns-in-Some-clause-tables
 returns-in-Some-clause-tables c =
     let t = tables_of c.self.inside in
-    let there : has_id t.comps c.args.id ≡ true = placed-there c.args.id t.comps c.in-Some.at (c.in-Some.ensures ∙ ap (position (λ (y : Component). y.id == c.args.id)) c.as_slice.ensures.value) in
-    (comp-begins t c.self.invariant.kept c.args.id c.args.p.channels c.begin_at.new.components.items there c.begin_at.ensures.items c.begin_at.ensures.fresh c.begin_at.ensures.staged).0 ∙ ap (λ (t : Tables). begun c.args.id c.args.p.channels (words_at (record { comps = c.begin_at.new.components.items; buffers = c.self.inside.buffers.items; pipes = c.self.inside.pipes.items; joins = c.self.inside.joins.items }) c.args.id) t) c.self.view_is
+    let now : Tables = record { comps = set t.comps c.in-Some.at c.begin.new.self; buffers = t.buffers; pipes = t.pipes; joins = t.joins } in
+    let place : Some c.in-Some.at ≡ position (λ (y : Component). y.id == c.args.id) t.comps = c.in-Some.ensures ∙ ap (position (λ (y : Component). y.id == c.args.id)) c.as_slice.ensures.value in
+    (comp-begins t c.self.invariant.kept c.args.id c.args.p.channels c.args.p.rate c.in-Some.at c.index_mut.result.now c.begin.new.self place (begun-put t c.self.invariant.kept c.args.id c.args.p.channels c.args.p.rate c.in-Some.at c.index_mut.result.now c.begin.new.self t.comps c.self.invariant.kept.named.comps place c.index_mut.ensures.value c.begin.ensures.begun c.begin.ensures.fresh c.begin.ensures.staged)).0 ∙ ap (λ (t : Tables). begun c.args.id c.args.p.channels c.args.p.rate (words_at now c.args.id) t) c.self.view_is
 
 pub returns-in-Some-clause-fresh : goal.returns-in-Some-clause-fresh
 returns-in-Some-clause-fresh c =
     let t = tables_of c.self.inside in
-    let there : has_id t.comps c.args.id ≡ true = placed-there c.args.id t.comps c.in-Some.at (c.in-Some.ensures ∙ ap (position (λ (y : Component). y.id == c.args.id)) c.as_slice.ensures.value) in
-    (comp-begins t c.self.invariant.kept c.args.id c.args.p.channels c.begin_at.new.components.items there c.begin_at.ensures.items c.begin_at.ensures.fresh c.begin_at.ensures.staged).1.0
+    let place : Some c.in-Some.at ≡ position (λ (y : Component). y.id == c.args.id) t.comps = c.in-Some.ensures ∙ ap (position (λ (y : Component). y.id == c.args.id)) c.as_slice.ensures.value in
+    (comp-begins t c.self.invariant.kept c.args.id c.args.p.channels _ c.in-Some.at c.index_mut.result.now c.begin.new.self place (begun-put t c.self.invariant.kept c.args.id c.args.p.channels _ c.in-Some.at c.index_mut.result.now c.begin.new.self t.comps c.self.invariant.kept.named.comps place c.index_mut.ensures.value c.begin.ensures.begun c.begin.ensures.fresh c.begin.ensures.staged)).1.0
 
 pub returns-in-Some-clause-staged : goal.returns-in-Some-clause-staged
 returns-in-Some-clause-staged c =
     let t = tables_of c.self.inside in
-    let there : has_id t.comps c.args.id ≡ true = placed-there c.args.id t.comps c.in-Some.at (c.in-Some.ensures ∙ ap (position (λ (y : Component). y.id == c.args.id)) c.as_slice.ensures.value) in
-    (comp-begins t c.self.invariant.kept c.args.id c.args.p.channels c.begin_at.new.components.items there c.begin_at.ensures.items c.begin_at.ensures.fresh c.begin_at.ensures.staged).1.1 ∙ ap (λ (t : Tables). staged_at t c.args.id) c.self.view_is
+    let place : Some c.in-Some.at ≡ position (λ (y : Component). y.id == c.args.id) t.comps = c.in-Some.ensures ∙ ap (position (λ (y : Component). y.id == c.args.id)) c.as_slice.ensures.value in
+    (comp-begins t c.self.invariant.kept c.args.id c.args.p.channels _ c.in-Some.at c.index_mut.result.now c.begin.new.self place (begun-put t c.self.invariant.kept c.args.id c.args.p.channels _ c.in-Some.at c.index_mut.result.now c.begin.new.self t.comps c.self.invariant.kept.named.comps place c.index_mut.ensures.value c.begin.ensures.begun c.begin.ensures.fresh c.begin.ensures.staged)).1.1 ∙ ap (λ (t : Tables). staged_at t c.args.id) c.self.view_is
 
 pub returns-in-Some-place_of-clause-tables : goal.returns-in-Some-place_of-clause-tables
 returns-in-Some-place_of-clause-tables c =
     let t = tables_of c.self.inside in
-    let there : has_id t.buffers c.args.id ≡ true = placed-there c.args.id t.buffers c.in-Some-place_of.at (c.in-Some-place_of.ensures ∙ ap (position (λ (y : Component). y.id == c.args.id)) c.as_slice-in_default.ensures.value) in
-    (buffer-begins t c.self.invariant.kept c.args.id c.args.p.channels c.begin_at-in-Some-place_of.new.components.items there c.begin_at-in-Some-place_of.ensures.items c.begin_at-in-Some-place_of.ensures.fresh c.begin_at-in-Some-place_of.ensures.staged).0 ∙ ap (λ (t : Tables). begun c.args.id c.args.p.channels (words_at (record { comps = c.self.inside.comps.items; buffers = c.begin_at-in-Some-place_of.new.components.items; pipes = c.self.inside.pipes.items; joins = c.self.inside.joins.items }) c.args.id) t) c.self.view_is
+    let now : Tables = record { comps = t.comps; buffers = set t.buffers c.in-Some-place_of.at c.begin-in-Some-place_of.new.self; pipes = t.pipes; joins = t.joins } in
+    let place : Some c.in-Some-place_of.at ≡ position (λ (y : Component). y.id == c.args.id) t.buffers = c.in-Some-place_of.ensures ∙ ap (position (λ (y : Component). y.id == c.args.id)) c.as_slice-in_default.ensures.value in
+    (buffer-begins t c.self.invariant.kept c.args.id c.args.p.channels c.args.p.rate c.in-Some-place_of.at c.index_mut-in-Some-place_of.result.now c.begin-in-Some-place_of.new.self place (begun-put t c.self.invariant.kept c.args.id c.args.p.channels c.args.p.rate c.in-Some-place_of.at c.index_mut-in-Some-place_of.result.now c.begin-in-Some-place_of.new.self t.buffers c.self.invariant.kept.named.buffers place c.index_mut-in-Some-place_of.ensures.value c.begin-in-Some-place_of.ensures.begun c.begin-in-Some-place_of.ensures.fresh c.begin-in-Some-place_of.ensures.staged)).0 ∙ ap (λ (t : Tables). begun c.args.id c.args.p.channels c.args.p.rate (words_at now c.args.id) t) c.self.view_is
 
 pub returns-in-Some-place_of-clause-fresh : goal.returns-in-Some-place_of-clause-fresh
 returns-in-Some-place_of-clause-fresh c =
     let t = tables_of c.self.inside in
-    let there : has_id t.buffers c.args.id ≡ true = placed-there c.args.id t.buffers c.in-Some-place_of.at (c.in-Some-place_of.ensures ∙ ap (position (λ (y : Component). y.id == c.args.id)) c.as_slice-in_default.ensures.value) in
-    (buffer-begins t c.self.invariant.kept c.args.id c.args.p.channels c.begin_at-in-Some-place_of.new.components.items there c.begin_at-in-Some-place_of.ensures.items c.begin_at-in-Some-place_of.ensures.fresh c.begin_at-in-Some-place_of.ensures.staged).1.0
+    let place : Some c.in-Some-place_of.at ≡ position (λ (y : Component). y.id == c.args.id) t.buffers = c.in-Some-place_of.ensures ∙ ap (position (λ (y : Component). y.id == c.args.id)) c.as_slice-in_default.ensures.value in
+    (buffer-begins t c.self.invariant.kept c.args.id c.args.p.channels _ c.in-Some-place_of.at c.index_mut-in-Some-place_of.result.now c.begin-in-Some-place_of.new.self place (begun-put t c.self.invariant.kept c.args.id c.args.p.channels _ c.in-Some-place_of.at c.index_mut-in-Some-place_of.result.now c.begin-in-Some-place_of.new.self t.buffers c.self.invariant.kept.named.buffers place c.index_mut-in-Some-place_of.ensures.value c.begin-in-Some-place_of.ensures.begun c.begin-in-Some-place_of.ensures.fresh c.begin-in-Some-place_of.ensures.staged)).1.0
 
 pub returns-in-Some-place_of-clause-staged : goal.returns-in-Some-place_of-clause-staged
 returns-in-Some-place_of-clause-staged c =
     let t = tables_of c.self.inside in
-    let there : has_id t.buffers c.args.id ≡ true = placed-there c.args.id t.buffers c.in-Some-place_of.at (c.in-Some-place_of.ensures ∙ ap (position (λ (y : Component). y.id == c.args.id)) c.as_slice-in_default.ensures.value) in
-    (buffer-begins t c.self.invariant.kept c.args.id c.args.p.channels c.begin_at-in-Some-place_of.new.components.items there c.begin_at-in-Some-place_of.ensures.items c.begin_at-in-Some-place_of.ensures.fresh c.begin_at-in-Some-place_of.ensures.staged).1.1 ∙ ap (λ (t : Tables). staged_at t c.args.id) c.self.view_is
+    let place : Some c.in-Some-place_of.at ≡ position (λ (y : Component). y.id == c.args.id) t.buffers = c.in-Some-place_of.ensures ∙ ap (position (λ (y : Component). y.id == c.args.id)) c.as_slice-in_default.ensures.value in
+    (buffer-begins t c.self.invariant.kept c.args.id c.args.p.channels _ c.in-Some-place_of.at c.index_mut-in-Some-place_of.result.now c.begin-in-Some-place_of.new.self place (begun-put t c.self.invariant.kept c.args.id c.args.p.channels _ c.in-Some-place_of.at c.index_mut-in-Some-place_of.result.now c.begin-in-Some-place_of.new.self t.buffers c.self.invariant.kept.named.buffers place c.index_mut-in-Some-place_of.ensures.value c.begin-in-Some-place_of.ensures.begun c.begin-in-Some-place_of.ensures.fresh c.begin-in-Some-place_of.ensures.staged)).1.1 ∙ ap (λ (t : Tables). staged_at t c.args.id) c.self.view_is
 
 pub returns-in-Some-place_of-2-clause-tables : goal.returns-in-Some-place_of-2-clause-tables
 returns-in-Some-place_of-2-clause-tables c =
     let t = tables_of c.self.inside in
+    let now : Tables = record { comps = t.comps; buffers = t.buffers; pipes = set t.pipes c.in-Some-place_of-2.at c.begin-in-Some-place_of-2.new.self; joins = t.joins } in
+    let place : Some c.in-Some-place_of-2.at ≡ position (λ (y : Component). y.id == c.args.id) t.pipes = c.in-Some-place_of-2.ensures ∙ ap (position (λ (y : Component). y.id == c.args.id)) c.as_slice-in_default-place_of.ensures.value in
     let gone : has_id t.comps c.args.id ≡ false = never-there c.args.id t.comps (c.in_default.ensures ∙ ap (position (λ (y : Component). y.id == c.args.id)) c.as_slice.ensures.value) in
     let far : has_id t.buffers c.args.id ≡ false = never-there c.args.id t.buffers (c.in_default-place_of.ensures ∙ ap (position (λ (y : Component). y.id == c.args.id)) c.as_slice-in_default.ensures.value) in
-    (pipe-begins t c.self.invariant.kept c.args.id c.args.p.channels c.begin_at-in-Some-place_of-2.new.components.items gone far c.begin_at-in-Some-place_of-2.ensures.items c.begin_at-in-Some-place_of-2.ensures.fresh c.begin_at-in-Some-place_of-2.ensures.staged).0 ∙ ap (λ (t : Tables). begun c.args.id c.args.p.channels (words_at (record { comps = c.self.inside.comps.items; buffers = c.self.inside.buffers.items; pipes = c.begin_at-in-Some-place_of-2.new.components.items; joins = c.self.inside.joins.items }) c.args.id) t) c.self.view_is
+    (pipe-begins t c.self.invariant.kept c.args.id c.args.p.channels c.args.p.rate c.in-Some-place_of-2.at c.index_mut-in-Some-place_of-2.result.now c.begin-in-Some-place_of-2.new.self gone far (begun-put t c.self.invariant.kept c.args.id c.args.p.channels c.args.p.rate c.in-Some-place_of-2.at c.index_mut-in-Some-place_of-2.result.now c.begin-in-Some-place_of-2.new.self t.pipes c.self.invariant.kept.named.pipes place c.index_mut-in-Some-place_of-2.ensures.value c.begin-in-Some-place_of-2.ensures.begun c.begin-in-Some-place_of-2.ensures.fresh c.begin-in-Some-place_of-2.ensures.staged)).0 ∙ ap (λ (t : Tables). begun c.args.id c.args.p.channels c.args.p.rate (words_at now c.args.id) t) c.self.view_is
 
 pub returns-in-Some-place_of-2-clause-fresh : goal.returns-in-Some-place_of-2-clause-fresh
 returns-in-Some-place_of-2-clause-fresh c =
     let t = tables_of c.self.inside in
+    let place : Some c.in-Some-place_of-2.at ≡ position (λ (y : Component). y.id == c.args.id) t.pipes = c.in-Some-place_of-2.ensures ∙ ap (position (λ (y : Component). y.id == c.args.id)) c.as_slice-in_default-place_of.ensures.value in
     let gone : has_id t.comps c.args.id ≡ false = never-there c.args.id t.comps (c.in_default.ensures ∙ ap (position (λ (y : Component). y.id == c.args.id)) c.as_slice.ensures.value) in
     let far : has_id t.buffers c.args.id ≡ false = never-there c.args.id t.buffers (c.in_default-place_of.ensures ∙ ap (position (λ (y : Component). y.id == c.args.id)) c.as_slice-in_default.ensures.value) in
-    (pipe-begins t c.self.invariant.kept c.args.id c.args.p.channels c.begin_at-in-Some-place_of-2.new.components.items gone far c.begin_at-in-Some-place_of-2.ensures.items c.begin_at-in-Some-place_of-2.ensures.fresh c.begin_at-in-Some-place_of-2.ensures.staged).1.0
+    (pipe-begins t c.self.invariant.kept c.args.id c.args.p.channels _ c.in-Some-place_of-2.at c.index_mut-in-Some-place_of-2.result.now c.begin-in-Some-place_of-2.new.self gone far (begun-put t c.self.invariant.kept c.args.id c.args.p.channels _ c.in-Some-place_of-2.at c.index_mut-in-Some-place_of-2.result.now c.begin-in-Some-place_of-2.new.self t.pipes c.self.invariant.kept.named.pipes place c.index_mut-in-Some-place_of-2.ensures.value c.begin-in-Some-place_of-2.ensures.begun c.begin-in-Some-place_of-2.ensures.fresh c.begin-in-Some-place_of-2.ensures.staged)).1.0
 
 pub returns-in-Some-place_of-2-clause-staged : goal.returns-in-Some-place_of-2-clause-staged
 returns-in-Some-place_of-2-clause-staged c =
     let t = tables_of c.self.inside in
+    let place : Some c.in-Some-place_of-2.at ≡ position (λ (y : Component). y.id == c.args.id) t.pipes = c.in-Some-place_of-2.ensures ∙ ap (position (λ (y : Component). y.id == c.args.id)) c.as_slice-in_default-place_of.ensures.value in
     let gone : has_id t.comps c.args.id ≡ false = never-there c.args.id t.comps (c.in_default.ensures ∙ ap (position (λ (y : Component). y.id == c.args.id)) c.as_slice.ensures.value) in
     let far : has_id t.buffers c.args.id ≡ false = never-there c.args.id t.buffers (c.in_default-place_of.ensures ∙ ap (position (λ (y : Component). y.id == c.args.id)) c.as_slice-in_default.ensures.value) in
-    (pipe-begins t c.self.invariant.kept c.args.id c.args.p.channels c.begin_at-in-Some-place_of-2.new.components.items gone far c.begin_at-in-Some-place_of-2.ensures.items c.begin_at-in-Some-place_of-2.ensures.fresh c.begin_at-in-Some-place_of-2.ensures.staged).1.1 ∙ ap (λ (t : Tables). staged_at t c.args.id) c.self.view_is
+    (pipe-begins t c.self.invariant.kept c.args.id c.args.p.channels _ c.in-Some-place_of-2.at c.index_mut-in-Some-place_of-2.result.now c.begin-in-Some-place_of-2.new.self gone far (begun-put t c.self.invariant.kept c.args.id c.args.p.channels _ c.in-Some-place_of-2.at c.index_mut-in-Some-place_of-2.result.now c.begin-in-Some-place_of-2.new.self t.pipes c.self.invariant.kept.named.pipes place c.index_mut-in-Some-place_of-2.ensures.value c.begin-in-Some-place_of-2.ensures.begun c.begin-in-Some-place_of-2.ensures.fresh c.begin-in-Some-place_of-2.ensures.staged)).1.1 ∙ ap (λ (t : Tables). staged_at t c.args.id) c.self.view_is
 
 pub returns-in_default-place_of-2-clause-tables : goal.returns-in_default-place_of-2-clause-tables
 returns-in_default-place_of-2-clause-tables c =

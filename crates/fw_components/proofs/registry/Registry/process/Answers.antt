@@ -6,7 +6,7 @@ use Rattle.std.specs.Option.{option_map_or}
 use Rattle.stream_law.specs.declared.graph.Join.{Join}
 use Rattle.fw_units.specs.declared.component.Component.{Component}
 use Rattle.fw_components.specs.Tables.{Tables}
-use Rattle.fw_units.specs.Frames.{words_of, staged_in}
+use Rattle.fw_units.specs.Frames.{kept_words, staged_in}
 use Rattle.fw_components.specs.Frames.{words_at}
 use Rattle.fw_components.specs.Laid.{tables_of}
 use Rattle.fw_units.specs.Processed.{moves_of, IsInlet, IsOutlet, chosen_by, run_by}
@@ -59,7 +59,7 @@ invariant_of-self c =
     let moved : IsMoved (chosen_by x.unit x.id t.joins) looked fed n t.buffers x c.carry.new.buffers.items c.carry.new.self =
     subst (λ (js : List Join). IsMoved (chosen_by x.unit x.id js) looked fed n t.buffers x c.carry.new.buffers.items c.carry.new.self) c.as_slice-in-Some.ensures.value c.carry.ensures.moved in
     let comps = set t.comps c.in-Some.at c.carry.new.self in
-    let put = put-words run_by (λ w y. refl) id c.in-Some.at t.comps comps c.carry.new.self x c.self.invariant.kept.named.comps place refl (moved.component ∙ ap (run_by (words_of c.carry.new.self)) c.index_mut.ensures.value) in
+    let put = put-words (λ w. run_by w n) (λ w y. refl) id c.in-Some.at t.comps comps c.carry.new.self x c.self.invariant.kept.named.comps place refl (moved.component ∙ ap (run_by (kept_words c.carry.new.self) n) c.index_mut.ensures.value) in
     record {
       comps = c.self.invariant.comps;
       buffers = subst (λ k. 128 ≤ k) (sym c.carry.ensures.capacity) c.self.invariant.buffers;
@@ -89,7 +89,7 @@ returns-clause-tables c =
     let moved : IsMoved (chosen_by x.unit x.id t.joins) looked fed n t.buffers x c.carry.new.buffers.items c.carry.new.self =
     subst (λ (js : List Join). IsMoved (chosen_by x.unit x.id js) looked fed n t.buffers x c.carry.new.buffers.items c.carry.new.self) c.as_slice-in-Some.ensures.value c.carry.ensures.moved in
     let comps = set t.comps c.in-Some.at c.carry.new.self in
-    let put = put-words run_by (λ w y. refl) id c.in-Some.at t.comps comps c.carry.new.self x c.self.invariant.kept.named.comps place refl (moved.component ∙ ap (run_by (words_of c.carry.new.self)) c.index_mut.ensures.value) in
+    let put = put-words (λ w. run_by w n) (λ w y. refl) id c.in-Some.at t.comps comps c.carry.new.self x c.self.invariant.kept.named.comps place refl (moved.component ∙ ap (run_by (kept_words c.carry.new.self) n) c.index_mut.ensures.value) in
     let now : Tables = record { comps = comps; buffers = c.carry.new.buffers.items; pipes = t.pipes; joins = t.joins } in
     now-processed t id x it c.self.invariant.kept looked fed n can.outlet.there c.carry.new.self comps c.carry.new.buffers.items put.0 put.1 moved
     ∙ ap (λ (t : Tables). processed id looked n fed (made_at t id looked n) (words_at now fed) (words_at now id) t) c.self.view_is
@@ -114,7 +114,7 @@ returns-clause-numbers c =
     let moved : IsMoved (chosen_by x.unit x.id t.joins) looked fed n t.buffers x c.carry.new.buffers.items c.carry.new.self =
     subst (λ (js : List Join). IsMoved (chosen_by x.unit x.id js) looked fed n t.buffers x c.carry.new.buffers.items c.carry.new.self) c.as_slice-in-Some.ensures.value c.carry.ensures.moved in
     let comps = set t.comps c.in-Some.at c.carry.new.self in
-    let put = put-words run_by (λ w y. refl) id c.in-Some.at t.comps comps c.carry.new.self x c.self.invariant.kept.named.comps place refl (moved.component ∙ ap (run_by (words_of c.carry.new.self)) c.index_mut.ensures.value) in
+    let put = put-words (λ w. run_by w n) (λ w y. refl) id c.in-Some.at t.comps comps c.carry.new.self x c.self.invariant.kept.named.comps place refl (moved.component ∙ ap (run_by (kept_words c.carry.new.self) n) c.index_mut.ensures.value) in
     now-numbers t id x it c.self.invariant.kept looked fed n can.outlet.there c.carry.new.self comps c.carry.new.buffers.items put.0 put.1 moved ∙ ap (λ (t : Tables). numbers_made_at t id looked n) c.self.view_is
 
 pub returns-clause-staged : goal.returns-clause-staged
@@ -137,5 +137,5 @@ returns-clause-staged c =
     let moved : IsMoved (chosen_by x.unit x.id t.joins) looked fed n t.buffers x c.carry.new.buffers.items c.carry.new.self =
     subst (λ (js : List Join). IsMoved (chosen_by x.unit x.id js) looked fed n t.buffers x c.carry.new.buffers.items c.carry.new.self) c.as_slice-in-Some.ensures.value c.carry.ensures.moved in
     let comps = set t.comps c.in-Some.at c.carry.new.self in
-    let put = put-words run_by (λ w y. refl) id c.in-Some.at t.comps comps c.carry.new.self x c.self.invariant.kept.named.comps place refl (moved.component ∙ ap (run_by (words_of c.carry.new.self)) c.index_mut.ensures.value) in
+    let put = put-words (λ w. run_by w n) (λ w y. refl) id c.in-Some.at t.comps comps c.carry.new.self x c.self.invariant.kept.named.comps place refl (moved.component ∙ ap (run_by (kept_words c.carry.new.self) n) c.index_mut.ensures.value) in
     now-staged t id x it c.self.invariant.kept looked fed n can.outlet.there c.carry.new.self comps c.carry.new.buffers.items put.0 put.1 moved ∙ ap (λ (t : Tables). staged_in t.comps id) c.self.view_is

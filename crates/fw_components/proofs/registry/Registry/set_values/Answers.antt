@@ -1,9 +1,10 @@
-use Rattle.std.proofs.Common.{◌≡◌, ◌<◌, ◌≤◌, ◌∙◌, sym, ap, subst, ◌==◌, Some, Ok, List, find, length, rules, Err}
+use Rattle.std.proofs.Common.{◌≡◌, ◌<◌, ◌≤◌, ◌∙◌, refl, sym, ap, subst, ◌==◌, true, Some, Ok, List, find, length, rules, Err}
+use Rattle.std.specs.Prelude.{position}
 use Rattle.fw_units.specs.declared.component.Component.{Component}
 use Rattle.fw_components.specs.Tables.{Tables}
 use Rattle.fw_components.specs.Values.{valued, left_with}
 use Rattle.fw_components.specs.Laid.{tables_of}
-use Rattle.fw_components.proofs.KeptLaws.{valued-kept}
+use Rattle.fw_components.proofs.ValuedKept.{valued-kept}
 use Rattle.fw_components.proofs.Told.{standing, takes-it, set-unplaced, set-refused, set-done}
 use Rattle.fw_components.proofs.TallyKept.{valued-tallied}
 use Rattle.fw_components.proofs.registry.Registry.set_values.Goals as goal
@@ -25,14 +26,19 @@ returns-then-not-takes-clause-answer c =
     set-refused c.args.self.now c.args.id c.args.command c.args.values.now c.in_ok-at.ensures.there (ap (takes-it c.args.self.now c.args.id c.args.command c.args.values.now) (sym it) ∙ sym c.takes.ensures ∙ search rules)
 
 pub invariant_of-self : goal.invariant_of-self
-invariant_of-self c = record {
-  comps = subst (λ n. 128 ≤ n) (sym c.value_in.ensures.capacity) c.self.invariant.comps;
-  buffers = c.self.invariant.buffers;
-  pipes = c.self.invariant.pipes;
-  joins = c.self.invariant.joins;
-  kept = valued-kept (tables_of c.self.inside) c.self.invariant.kept c.args.id c.args.values.now c.value_in.new.components.items c.value_in.ensures.items;
-  tallied = valued-tallied (tables_of c.self.inside) c.self.inside.tallies c.self.invariant.tallied c.args.id c.args.values.now c.value_in.new.components.items c.value_in.ensures.items;
-}
+invariant_of-self c =
+    let t = tables_of c.self.inside in
+    let x = c.index.result.now in
+    let it : Some x ≡ find (λ y. y.id == c.args.id) t.comps = standing c.args.id t.comps t.comps c.in_ok-at.at x refl (c.in_ok-at.ensures.place ∙ ap (λ (t : Tables). position (λ y. y.id == c.args.id) t.comps) (sym c.self.view_is)) c.index.ensures in
+    let takes : takes-it t c.args.id c.args.command c.args.values.now (find (λ y. y.id == c.args.id) t.comps) ≡ true = ap (takes-it t c.args.id c.args.command c.args.values.now) (sym it) ∙ sym c.takes.ensures ∙ search rules in
+    record {
+      comps = subst (λ n. 128 ≤ n) (sym c.value_in.ensures.capacity) c.self.invariant.comps;
+      buffers = c.self.invariant.buffers;
+      pipes = c.self.invariant.pipes;
+      joins = c.self.invariant.joins;
+      kept = valued-kept t c.self.invariant.kept c.args.id c.args.command c.args.values.now takes c.value_in.new.components.items c.value_in.ensures.items;
+      tallied = valued-tallied t c.self.inside.tallies c.self.invariant.tallied c.args.id c.args.values.now c.value_in.new.components.items c.value_in.ensures.items;
+    }
 
 pub returns-clause-answer : goal.returns-clause-answer
 returns-clause-answer c =

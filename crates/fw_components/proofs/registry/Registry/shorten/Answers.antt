@@ -1,20 +1,41 @@
-use Rattle.std.proofs.Common.{◌≤◌, ◌∙◌, sym, ap, subst}
-use Rattle.fw_components.specs.Tables.{Tables}
+use Rattle.std.proofs.Common.{◌≡◌, ◌≤◌, ◌∙◌, refl, sym, ap, subst, Some, List, length, set, ◌==◌}
+use Rattle.std.specs.Prelude.{position}
+use Rattle.fw_units.specs.declared.component.Component.{Component}
 use Rattle.fw_units.specs.Changes.{has_id}
+use Rattle.fw_components.specs.Tables.{Tables, held_frames}
+use Rattle.fw_components.specs.Frames.{with_taken}
 use Rattle.fw_components.specs.Laid.{tables_of}
+use Rattle.fw_units.proofs.Putting.{taken-put}
+use Rattle.fw_units.proofs.Standing.{frames-is}
 use Rattle.fw_components.proofs.Begun.{buffer-taken}
 use Rattle.fw_components.proofs.TallyKept.{taken-tallied}
+use Rattle.fw_components.proofs.Told.{standing}
 use Rattle.fw_components.proofs.registry.Registry.shorten.Goals as goal
 
-pub shorten_in-requires-clause-there : goal.shorten_in-requires-clause-there
-shorten_in-requires-clause-there c = ap (λ (t : Tables). has_id t.buffers c.args.buffer) c.self.view_is ∙ c.requires.there
+pub place-at-requires-clause-there : goal.place-at-requires-clause-there
+place-at-requires-clause-there c = ap (λ (cs : List Component). has_id cs c.args.buffer) c.as_slice.ensures.value ∙ ap (λ (t : Tables). has_id t.buffers c.args.buffer) c.self.view_is ∙ c.requires.there
+
+pub take-requires : goal.take-requires
+take-requires c =
+    let t = tables_of c.self.inside in let b = c.args.buffer in let x = c.index_mut.result.now in
+    let it = standing b t.buffers t.buffers c.place-at.result x refl (c.place-at.ensures.place ∙ ap (position (λ (y : Component). y.id == b)) c.as_slice.ensures.value) c.index_mut.ensures.value in
+    subst (λ fs. c.args.n ≤ length fs) (sym (frames-is b t.buffers x it ∙ ap (λ (t : Tables). held_frames t b) c.self.view_is)) c.requires.held
 
 pub invariant_of-self : goal.invariant_of-self
-invariant_of-self c = record {
-  comps = c.self.invariant.comps;
-  buffers = subst (λ n. 128 ≤ n) (sym c.shorten_in.ensures.capacity) c.self.invariant.buffers;
-  pipes = c.self.invariant.pipes;
-  joins = c.self.invariant.joins;
-  kept = buffer-taken (tables_of c.self.inside) c.self.invariant.kept c.args.buffer _ c.shorten_in.new.components.items c.shorten_in.ensures.items;
-  tallied = taken-tallied (tables_of c.self.inside) c.self.inside.tallies c.self.invariant.tallied c.args.buffer _ c.shorten_in.new.components.items c.shorten_in.ensures.items;
-}
+invariant_of-self c =
+    let t = tables_of c.self.inside in let b = c.args.buffer in let y = c.take.new.self in
+    let put = taken-put b c.place-at.result t.buffers c.index_mut.result.now y c.self.invariant.kept.named.buffers (c.place-at.ensures.place ∙ ap (position (λ (y : Component). y.id == b)) c.as_slice.ensures.value) c.index_mut.ensures.value _ c.take.ensures in
+    record {
+      comps = c.self.invariant.comps;
+      buffers = c.self.invariant.buffers;
+      pipes = c.self.invariant.pipes;
+      joins = c.self.invariant.joins;
+      kept = buffer-taken t c.self.invariant.kept b _ (set t.buffers c.place-at.result y) put;
+      tallied = taken-tallied t c.self.inside.tallies c.self.invariant.tallied b _ (set t.buffers c.place-at.result y) put;
+    }
+
+pub returns : goal.returns
+returns c =
+    let t = tables_of c.self.inside in let b = c.args.buffer in
+    ap (λ (cs : List Component). record { comps = t.comps; buffers = cs; pipes = t.pipes; joins = t.joins }) (taken-put b c.place-at.result t.buffers c.index_mut.result.now c.take.new.self c.self.invariant.kept.named.buffers (c.place-at.ensures.place ∙ ap (position (λ (y : Component). y.id == b)) c.as_slice.ensures.value) c.index_mut.ensures.value _ c.take.ensures)
+    ∙ ap (with_taken b c.args.n) c.self.view_is

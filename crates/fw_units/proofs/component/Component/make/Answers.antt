@@ -1,4 +1,4 @@
-use Rattle.std.proofs.Common.{◌≡◌, ◌∙◌, sym, ap, ◌*◌, ◌/◌, ◌%◌, ◌<◌, ℕ, List, length, map, replicate, arith, pos}
+use Rattle.std.proofs.Common.{◌≡◌, ◌∙◌, sym, ap, subst, ◌*◌, ◌/◌, ◌%◌, ◌<◌, ℕ, List, length, get_or, map, replicate, arith, pos}
 use Rattle.std.proofs.lemmas.Bool.{eqb-true}
 use Rattle.std.proofs.Math.Nat.{mul-mod_left}
 use Rattle.sof_base.specs.Samples.{Frame}
@@ -7,11 +7,11 @@ use Rattle.eq_biquad.specs.EqState.{numbers_of}
 use Rattle.stream_law.specs.Made.{only_slice}
 use Rattle.stream_law.specs.Equaliser.{passed_frames, numbers_after}
 use Rattle.fw_gain.specs.Kernels.{held}
+use Rattle.fw_gain.specs.RampKernels.{all_ramped}
 use Rattle.fw_units.specs.declared.component.Unit as units
-use Rattle.fw_units.specs.declared.component.Unit.TheVariants.{Volume}
-use Rattle.fw_units.specs.Processed.{moves_of, IsInlet, slices_in, made_frames, made_numbers}
+use Rattle.fw_units.specs.Processed.{moves_of, IsLevel, IsInlet, slices_in, made_frames, made_numbers}
 use Rattle.fw_units.specs.Moving.{samples_in, all_summed}
-use Rattle.fw_units.proofs.MadeLaws.{all-at, run-frames, only-long, made-amplified, made-equalised, made-mixed, chosen-there, made-chosen, made-missed}
+use Rattle.fw_units.proofs.MadeLaws.{all-at, run-frames, only-long, made-ramped, made-equalised, made-mixed, chosen-there, made-chosen, made-missed}
 use Rattle.fw_units.proofs.component.Component.make.Goals as goal
 
 pub copy-requires-clause-there : goal.copy-requires-clause-there
@@ -35,9 +35,11 @@ returns-in-Volume-clause-frames c =
     let slices = slices_in cs looked n in
     let one : length looked ≡ 1 = eqb-true (length looked) 1 (ap (λ (u : units.Unit). moves_of u (length looked)) (sym c.in-Volume.is) ∙ c.requires.kind) in
     let some : 0 < length looked = omega (arith, one) in
+    let from : List ℕ = c.in-Volume.from in let to : List ℕ = c.in-Volume.gains in let over : ℕ = c.in-Volume.length in let done : ℕ = c.in-Volume.done in
+    let level : length from ≡ length to = subst IsLevel c.in-Volume.is c.requires.level in
     ap (frames_of channels n) c.amplify.ensures.samples
-    ∙ made-amplified cs channels n c.items.result.now looked c.requires.channels.0 one (all-at (IsInlet cs channels n) looked 0 0 some c.requires.inlets) c.amplify.ensures.frames
-    ∙ ap (λ (gains : List ℕ). made_frames (Volume gains c.in-Volume.piece) channels n c.args.chosen slices) c.items.ensures.value
+    ∙ (λ i. frames_of channels n (all_ramped channels (c.items-starts.ensures.value i) (c.items-ends.ensures.value i) over done (samples_in cs n (get_or looked 0 0))))
+    ∙ made-ramped cs channels n from to looked over done c.requires.channels.0 level one (all-at (IsInlet cs channels n) looked 0 0 some c.requires.inlets) c.amplify.ensures.frames
     ∙ ap (λ (u : units.Unit). made_frames u channels n c.args.chosen slices) (sym c.in-Volume.is)
 
 pub returns-in-Mixer-clause-frames : goal.returns-in-Mixer-clause-frames

@@ -23,14 +23,14 @@ use Rattle.fw_components.specs.Tables.{Tables, all_of, view_by, rings_of, histor
 use Rattle.fw_units.specs.Changes.{joined_at, sunk_unit, sourced_unit, completed_at}
 use Rattle.fw_components.specs.Changes.{tables_with_join}
 use Rattle.fw_pipeline.specs.Rows as rows
-use Rattle.fw_schedule.specs.Ticks.{HasChannels}
+use Rattle.fw_schedule.specs.Ticks.{HasShapes}
 use Rattle.fw_core.specs.Held.{state_in, IsPieceHeld}
 use Rattle.fw_core.specs.Answers.{IsRow}
 use Rattle.fw_core.proofs.RowLaws.{told-by, row-is, on-ok}
 use Rattle.fw_core.proofs.Seats.{seat, seats-pieces, seats-homes, seat-joined, seat-completed, map-kept, map-both, in-map}
 use Rattle.fw_core.proofs.Histories.{history, AreThere, one-key, there-all, histories-are}
 use Rattle.fw_core.proofs.Streams.{err-same}
-use Rattle.fw_core.proofs.Channels.{Fits, moves, frames, IsSame, channels-are, fits-map, pipes-same, connect-same, comp-among, buffer-among}
+use Rattle.fw_core.proofs.Shapes.{Fits, moves, frames, HasRamp, IsSame, shapes-are, fits-map, pipes-same, connect-same, comp-among, buffer-among}
 
 -- a state is that of tables and a region where each part is
 pub state-is : (u : Tables) (s : RegionState) (clock : ℕ) (g : FwState) → g.heap.holes ≡ s.holes → g.heap.pieces ≡ carved_pieces u → g.clock ≡ clock → view_of g ≡ view_by u → g.rings ≡ rings_of u → g.histories ≡ histories_of u → g.staging ≡ staging_of u → g ≡ state_in u s clock
@@ -117,23 +117,24 @@ module _ (t u : Tables) (r : RegionState) (source sink : ℕ) (held : IsPieceHel
       (histories-are g u kept view (subst (AreThere u.comps) (sym histories) (subst (λ (ds : List Component). AreThere ds (histories_of t)) (sym comps) (there-all t.comps t.comps _ (same-comps t r held)))))
       (ap (λ (x : FwState). x.staging) (sym own) ∙ sym (ap (λ (x : Tables). staging_of x) done))
 
-  connect-channels : u ≡ tables_with_join (record { source = source; sink = sink }) t → connect (state_in t r 0) source sink ≡ Ok (state_in u r 0) → HasChannels u
-  connect-channels done row =
+  connect-shapes : u ≡ tables_with_join (record { source = source; sink = sink }) t → connect (state_in t r 0) source sink ≡ Ok (state_in u r 0) → HasShapes u
+  connect-shapes done row =
       let j : Join = record { source = source; sink = sink } in
       let same = connect-same source sink (state_in t r 0) (state_in u r 0) (held.kept 0) row in
-      channels-are t u
+      shapes-are t u
       (λ c there. same c.id (comp-among t c (subst (λ (x : Tables). IsIn c x.comps) done there)))
       (λ c there. let from = in-map (joined_at j) t.buffers c (subst (λ (x : Tables). IsIn c x.buffers) done there) in
       subst (IsSame (view_by t) (view_by u)) (sym (ap (λ (x : Component). x.id) from.2 ∙ joined-id j from.0)) (same from.0.id (buffer-among t from.0 from.1)))
-      (subst (λ (x : Tables). AllByRecursion (Fits (view_by t) moves) x.comps) (sym done) held.channels.comps)
-      (subst (λ (x : Tables). AllByRecursion (Fits (view_by t) frames) x.buffers) (sym done) (fits-map (view_by t) frames (joined_at j) (joined-id j) (joined-frames j) t.buffers held.channels.buffers))
+      (subst (λ (x : Tables). AllByRecursion (Fits (view_by t) moves) x.comps) (sym done) held.shapes.comps)
+      (subst (λ (x : Tables). AllByRecursion (Fits (view_by t) frames) x.buffers) (sym done) (fits-map (view_by t) frames (joined_at j) (joined-id j) (joined-frames j) t.buffers held.shapes.buffers))
+      (subst (λ (x : Tables). AllByRecursion (HasRamp (view_by t)) x.comps) (sym done) held.shapes.ramps)
 
   pub connect-is : {X : Type 0} (answer : Result X Errno) → ((j : Join) (cs : List Component) → map ring_by (map (joined_at j) cs) ≡ map ring_by cs) → ((f : FwState) → rows.view_answer (view_by u) answer ≡ rows.view_after (connect (rows.with_view (view_by t) f) source sink)) → OnOk answer (u ≡ tables_with_join (record { source = source; sink = sink }) t) → OnErr answer (u ≡ t) → IsRow (λ f. connect f source sink) t u r r answer
   connect-is answer rings views done kept =
       row-is (λ f. connect f source sink) t u r r answer held
       (λ clock. told-by answer (connect (state_in t r clock) source sink) (view_by u) (state_in u r clock) (views (state_in t r clock)) (λ g is view. on-ok answer done (connect-leads rings clock g is view)))
       (connect-kept source sink) (λ f g kept is. ap (λ (x : FwState). heap_bytes x.heap) (sym (connect-done f g source sink is)))
-      (on-ok answer done (λ done. seats-homes r.home (all_of t) (all_of u) (joined-seats done) held.homes)) (on-ok answer done connect-channels) (refl, refl, refl) (err-same t u r answer kept)
+      (on-ok answer done (λ done. seats-homes r.home (all_of t) (all_of u) (joined-seats done) held.homes)) (on-ok answer done connect-shapes) (refl, refl, refl) (err-same t u r answer kept)
 
 -- ---- PIPE_COMPLETE
 
@@ -173,16 +174,17 @@ module _ (t u : Tables) (r : RegionState) (id : ℕ) (held : IsPieceHeld t r) wh
       (histories-are g u kept view (subst (AreThere u.comps) (sym histories) (subst (λ (ds : List Component). AreThere ds (histories_of t)) (sym comps) (there-all t.comps t.comps _ (same-comps t r held)))))
       (ap (λ (x : FwState). x.staging) (sym own) ∙ sym (ap (λ (x : Tables). staging_of x) done))
 
-  complete-channels : u ≡ complete_tables id t → pipe_complete (state_in t r 0) id ≡ Ok (state_in u r 0) → HasChannels u
-  complete-channels done row =
+  complete-shapes : u ≡ complete_tables id t → pipe_complete (state_in t r 0) id ≡ Ok (state_in u r 0) → HasShapes u
+  complete-shapes done row =
       let same : (x : ℕ) → IsSame (view_by t) (view_by u) x = pipes-same (state_in t r 0) (state_in u r 0) _ (held.kept 0) (ap view_of (sym (complete-done (state_in t r 0) (state_in u r 0) id row))) in
-      channels-are t u (λ c there. same c.id) (λ c there. same c.id)
-      (subst (λ (x : Tables). AllByRecursion (Fits (view_by t) moves) x.comps) (sym done) held.channels.comps)
-      (subst (λ (x : Tables). AllByRecursion (Fits (view_by t) frames) x.buffers) (sym done) held.channels.buffers)
+      shapes-are t u (λ c there. same c.id) (λ c there. same c.id)
+      (subst (λ (x : Tables). AllByRecursion (Fits (view_by t) moves) x.comps) (sym done) held.shapes.comps)
+      (subst (λ (x : Tables). AllByRecursion (Fits (view_by t) frames) x.buffers) (sym done) held.shapes.buffers)
+      (subst (λ (x : Tables). AllByRecursion (HasRamp (view_by t)) x.comps) (sym done) held.shapes.ramps)
 
   pub complete-is : {X : Type 0} (answer : Result X Errno) → ((f : FwState) → rows.view_answer (view_by u) answer ≡ rows.view_after (pipe_complete (rows.with_view (view_by t) f) id)) → OnOk answer (u ≡ complete_tables id t) → OnErr answer (u ≡ t) → IsRow (λ f. pipe_complete f id) t u r r answer
   complete-is answer views done kept =
       row-is (λ f. pipe_complete f id) t u r r answer held
       (λ clock. told-by answer (pipe_complete (state_in t r clock) id) (view_by u) (state_in u r clock) (views (state_in t r clock)) (λ g is view. on-ok answer done (complete-leads clock g is view)))
       (pipe_complete-kept id) (λ f g kept is. ap (λ (x : FwState). heap_bytes x.heap) (sym (complete-done f g id is)))
-      (on-ok answer done (λ done. seats-homes r.home (all_of t) (all_of u) (completed-seats done) held.homes)) (on-ok answer done complete-channels) (refl, refl, refl) (err-same t u r answer kept)
+      (on-ok answer done (λ done. seats-homes r.home (all_of t) (all_of u) (completed-seats done) held.homes)) (on-ok answer done complete-shapes) (refl, refl, refl) (err-same t u r answer kept)

@@ -35,14 +35,14 @@ use Rattle.fw_pipeline.specs.declared.freeing.Item.TheVariants as items
 use Rattle.fw_pipeline.specs.Rows as rows
 use Rattle.fw_components.specs.States.{AreOf}
 use Rattle.fw_pipeline.proofs.FreeRows.{comp-left, buffer-left, pipe-left}
-use Rattle.fw_schedule.specs.Ticks.{HasChannels}
+use Rattle.fw_schedule.specs.Ticks.{HasShapes}
 use Rattle.fw_core.specs.Held.{state_in, IsPieceHeld}
 use Rattle.fw_core.specs.Answers.{IsRow}
 use Rattle.fw_core.proofs.RowLaws.{told-by, row-is, on-ok, pass, passed, same-ok, not-false}
 use Rattle.fw_core.proofs.Back.{placed-apart, placed-others, filter-apart}
 use Rattle.fw_core.proofs.Histories.{AreThere, there-all, there-less, histories-are}
 use Rattle.fw_core.proofs.Changed.{state-is, same-comps}
-use Rattle.fw_core.proofs.Channels.{Fits, moves, frames, IsSame, channels-are, pipes-same, comp_free-same, buffer_free-same}
+use Rattle.fw_core.proofs.Shapes.{Fits, moves, frames, HasRamp, IsSame, shapes-are, pipes-same, comp_free-same, buffer_free-same}
 
 -- ---- what is placed and then tested
 
@@ -269,31 +269,37 @@ module _ (t u : Tables) (r s : RegionState) (id : ℕ) (held : IsPieceHeld t r) 
 -- ---- and what is Live
 
 module _ (t u : Tables) (r s : RegionState) (id : ℕ) (held : IsPieceHeld t r) (done : u ≡ tables_without id t) where
-  left-channels : ((x : ℕ) → IsSame (view_by t) (view_by u) x) → HasChannels u
-  left-channels same = channels-are t u (λ c there. same c.id) (λ c there. same c.id)
+  left-shapes : ((x : ℕ) → IsSame (view_by t) (view_by u) x) → HasShapes u
+  left-shapes same = shapes-are t u (λ c there. same c.id) (λ c there. same c.id)
       (subst (λ (x : Tables). AllByRecursion (Fits (view_by t) moves) x.comps) (sym done) (comps (has_id t.comps id) (has_id t.buffers id)))
       (subst (λ (x : Tables). AllByRecursion (Fits (view_by t) frames) x.buffers) (sym done) (buffers (has_id t.comps id) (has_id t.buffers id)))
+      (subst (λ (x : Tables). AllByRecursion (HasRamp (view_by t)) x.comps) (sym done) (ramps (has_id t.comps id) (has_id t.buffers id)))
     where
+      ramps : (h k : Bool) → AllByRecursion (HasRamp (view_by t)) (without_by h k id t).comps
+      ramps true k = all-filter (λ c. not (c.id == id)) (HasRamp (view_by t)) t.comps held.shapes.ramps
+      ramps false true = held.shapes.ramps
+      ramps false false = held.shapes.ramps
+
       comps : (h k : Bool) → AllByRecursion (Fits (view_by t) moves) (without_by h k id t).comps
-      comps true k = all-filter (λ c. not (c.id == id)) (Fits (view_by t) moves) t.comps held.channels.comps
-      comps false true = held.channels.comps
-      comps false false = held.channels.comps
+      comps true k = all-filter (λ c. not (c.id == id)) (Fits (view_by t) moves) t.comps held.shapes.comps
+      comps false true = held.shapes.comps
+      comps false false = held.shapes.comps
 
       buffers : (h k : Bool) → AllByRecursion (Fits (view_by t) frames) (without_by h k id t).buffers
-      buffers true k = held.channels.buffers
-      buffers false true = all-filter (λ c. not (c.id == id)) (Fits (view_by t) frames) t.buffers held.channels.buffers
-      buffers false false = held.channels.buffers
+      buffers true k = held.shapes.buffers
+      buffers false true = all-filter (λ c. not (c.id == id)) (Fits (view_by t) frames) t.buffers held.shapes.buffers
+      buffers false false = held.shapes.buffers
 
-  freed-channels : (what : Item) → rows.row_of_free what (state_in t r 0) id ≡ Ok (state_in u s 0) → HasChannels u
-  freed-channels items.Component row =
+  freed-shapes : (what : Item) → rows.row_of_free what (state_in t r 0) id ≡ Ok (state_in u s 0) → HasShapes u
+  freed-shapes items.Component row =
       let tests = comp-tests (state_in t r 0) (state_in u s 0) id row in
-      left-channels (comp_free-same id (state_in t r 0) (state_in u s 0) (held.kept 0) tests.2 tests.0 tests.1)
-  freed-channels items.Buffer row =
+      left-shapes (comp_free-same id (state_in t r 0) (state_in u s 0) (held.kept 0) tests.2 tests.0 tests.1)
+  freed-shapes items.Buffer row =
       let tests = buffer-tests (state_in t r 0) (state_in u s 0) id row in
-      left-channels (buffer_free-same id (state_in t r 0) (state_in u s 0) (held.kept 0) tests.0 tests.2 tests.1)
-  freed-channels items.Pipeline row =
+      left-shapes (buffer_free-same id (state_in t r 0) (state_in u s 0) (held.kept 0) tests.0 tests.2 tests.1)
+  freed-shapes items.Pipeline row =
       let tests = pipe-tests (state_in t r 0) (state_in u s 0) id row in
-      left-channels (pipes-same (state_in t r 0) (state_in u s 0) _ (held.kept 0) (ap view_of (sym tests.1)))
+      left-shapes (pipes-same (state_in t r 0) (state_in u s 0) _ (held.kept 0) (ap view_of (sym tests.1)))
 
 -- ---- all three
 
@@ -339,7 +345,7 @@ freed-is what t u r s id held answer rings views done holes same kept =
     row-is (λ f. rows.row_of_free what f id) t u r s answer held
     (λ clock. told-by answer (rows.row_of_free what (state_in t r clock) id) (view_by u) (state_in u s clock) (views (state_in t r clock)) (λ g is view. on-both answer done holes (λ d h. freed-leads what t u r s id held rings clock g is view d h)))
     (freed-kept what id) (λ f g kept is. freed-whole what id f g kept is)
-    (on-ok answer done (λ d. subst (λ home. AreOf home u) (sym same.0) (subst (AreOf r.home) (sym d) (left-homes r.home t id held.homes)))) (on-ok answer done (λ d. freed-channels t u r s id held d what)) same kept
+    (on-ok answer done (λ d. subst (λ home. AreOf home u) (sym same.0) (subst (AreOf r.home) (sym d) (left-homes r.home t id held.homes)))) (on-ok answer done (λ d. freed-shapes t u r s id held d what)) same kept
   where
     on-both : {X A B C : Type 0} (answer : Result X Errno) → OnOk answer A → OnOk answer B → (A → B → C) → OnOk answer C
     on-both (Ok done) a b to = to a b

@@ -4,7 +4,7 @@ use Rattle.std.specs.List.{AllByRecursion}
 use Rattle.stream_law.specs.declared.graph.Comp.{Comp}
 use Rattle.stream_law.specs.State.{FwState, View, History, view_of}
 use Rattle.stream_law.specs.Ways.{components}
-use Rattle.stream_law.specs.Seen.{equalises}
+use Rattle.stream_law.specs.Seen.{remembers}
 use Rattle.stream_law.specs.Placed.{HasDistinct}
 use Rattle.stream_law.proofs.Members.{IsIn, in-all, kept-in}
 use Rattle.row_laws.specs.Kept.{IsKeptState}
@@ -66,4 +66,4 @@ there-less ds p (h ∷ hs) there = by (p h) (there-less ds p hs there.1)
     by false rest = rest
 
 pub histories-are : (g : FwState) (u : Tables) → IsKeptState g → view_of g ≡ view_by u → AreThere u.comps g.histories → g.histories ≡ histories_of u
-histories-are g u kept view there = histories-there (equalises (view_by u)) u.comps g.histories (subst (λ (v : View). map (λ (h : History). h.comp) g.histories ≡ filter (equalises v) (components v.graph)) view kept.histories.comps) there
+histories-are g u kept view there = histories-there (remembers (view_by u)) u.comps g.histories (subst (λ (v : View). map (λ (h : History). h.comp) g.histories ≡ filter (remembers v) (components v.graph)) view kept.histories.comps) there

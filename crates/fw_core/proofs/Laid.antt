@@ -31,6 +31,7 @@ kept-clock f n kept = record {
   indices = kept.indices;
   sizes = kept.sizes;
   settings = kept.settings;
+  ramps = kept.ramps;
   pieces = kept.pieces;
   tiled = kept.tiled;
   wired = kept.wired;
@@ -97,5 +98,5 @@ fresh-held heap r holes usable = record {
   kept = λ clock. subst (λ hs. IsKeptState (state_in no_tables (record { home = r.home; size = r.size; usable = r.usable; holes = hs }) clock)) (sym holes) (kept-clock (fresh heap) clock (boot-kept heap));
   homes = tt;
   whole = let all : total r.holes ≡ usable_of heap = ap total holes ∙ total-fresh (usable_of heap) in zero-add (total r.holes) ∙ all ∙ sym usable;
-  channels = record { comps = tt; buffers = tt };
+  shapes = record { comps = tt; buffers = tt; ramps = tt };
 }

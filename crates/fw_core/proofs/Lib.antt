@@ -11,12 +11,13 @@ pub mod Values
 pub mod PartStaging
 pub mod PartGot
 pub mod PartedUnits
+pub mod Numbers
 pub mod Parts
 pub mod Freed
 pub mod BothPlaced
 pub mod Made
 pub mod Gains
-pub mod Channels
+pub mod Shapes
 pub mod Played
 pub mod Ticks
 pub mod Scheduled

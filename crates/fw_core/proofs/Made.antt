@@ -22,7 +22,7 @@ use Rattle.mbox_link.specs.Step as rows
 use Rattle.ipc3_model.specs.Allowed.{is_buffer_size, is_period_allowed}
 use Rattle.row_laws.specs.Tiled.{heap_bytes}
 use Rattle.row_laws.specs.Wired.{is_node}
-use Rattle.row_laws.specs.Kept.{IsKeptState, IsSettingOf}
+use Rattle.row_laws.specs.Kept.{IsKeptState, IsSettingOf, IsRampOf}
 use Rattle.row_laws.proofs.RowKept.{comp_new-kept, buffer_new-kept, pipe_new-kept}
 use Rattle.row_laws.proofs.Growing.{all-placed}
 use Rattle.row_laws.proofs.NewKept.{unused-node}
@@ -35,20 +35,20 @@ use Rattle.fw_ring.specs.RingState.{RingState}
 use Rattle.fw_units.specs.declared.component.Component.{Component}
 use Rattle.fw_units.specs.declared.component.Unit as units
 use Rattle.fw_units.specs.declared.component.Unit.TheVariants.{Host, Dai, Eq, Buffer, Pipeline}
-use Rattle.fw_units.specs.Units.{comp_by, edge_by, pipe_by, kind_by, setting_by, piece_of, piece_by, pieces_by, ring_by, streams_by, staging_by, with_stream_by, with_staging_by, is_buffer, is_pipeline}
+use Rattle.fw_units.specs.Units.{comp_by, edge_by, pipe_by, kind_by, setting_by, ramp_by, piece_of, piece_by, pieces_by, ring_by, streams_by, staging_by, with_stream_by, with_staging_by, is_buffer, is_pipeline}
 use Rattle.fw_components.specs.Tables.{Tables, view_by, graph_of, carved_pieces, rings_of, streams_of, histories_of}
 use Rattle.fw_units.specs.Changes.{has_id, IsOfHome}
 use Rattle.fw_components.specs.Changes.{IsNew, is_idle_phase, added, added_by}
 use Rattle.fw_walks.proofs.Naming.{comp-named, edge-named, pipe-named}
 use Rattle.fw_components.specs.States.{AreOf}
-use Rattle.fw_schedule.specs.Ticks.{HasChannels}
+use Rattle.fw_schedule.specs.Ticks.{HasShapes}
 use Rattle.fw_core.specs.Held.{state_in, IsPieceHeld}
 use Rattle.fw_core.specs.Answers.{IsRow}
 use Rattle.fw_core.proofs.RowLaws.{row-is, new-tests}
 use Rattle.fw_core.proofs.Histories.{history, AreThere, there-all, histories-are}
 use Rattle.fw_core.proofs.Changed.{state-is, same-comps}
 use Rattle.fw_core.proofs.Freed.{placed-first}
-use Rattle.fw_core.proofs.Channels.{Fits, moves, frames, IsSame, channels-are, unlit, comp_new-same, buffer_new-same, pipes-same}
+use Rattle.fw_core.proofs.Shapes.{Fits, moves, frames, HasRamp, IsSame, shapes-are, unlit, comp_new-same, buffer_new-same, pipes-same}
 use Rattle.fw_core.proofs.BothPlaced.{placed-both, in-placed}
 
 -- ---- a piece more
@@ -262,15 +262,15 @@ module _ (t : Tables) (r s : RegionState) (c : Component) (bytes : ℕ) (held : 
 
   -- ---- COMP_NEW
   module _ (up : Ascends (λ (x : Component). x.id) t.comps) (new : IsNew c.unit) (plain : is_buffer c.unit ≡ false) (other : is_pipeline c.unit ≡ false) (size : bytes ≡ rows.comp_bytes (kind_by c.unit)) where
-    comp-view : view_of (rows.with_comp c.id c.pipe (kind_by c.unit) (setting_by c.unit) (state_in t r 0)) ≡ view_by (with_component c t)
+    comp-view : view_of (rows.with_comp c.id c.pipe (kind_by c.unit) (setting_by c.unit) (ramp_by c.unit) (state_in t r 0)) ≡ view_by (with_component c t)
     comp-view = λ i. record {
       graph = record { comps = sym (map-placed comp_by (λ (x : Component). x.id) (λ (x : Comp). x.id) (λ x. refl) c t.comps) i; edges = (graph_of t).edges; pipes = (graph_of t).pipes; joins = t.joins };
       streams = sym (streams-new c t.comps new plain other up) i;
     }
 
-    comp-state : (clock : ℕ) → IsKeptState (rows.with_comp c.id c.pipe (kind_by c.unit) (setting_by c.unit) (state_in t r clock)) → rows.with_comp c.id c.pipe (kind_by c.unit) (setting_by c.unit) (state_in t r clock) ≡ state_in (with_component c t) s clock
+    comp-state : (clock : ℕ) → IsKeptState (rows.with_comp c.id c.pipe (kind_by c.unit) (setting_by c.unit) (ramp_by c.unit) (state_in t r clock)) → rows.with_comp c.id c.pipe (kind_by c.unit) (setting_by c.unit) (ramp_by c.unit) (state_in t r clock) ≡ state_in (with_component c t) s clock
     comp-state clock kept =
-        let g = rows.with_comp c.id c.pipe (kind_by c.unit) (setting_by c.unit) (state_in t r clock) in
+        let g = rows.with_comp c.id c.pipe (kind_by c.unit) (setting_by c.unit) (ramp_by c.unit) (state_in t r clock) in
         state-is (with_component c t) s clock g
         (ap (λ n. carved (rounded n) r.holes) (sym size) ∙ carved-holes)
         (ap (λ n. placed (λ (p : PieceView). p.id) (record { id = c.id; place = first_fit (rounded n) r.holes; size = rounded n }) (carved_pieces t)) (sym size) ∙ carved-piece (with_component c t) comp-pieces)
@@ -285,14 +285,14 @@ same-region r s n is = (ap (λ (x : RegionState). x.home) is, ap (λ (x : Region
 
 -- COMP_NEW
 pub comp-is : (t u : Tables) (r s : RegionState) (c : Component) (bytes : ℕ) → IsPieceHeld t r → IsCarved bytes r s c → rows.is_used (graph_of t) c.id ≡ false → Ascends (λ (x : Component). x.id) t.comps → IsNew c.unit → is_buffer c.unit ≡ false → is_pipeline c.unit ≡ false → bytes ≡ rows.comp_bytes (kind_by c.unit)
-    → rows.is_complete (graph_of t) c.pipe ≡ false → nat_le 128 (length (graph_of t).comps) ≡ false → IsSettingOf (kind_by c.unit) (setting_by c.unit) → u ≡ added c t → IsRow {X = Unit {0}} (λ f. rows.comp_new f c.id c.pipe (kind_by c.unit) (setting_by c.unit)) t u r s (Ok tt)
-comp-is t u r s c bytes held so unused up new plain other size still few right done =
-    row-is (λ f. rows.comp_new f c.id c.pipe (kind_by c.unit) (setting_by c.unit)) t u r s (Ok tt) held
+    → rows.is_complete (graph_of t) c.pipe ≡ false → nat_le 128 (length (graph_of t).comps) ≡ false → IsSettingOf (kind_by c.unit) (setting_by c.unit) → IsRampOf (kind_by c.unit) (ramp_by c.unit) → u ≡ added c t → IsRow {X = Unit {0}} (λ f. rows.comp_new f c.id c.pipe (kind_by c.unit) (setting_by c.unit) (ramp_by c.unit)) t u r s (Ok tt)
+comp-is t u r s c bytes held so unused up new plain other size still few right ramps done =
+    row-is (λ f. rows.comp_new f c.id c.pipe (kind_by c.unit) (setting_by c.unit) (ramp_by c.unit)) t u r s (Ok tt) held
     (λ clock. sym (made clock ∙ ap (λ (f : FwState). let o : Result FwState ℤ = Ok f in o) (state clock ∙ ap (λ (x : Tables). state_in x s clock) (sym is))))
-    (comp_new-kept c.id c.pipe (kind_by c.unit) (setting_by c.unit) right)
-    (λ f g kept e. let tests = new-tests (rows.is_used f.graph c.id) (rows.is_complete f.graph c.pipe) (nat_le 128 (length f.graph.comps)) (rows.has_hole f (rows.comp_bytes (kind_by c.unit))) (rows.with_comp c.id c.pipe (kind_by c.unit) (setting_by c.unit) f) g e in
+    (comp_new-kept c.id c.pipe (kind_by c.unit) (setting_by c.unit) (ramp_by c.unit) right ramps)
+    (λ f g kept e. let tests = new-tests (rows.is_used f.graph c.id) (rows.is_complete f.graph c.pipe) (nat_le 128 (length f.graph.comps)) (rows.has_hole f (rows.comp_bytes (kind_by c.unit))) (rows.with_comp c.id c.pipe (kind_by c.unit) (setting_by c.unit) (ramp_by c.unit) f) g e in
     ap (λ (x : FwState). heap_bytes x.heap) (sym tests.2) ∙ carve-whole f c.id (rows.comp_bytes (kind_by c.unit)) kept (some-bytes (kind_by c.unit)) tests.1 tests.0)
-    (subst (AreOf s.home) (sym is) (comp-homes t r s c bytes held so unused)) (λ row. channels row) (same-region r s (rounded bytes) so.left) tt
+    (subst (AreOf s.home) (sym is) (comp-homes t r s c bytes held so unused)) (λ row. shapes row) (same-region r s (rounded bytes) so.left) tt
   where
     is : u ≡ with_component c t
     is = done ∙ (λ i. added_by (plain i) (other i) c t)
@@ -300,18 +300,19 @@ comp-is t u r s c bytes held so unused up new plain other size still few right d
     gone : is_node (graph_of t) c.id ≡ false
     gone = unused-node (graph_of t) c.id unused
 
-    channels : rows.comp_new (state_in t r 0) c.id c.pipe (kind_by c.unit) (setting_by c.unit) ≡ Ok (state_in u s 0) → HasChannels u
-    channels row =
-        let same : (x : ℕ) → IsSame (view_by t) (view_by u) x = comp_new-same c.id c.pipe (kind_by c.unit) (setting_by c.unit) (state_in t r 0) (state_in u s 0) (held.kept 0) row in
-        channels-are t u (λ x there. same x.id) (λ x there. same x.id)
-        (subst (λ (x : Tables). AllByRecursion (Fits (view_by t) moves) x.comps) (sym is) (all-placed (Fits (view_by t) moves) (λ (x : Component). x.id) c t.comps (λ on. absurd (true≢false (sym on ∙ unlit (state_in t r 0) c.id (held.kept 0) gone))) held.channels.comps))
-        (subst (λ (x : Tables). AllByRecursion (Fits (view_by t) frames) x.buffers) (sym is) held.channels.buffers)
+    shapes : rows.comp_new (state_in t r 0) c.id c.pipe (kind_by c.unit) (setting_by c.unit) (ramp_by c.unit) ≡ Ok (state_in u s 0) → HasShapes u
+    shapes row =
+        let same : (x : ℕ) → IsSame (view_by t) (view_by u) x = comp_new-same c.id c.pipe (kind_by c.unit) (setting_by c.unit) (ramp_by c.unit) (state_in t r 0) (state_in u s 0) (held.kept 0) row in
+        shapes-are t u (λ x there. same x.id) (λ x there. same x.id)
+        (subst (λ (x : Tables). AllByRecursion (Fits (view_by t) moves) x.comps) (sym is) (all-placed (Fits (view_by t) moves) (λ (x : Component). x.id) c t.comps (λ on. absurd (true≢false (sym on ∙ unlit (state_in t r 0) c.id (held.kept 0) gone))) held.shapes.comps))
+        (subst (λ (x : Tables). AllByRecursion (Fits (view_by t) frames) x.buffers) (sym is) held.shapes.buffers)
+        (subst (λ (x : Tables). AllByRecursion (HasRamp (view_by t)) x.comps) (sym is) (all-placed (HasRamp (view_by t)) (λ (x : Component). x.id) c t.comps (λ on. absurd (true≢false (sym on ∙ unlit (state_in t r 0) c.id (held.kept 0) gone))) held.shapes.ramps))
 
-    made : (clock : ℕ) → rows.comp_new (state_in t r clock) c.id c.pipe (kind_by c.unit) (setting_by c.unit) ≡ Ok (rows.with_comp c.id c.pipe (kind_by c.unit) (setting_by c.unit) (state_in t r clock))
-    made clock = new-row (rows.is_used (graph_of t) c.id) (rows.is_complete (graph_of t) c.pipe) (nat_le 128 (length (graph_of t).comps)) (rows.has_hole (state_in t r clock) (rows.comp_bytes (kind_by c.unit))) (rows.with_comp c.id c.pipe (kind_by c.unit) (setting_by c.unit) (state_in t r clock)) unused still few (ap (λ n. fits (rounded n) r.holes) (sym size) ∙ so.room)
+    made : (clock : ℕ) → rows.comp_new (state_in t r clock) c.id c.pipe (kind_by c.unit) (setting_by c.unit) (ramp_by c.unit) ≡ Ok (rows.with_comp c.id c.pipe (kind_by c.unit) (setting_by c.unit) (ramp_by c.unit) (state_in t r clock))
+    made clock = new-row (rows.is_used (graph_of t) c.id) (rows.is_complete (graph_of t) c.pipe) (nat_le 128 (length (graph_of t).comps)) (rows.has_hole (state_in t r clock) (rows.comp_bytes (kind_by c.unit))) (rows.with_comp c.id c.pipe (kind_by c.unit) (setting_by c.unit) (ramp_by c.unit) (state_in t r clock)) unused still few (ap (λ n. fits (rounded n) r.holes) (sym size) ∙ so.room)
 
-    state : (clock : ℕ) → rows.with_comp c.id c.pipe (kind_by c.unit) (setting_by c.unit) (state_in t r clock) ≡ state_in (with_component c t) s clock
-    state clock = comp-state t r s c bytes held so unused up new plain other size clock (comp_new-kept c.id c.pipe (kind_by c.unit) (setting_by c.unit) right (state_in t r clock) (rows.with_comp c.id c.pipe (kind_by c.unit) (setting_by c.unit) (state_in t r clock)) (held.kept clock) (made clock))
+    state : (clock : ℕ) → rows.with_comp c.id c.pipe (kind_by c.unit) (setting_by c.unit) (ramp_by c.unit) (state_in t r clock) ≡ state_in (with_component c t) s clock
+    state clock = comp-state t r s c bytes held so unused up new plain other size clock (comp_new-kept c.id c.pipe (kind_by c.unit) (setting_by c.unit) (ramp_by c.unit) right ramps (state_in t r clock) (rows.with_comp c.id c.pipe (kind_by c.unit) (setting_by c.unit) (ramp_by c.unit) (state_in t r clock)) (held.kept clock) (made clock))
 
 -- BUFFER_NEW
 abbrev pub new_buffer : ℕ → ℕ → ℕ → RingState → Component
@@ -325,17 +326,18 @@ buffer-is t u r s id pipe size ring held so unused empty still few right done =
     (buffer_new-kept id pipe size right)
     (λ f g kept e. let tests = new-tests (rows.is_used f.graph id) (rows.is_complete f.graph pipe) (nat_le 128 (length f.graph.edges)) (rows.has_hole f (rows.buffer_bytes size)) (rows.with_buffer id pipe size f) g e in
     ap (λ (x : FwState). heap_bytes x.heap) (sym tests.2) ∙ carve-whole f id (rows.buffer_bytes size) kept (omega arith) tests.1 tests.0)
-    (subst (AreOf s.home) (sym done) (buffer-homes t r s c (rows.buffer_bytes size) held so unused)) (λ row. channels row) (same-region r s (rounded (rows.buffer_bytes size)) so.left) tt
+    (subst (AreOf s.home) (sym done) (buffer-homes t r s c (rows.buffer_bytes size) held so unused)) (λ row. shapes row) (same-region r s (rounded (rows.buffer_bytes size)) so.left) tt
   where
     c : Component
     c = new_buffer id pipe size ring
 
-    channels : rows.buffer_new (state_in t r 0) id pipe size ≡ Ok (state_in u s 0) → HasChannels u
-    channels row =
+    shapes : rows.buffer_new (state_in t r 0) id pipe size ≡ Ok (state_in u s 0) → HasShapes u
+    shapes row =
         let same : (x : ℕ) → IsSame (view_by t) (view_by u) x = buffer_new-same id pipe size (state_in t r 0) (state_in u s 0) (held.kept 0) row in
-        channels-are t u (λ x there. same x.id) (λ x there. same x.id)
-        (subst (λ (x : Tables). AllByRecursion (Fits (view_by t) moves) x.comps) (sym done) held.channels.comps)
-        (subst (λ (x : Tables). AllByRecursion (Fits (view_by t) frames) x.buffers) (sym done) (all-placed (Fits (view_by t) frames) (λ (x : Component). x.id) c t.buffers (λ on. absurd (true≢false (sym on ∙ unlit (state_in t r 0) id (held.kept 0) (unused-node (graph_of t) id unused)))) held.channels.buffers))
+        shapes-are t u (λ x there. same x.id) (λ x there. same x.id)
+        (subst (λ (x : Tables). AllByRecursion (Fits (view_by t) moves) x.comps) (sym done) held.shapes.comps)
+        (subst (λ (x : Tables). AllByRecursion (Fits (view_by t) frames) x.buffers) (sym done) (all-placed (Fits (view_by t) frames) (λ (x : Component). x.id) c t.buffers (λ on. absurd (true≢false (sym on ∙ unlit (state_in t r 0) id (held.kept 0) (unused-node (graph_of t) id unused)))) held.shapes.buffers))
+        (subst (λ (x : Tables). AllByRecursion (HasRamp (view_by t)) x.comps) (sym done) held.shapes.ramps)
 
     made : (clock : ℕ) → rows.buffer_new (state_in t r clock) id pipe size ≡ Ok (rows.with_buffer id pipe size (state_in t r clock))
     made clock = new-row (rows.is_used (graph_of t) id) (rows.is_complete (graph_of t) pipe) (nat_le 128 (length (graph_of t).edges)) (rows.has_hole (state_in t r clock) (rows.buffer_bytes size)) (rows.with_buffer id pipe size (state_in t r clock)) unused still few so.room
@@ -371,18 +373,19 @@ pipe-is t u r s id index sched period piece held so unused still few right done 
     (pipe_new-kept id index sched period right)
     (λ f g kept e. let tests = new-tests (rows.is_used f.graph id) (rows.has_index f.graph index) (nat_le 32 (length f.graph.pipes)) (rows.has_hole f rows.pipe_bytes) (rows.with_pipe id index sched period f) g e in
     ap (λ (x : FwState). heap_bytes x.heap) (sym tests.2) ∙ carve-whole f id rows.pipe_bytes kept (omega arith) tests.1 tests.0)
-    (subst (AreOf s.home) (sym done) (pipe-homes t r s c rows.pipe_bytes held so unused)) (λ row. channels row) (same-region r s (rounded rows.pipe_bytes) so.left) tt
+    (subst (AreOf s.home) (sym done) (pipe-homes t r s c rows.pipe_bytes held so unused)) (λ row. shapes row) (same-region r s (rounded rows.pipe_bytes) so.left) tt
   where
     c : Component
     c = new_pipeline id index sched period piece
 
-    channels : rows.pipe_new (state_in t r 0) id index sched period ≡ Ok (state_in u s 0) → HasChannels u
-    channels row =
+    shapes : rows.pipe_new (state_in t r 0) id index sched period ≡ Ok (state_in u s 0) → HasShapes u
+    shapes row =
         let tests = new-tests (rows.is_used (graph_of t) id) (rows.has_index (graph_of t) index) (nat_le 32 (length (graph_of t).pipes)) (rows.has_hole (state_in t r 0) rows.pipe_bytes) (rows.with_pipe id index sched period (state_in t r 0)) (state_in u s 0) row in
         let same : (x : ℕ) → IsSame (view_by t) (view_by u) x = pipes-same (state_in t r 0) (state_in u s 0) _ (held.kept 0) (ap view_of (sym tests.2)) in
-        channels-are t u (λ x there. same x.id) (λ x there. same x.id)
-        (subst (λ (x : Tables). AllByRecursion (Fits (view_by t) moves) x.comps) (sym done) held.channels.comps)
-        (subst (λ (x : Tables). AllByRecursion (Fits (view_by t) frames) x.buffers) (sym done) held.channels.buffers)
+        shapes-are t u (λ x there. same x.id) (λ x there. same x.id)
+        (subst (λ (x : Tables). AllByRecursion (Fits (view_by t) moves) x.comps) (sym done) held.shapes.comps)
+        (subst (λ (x : Tables). AllByRecursion (Fits (view_by t) frames) x.buffers) (sym done) held.shapes.buffers)
+        (subst (λ (x : Tables). AllByRecursion (HasRamp (view_by t)) x.comps) (sym done) held.shapes.ramps)
 
     made : (clock : ℕ) → rows.pipe_new (state_in t r clock) id index sched period ≡ Ok (rows.with_pipe id index sched period (state_in t r clock))
     made clock = new-row (rows.is_used (graph_of t) id) (rows.has_index (graph_of t) index) (nat_le 32 (length (graph_of t).pipes)) (rows.has_hole (state_in t r clock) rows.pipe_bytes) (rows.with_pipe id index sched period (state_in t r clock)) unused still few so.room

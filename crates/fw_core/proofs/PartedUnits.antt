@@ -13,13 +13,13 @@ use Rattle.stream_law.proofs.Members.{IsIn}
 use Rattle.mbox_link.specs.Step as rows
 use Rattle.fw_units.specs.declared.component.Component.{Component}
 use Rattle.fw_units.specs.declared.component.Unit as units
-use Rattle.fw_units.specs.declared.component.Unit.TheVariants.{Host, Dai, Eq, Buffer}
-use Rattle.fw_units.specs.Units.{comp_by, kind_by, setting_by, streams_by, with_stream_by}
+use Rattle.fw_units.specs.declared.component.Unit.TheVariants.{Host, Dai, Volume, Eq, Buffer}
+use Rattle.fw_units.specs.Units.{comp_by, kind_by, setting_by, ramp_by, streams_by, with_stream_by}
 use Rattle.fw_parts.specs.Staged.{staging_in, fits_behind}
 use Rattle.fw_components.specs.Parts.{staging_one, joined_bytes, takes_part, parted_unit, parted_by, parted_at}
 use Rattle.fw_core.proofs.Seats.{seat}
 use Rattle.fw_core.proofs.Histories.{history}
-use Rattle.fw_core.proofs.Channels.{moves, frames}
+use Rattle.fw_core.proofs.Shapes.{moves, frames, unit_lengths, lengths}
 
 -- ---- what a part leaves of a unit
 
@@ -27,6 +27,11 @@ module _ (id : ℕ) (part : Part) (words : List ℤ) where
   pub parted-kind : (u : units.Unit) → kind_by (parted_unit id part words u) ≡ kind_by u
   parted-kind (Buffer size ring source sink) = refl
   parted-kind u = refl
+
+  parted-length : (u : units.Unit) → unit_lengths (parted_unit id part words u) ≡ unit_lengths u
+  parted-length (Buffer size ring source sink) = refl
+  parted-length (Volume gains ramp from done over piece) = refl
+  parted-length u = refl
 
   parted-stream : (u : units.Unit) (ss : List StreamView) → with_stream_by id (parted_unit id part words u) ss ≡ with_stream_by id u ss
   parted-stream (Buffer size ring source sink) ss = refl
@@ -70,6 +75,13 @@ module _ (id : ℕ) (part : Part) (words : List ℤ) where
       by true = refl
       by false = refl
 
+  pub parted-lengths : (c : Component) → lengths (parted_at id part words c) ≡ lengths c
+  parted-lengths c = by (c.id == id)
+    where
+      by : (h : Bool) → lengths (cond h (parted_by part words c) c) ≡ lengths c
+      by true = parted-length c.id part words c.unit
+      by false = refl
+
   pub seat-parted : (c : Component) → seat (parted_at id part words c) ≡ seat c
   seat-parted c = by (c.id == id)
     where
@@ -90,8 +102,8 @@ module _ (id : ℕ) (part : Part) (words : List ℤ) where
   parted-comps c setting is [] one = refl
   parted-comps c setting is (d ∷ cs) one = ap (λ (p : Comp × List Comp). p.0 ∷ p.1) (λ i. (at (d.id == id) refl i, parted-comps c setting is cs (λ e there. one e (inr there)) i))
     where
-      at : (h : Bool) → (d.id == id) ≡ h → comp_by (cond h (parted_by part words d) d) ≡ cond h (record { id = d.id; kind = kind_by d.unit; pipe = d.pipe; setting = setting }) (comp_by d)
-      at true same = λ i. record { id = d.id; kind = parted-kind d.id part words d.unit i; pipe = d.pipe; setting = (ap (λ (e : Component). setting_by (parted_by part words e).unit) (one d (inl refl) (eqb-true d.id id same)) ∙ is) i }
+      at : (h : Bool) → (d.id == id) ≡ h → comp_by (cond h (parted_by part words d) d) ≡ cond h (record { id = d.id; kind = kind_by d.unit; pipe = d.pipe; setting = setting; ramp = ramp_by d.unit }) (comp_by d)
+      at true same = λ i. record { id = d.id; kind = parted-kind d.id part words d.unit i; pipe = d.pipe; setting = (ap (λ (e : Component). setting_by (parted_by part words e).unit) (one d (inl refl) (eqb-true d.id id same)) ∙ is) i; ramp = (parted-length d.id part words d.unit i).1 }
       at false same = refl
 
   -- or none has, where it keeps its own
@@ -100,7 +112,7 @@ module _ (id : ℕ) (part : Part) (words : List ℤ) where
   same-settings c is (d ∷ cs) one = ap (λ (p : Comp × List Comp). p.0 ∷ p.1) (λ i. (at (d.id == id) refl i, same-settings c is cs (λ e there. one e (inr there)) i))
     where
       at : (h : Bool) → (d.id == id) ≡ h → comp_by (cond h (parted_by part words d) d) ≡ comp_by d
-      at true same = λ i. record { id = d.id; kind = parted-kind d.id part words d.unit i; pipe = d.pipe; setting = (ap (λ (e : Component). setting_by (parted_by part words e).unit) (one d (inl refl) (eqb-true d.id id same)) ∙ is ∙ ap (λ (e : Component). setting_by e.unit) (sym (one d (inl refl) (eqb-true d.id id same)))) i }
+      at true same = λ i. record { id = d.id; kind = parted-kind d.id part words d.unit i; pipe = d.pipe; setting = (ap (λ (e : Component). setting_by (parted_by part words e).unit) (one d (inl refl) (eqb-true d.id id same)) ∙ is ∙ ap (λ (e : Component). setting_by e.unit) (sym (one d (inl refl) (eqb-true d.id id same)))) i; ramp = (parted-length d.id part words d.unit i).1 }
       at false same = refl
 
 -- numbers of components that pass, where a change leaves ids and numbers

@@ -3,7 +3,7 @@ use Rattle.std.proofs.Common.{◌≡◌, refl, sym, ap, ◌∙◌, subst, ℕ, �
 use Rattle.std.specs.Prelude.{OnErr, OnOk}
 use Rattle.std.specs.List.{AllByRecursion}
 use Rattle.std.specs.Option.{option_map_or}
-use Rattle.std.proofs.lemmas.Bool.{true≢false, false≢true, eqb-true, eq-eqb, and_parts, false_from_ne_true}
+use Rattle.std.proofs.lemmas.Bool.{true≢false, false≢true, eqb-true, eq-eqb, and_parts}
 use Rattle.sof_base.specs.declared.errno.Errno.{Errno}
 use Rattle.sof_base.specs.declared.part.Part.{Part}
 use Rattle.sof_base.specs.BlobFaults.{is_blob}
@@ -11,18 +11,17 @@ use Rattle.stream_law.specs.declared.graph.Comp.{Comp}
 use Rattle.stream_law.specs.declared.graph.Kind.{Kind}
 use Rattle.stream_law.specs.declared.graph.Setting.TheVariants.{Blob}
 use Rattle.stream_law.specs.declared.stream.StreamView.{StreamView}
-use Rattle.stream_law.specs.State.{FwState, View, Staging, History}
+use Rattle.stream_law.specs.State.{FwState, View, Staging}
 use Rattle.stream_law.specs.Made.{blob}
 use Rattle.stream_law.specs.Placed.{Ascends}
-use Rattle.stream_law.specs.Seen.{flows, is_equaliser, equalises, goes_on, blob_in, fresh_numbers, numbers_in, history_seen, seen}
-use Rattle.stream_law.specs.Ways.{comp_of, components, live, channels_of}
+use Rattle.stream_law.specs.Seen.{flows, is_equaliser, keeps_numbers, remembers, blob_in, fresh_numbers, numbers_in, numbers_seen, history_seen, seen}
+use Rattle.stream_law.specs.Ways.{comp_of, components, is_of, live, channels_of}
 use Rattle.stream_law.proofs.Members.{IsIn, find-in, in-all}
 use Rattle.mbox_link.specs.Step as rows
 use Rattle.row_laws.specs.Tiled.{heap_bytes}
 use Rattle.row_laws.specs.RowLaws.{RowIsKept}
 use Rattle.row_laws.proofs.Ascending.{ascends-keys}
 use Rattle.row_laws.proofs.Fewer.{filter-every}
-use Rattle.row_laws.proofs.Found.{found-each}
 use Rattle.row_laws.proofs.SameWays.{flows-same}
 use Rattle.row_laws.proofs.Settings.{ways-set, bare-set}
 use Rattle.fw_heap.specs.Regions.{RegionState}
@@ -33,10 +32,9 @@ use Rattle.fw_components.specs.Tables.{Tables, all_of, graph_of, view_by, stream
 use Rattle.fw_components.specs.Values.{left_with}
 use Rattle.fw_parts.specs.Staged.{fits_behind}
 use Rattle.fw_components.specs.Parts.{staging_one, joined_bytes, takes_part, parted_by, parted_at, parted, part_set, IsParted, IsPartedBy}
-use Rattle.fw_walks.proofs.Naming.{find-map}
 use Rattle.fw_components.specs.States.{AreOf}
 use Rattle.fw_pipeline.proofs.StateAfter.{histories-each}
-use Rattle.fw_schedule.specs.Ticks.{HasChannels}
+use Rattle.fw_schedule.specs.Ticks.{HasShapes}
 use Rattle.fw_core.specs.Held.{state_in, IsPieceHeld}
 use Rattle.fw_core.specs.Answers.{answer_of, IsRow}
 use Rattle.fw_core.proofs.RowLaws.{row-is}
@@ -45,9 +43,10 @@ use Rattle.fw_core.proofs.Histories.{history, one-key}
 use Rattle.fw_core.proofs.Changed.{state-is, comps-distinct}
 use Rattle.fw_core.proofs.Streams.{err-same}
 use Rattle.fw_core.proofs.Values.{there-used, comp-found}
-use Rattle.fw_core.proofs.Channels.{Fits, moves, frames, IsSame, channels-are, fits-map, set_value-same}
+use Rattle.fw_core.proofs.Shapes.{Fits, moves, frames, HasRamp, IsSame, shapes-are, fits-map, ramps-map, set_value-same}
+use Rattle.fw_core.proofs.Numbers.{marked-equaliser, numbers-own, seen-mark, seen-on}
 use Rattle.fw_core.proofs.PartStaging.{put, staging-found, staging-parted}
-use Rattle.fw_core.proofs.PartedUnits.{parted-kind, parted-setting, takes-row, parted-id, parted-moves, seat-parted, parted-streams, parted-comps, same-settings, histories-kept, find-filter, rings-alike}
+use Rattle.fw_core.proofs.PartedUnits.{parted-kind, parted-setting, takes-row, parted-id, parted-moves, parted-lengths, seat-parted, parted-streams, parted-comps, same-settings, histories-kept, rings-alike}
 
 -- ---- SET_DATA
 
@@ -68,15 +67,15 @@ module _ (id : ℕ) (part : Part) (words : List ℤ) where
       by true = parted-kind c.id part words c.unit
       by false = refl
 
-  same-kinds : (t : Tables) (n : ℕ) → option_map_or (λ x. is_equaliser x.kind) (comp_of (graph_of (parted id part words t)) n) false ≡ option_map_or (λ x. is_equaliser x.kind) (comp_of (graph_of t) n) false
-  same-kinds t n =
-      ap (λ (o : Option Comp). option_map_or (λ x. is_equaliser x.kind) o false) (comp-found (parted id part words t) n ∙ ap (option_map comp_by) (found-map n t.comps))
+  same-kinds : (sort : Kind → Bool) (t : Tables) (n : ℕ) → is_of (graph_of (parted id part words t)) sort n ≡ is_of (graph_of t) sort n
+  same-kinds sort t n =
+      ap (λ (o : Option Comp). option_map_or (λ x. sort x.kind) o false) (comp-found (parted id part words t) n ∙ ap (option_map comp_by) (found-map n t.comps))
       ∙ by (find (λ c. c.id == n) t.comps)
-      ∙ sym (ap (λ (o : Option Comp). option_map_or (λ x. is_equaliser x.kind) o false) (comp-found t n))
+      ∙ sym (ap (λ (o : Option Comp). option_map_or (λ x. sort x.kind) o false) (comp-found t n))
     where
-      by : (o : Option Component) → option_map_or (λ (x : Comp). is_equaliser x.kind) (option_map comp_by (option_map (parted_at id part words) o)) false ≡ option_map_or (λ (x : Comp). is_equaliser x.kind) (option_map comp_by o) false
+      by : (o : Option Component) → option_map_or (λ (x : Comp). sort x.kind) (option_map comp_by (option_map (parted_at id part words) o)) false ≡ option_map_or (λ (x : Comp). sort x.kind) (option_map comp_by o) false
       by None = refl
-      by (Some c) = ap is_equaliser (at-kind c)
+      by (Some c) = ap sort (at-kind c)
 
 module _ (t : Tables) (r : RegionState) (id : ℕ) (part : Part) (words : List ℤ) (held : IsPieceHeld t r) (c : Component) (at : find (λ c. c.id == id) t.comps ≡ Some c) (taken : takes_part c.id c.unit part ≡ true) where
   abbrev after : Tables
@@ -109,7 +108,7 @@ module _ (t : Tables) (r : RegionState) (id : ℕ) (part : Part) (words : List �
   w = record { graph = rows.with_comps (map (rows.with_setting id (Blob bytes)) (graph_of t).comps) (graph_of t); streams = streams_of t }
 
   same : (x : ℕ) → IsSame (view_by t) w x
-  same x = set_value-same id (Blob bytes) (state_in t r 0) (record (state_in t r 0) { graph = rows.with_comps (map (rows.with_setting id (Blob bytes)) (graph_of t).comps) (graph_of t) }) (held.kept 0) refl x
+  same x = set_value-same id (Blob bytes) (state_in t r 0) (held.kept 0) x
 
   last-view : (part.remaining == 0) ≡ true → w ≡ view_by after
   last-view last = λ i. record {
@@ -128,7 +127,7 @@ module _ (t : Tables) (r : RegionState) (id : ℕ) (part : Part) (words : List �
     where
       by : (h : Bool) → (part.remaining == 0) ≡ h → IsSame (view_by t) (view_by after) x
       by true last = subst (λ (v : View). IsSame (view_by t) v x) (last-view last) (same x)
-      by false more = subst (λ (v : View). IsSame (view_by t) v x) (staged-view more) (record { lives = refl; channels = refl })
+      by false more = subst (λ (v : View). IsSame (view_by t) v x) (staged-view more) (record { lives = refl; rates = refl; channels = refl })
 
   -- ---- what its words say
 
@@ -167,63 +166,54 @@ module _ (t : Tables) (r : RegionState) (id : ℕ) (part : Part) (words : List �
         refl
         (staged-view more)
         refl
-        (sym (histories-kept (equalises (view_by t)) (parted_at id part words) t.comps (parted-id id part words) (history-same more)) ∙ ap (λ (v : View). map history (filter (λ c. equalises v c.id) after.comps)) (staged-view more))
+        (sym (histories-kept (remembers (view_by t)) (parted_at id part words) t.comps (parted-id id part words) (history-same more)) ∙ ap (λ (v : View). map history (filter (λ c. remembers v c.id) after.comps)) (staged-view more))
         (sym (ap (λ (o : Option Staging). put o (rows.unstaged id (staging_by t.comps))) is) ∙ staging-parted id part words t.comps c ascends at)
 
     -- and a blob that comes in force
 
-    numbers-own : (e : Component) → IsIn e t.comps → equalises (view_by t) e.id ≡ true → numbers_in f e.id ≡ numbers_by e.unit e.channels
-    numbers-own e in_e on =
-        ap (λ (o : Option History). option_map_or (λ (h : History). h.numbers) o []) (
-        find-map (λ (h : History). h.comp == e.id) history (filter (λ c. equalises (view_by t) c.id) t.comps)
-        ∙ ap (option_map history) (find-filter (λ x. x.id == e.id) (λ c. equalises (view_by t) c.id) t.comps e (in-all (λ (c : Component). find (λ x. x.id == c.id) t.comps ≡ Some c) t.comps e (found-each (λ (c : Component). c.id) t.comps (comps-distinct t r held)) in_e) on))
-
     abbrev Right : Component → Type 0
-    Right d = numbers_by d.unit d.channels ≡ cond (goes_on (view_by t) (view_by after) (Some id) d.id) (numbers_in f d.id) (fresh_numbers (blob_in (view_by after) d.id) (channels_of (view_by after) d.id))
+    Right d = numbers_by d.unit d.channels ≡ numbers_seen f (view_by after) (Some id) d.id
 
     -- the epoch of this one begins
-    begins : (part.remaining == 0) ≡ true → equalises (view_by after) c.id ≡ true → Right (parted_by part words c)
+    begins : (part.remaining == 0) ≡ true → remembers (view_by after) c.id ≡ true → Right (parted_by part words c)
     begins last on =
-        let lives = and_parts (live (view_by after) c.id) (option_map_or (λ x. is_equaliser x.kind) (comp_of (view_by after).graph c.id) false) on in
+        let lives = and_parts (live (view_by after) c.id) (is_of (graph_of after) keeps_numbers c.id) on in
         let alike = after-same c.id in
         let was : live (view_by t) c.id ≡ true = sym alike.lives ∙ lives.0 in
-        let channels : c.channels ≡ channels_of (view_by after) c.id = in-all (λ (c : Component). live (view_by t) c.id ≡ true → c.channels ≡ channels_of (view_by t) c.id) t.comps c held.channels.comps there.0 was ∙ sym alike.channels in
+        let channels : c.channels ≡ channels_of (view_by after) c.id = in-all (λ (c : Component). live (view_by t) c.id ≡ true → c.channels ≡ channels_of (view_by t) c.id) t.comps c held.shapes.comps there.0 was ∙ sym alike.channels in
         let find_is : comp_of (graph_of after) c.id ≡ Some (comp_by (parted_at id part words c)) = comp-found after c.id ∙ ap (option_map comp_by) (found-map id part words c.id t.comps ∙ ap (option_map (parted_at id part words)) (ap (λ n. find (λ (x : Component). x.id == n) t.comps) id-is ∙ at)) in
         let set_is : setting_by (parted_at id part words c).unit ≡ Blob bytes = ap (λ h. setting_by (cond {A = Component} h (parted_by part words c) c).unit) there.1 ∙ parted-setting c.id part words c.unit taken ∙ ap (λ h. cond h (Blob bytes) (setting_by c.unit)) last in
         let blob_is : blob_in (view_by after) c.id ≡ bytes = ap (λ (o : Option Comp). option_map_or (λ x. blob x.setting) o []) find_is ∙ ap blob set_is in
+        let kind : is_equaliser (kind_by c.unit) ≡ true = (and_parts (is_equaliser (kind_by c.unit)) (fits_behind (staging_one c.id c.unit) part) (sym (takes-row c.id c.unit part) ∙ taken)).0 in
+        let equaliser : is_of (graph_of after) is_equaliser c.id ≡ true =
+        ap (λ (o : Option Comp). option_map_or (λ x. is_equaliser x.kind) o false) find_is ∙ ap is_equaliser (at-kind id part words c) ∙ kind in
         seen_part.numbers c.channels
         ∙ ap (λ h. cond h (fresh_numbers bytes c.channels) (numbers_by c.unit c.channels)) last
         ∙ (λ i. fresh_numbers (sym blob_is i) (channels i))
-        ∙ sym (ap (λ h. cond ((live (view_by t) c.id && live (view_by after) c.id) && not h) (numbers_in f c.id) (fresh_numbers (blob_in (view_by after) c.id) (channels_of (view_by after) c.id))) (eq-eqb id c.id (sym id-is)) ∙ none (live (view_by t) c.id && live (view_by after) c.id))
-      where
-        none : (h : Bool) → cond (h && false) (numbers_in f c.id) (fresh_numbers (blob_in (view_by after) c.id) (channels_of (view_by after) c.id)) ≡ fresh_numbers (blob_in (view_by after) c.id) (channels_of (view_by after) c.id)
-        none true = refl
-        none false = refl
+        ∙ sym (seen-mark t r held clock (view_by after) id c.id (eq-eqb id c.id (sym id-is)) ∙ marked-equaliser (view_by t) (view_by after) c.id (numbers_in f c.id) equaliser)
 
     -- and those of others go on
-    goes-on : (e : Component) → IsIn e t.comps → (e.id == id) ≡ false → equalises (view_by after) e.id ≡ true → Right e
+    goes-on : (e : Component) → IsIn e t.comps → (e.id == id) ≡ false → remembers (view_by after) e.id ≡ true → Right e
     goes-on e in_e far on =
-        let lives = and_parts (live (view_by after) e.id) (option_map_or (λ x. is_equaliser x.kind) (comp_of (view_by after).graph e.id) false) on in
+        let lives = and_parts (live (view_by after) e.id) (is_of (graph_of after) keeps_numbers e.id) on in
         let alike = after-same e.id in
         let was : live (view_by t) e.id ≡ true = sym alike.lives ∙ lives.0 in
-        let before : equalises (view_by t) e.id ≡ true = (λ i. was i && (sym (same-kinds id part words t e.id) ∙ lives.1) i) in
-        let other : (id == e.id) ≡ false = false_from_ne_true (id == e.id) (λ q. true≢false (sym (eq-eqb e.id id (sym (eqb-true id e.id q))) ∙ far)) in
-        sym (numbers-own e in_e before)
-        ∙ sym (λ i. cond ((was i && lives.0 i) && not (other i)) (numbers_in f e.id) (fresh_numbers (blob_in (view_by after) e.id) (channels_of (view_by after) e.id)))
+        let before : remembers (view_by t) e.id ≡ true = (λ i. was i && (sym (same-kinds id part words keeps_numbers t e.id) ∙ lives.1) i) in
+        sym (numbers-own t r held clock e in_e before) ∙ sym (seen-on t r held clock (view_by after) id e.id far was lives.0)
 
-    numbers-left : (part.remaining == 0) ≡ true → (d : Component) → IsIn d after.comps → equalises (view_by after) d.id ≡ true → Right d
+    numbers-left : (part.remaining == 0) ≡ true → (d : Component) → IsIn d after.comps → remembers (view_by after) d.id ≡ true → Right d
     numbers-left last d in_d on =
         let from = in-map (parted_at id part words) t.comps d in_d in
-        subst Right (sym from.2) (by from.0 from.1 (from.0.id == id) refl (ap (λ (x : Component). equalises (view_by after) x.id) (sym from.2) ∙ on))
+        subst Right (sym from.2) (by from.0 from.1 (from.0.id == id) refl (ap (λ (x : Component). remembers (view_by after) x.id) (sym from.2) ∙ on))
       where
-        by : (e : Component) → IsIn e t.comps → (h : Bool) → (e.id == id) ≡ h → equalises (view_by after) (parted_at id part words e).id ≡ true → Right (parted_at id part words e)
+        by : (e : Component) → IsIn e t.comps → (h : Bool) → (e.id == id) ≡ h → remembers (view_by after) (parted_at id part words e).id ≡ true → Right (parted_at id part words e)
         by e in_e true is on =
             let own = one e in_e (eqb-true e.id id is) in
             let now : parted_at id part words e ≡ parted_by part words c = ap (λ h. cond {A = Component} h (parted_by part words e) e) is ∙ ap (parted_by part words) own in
-            subst Right (sym now) (begins last (ap (λ (x : Component). equalises (view_by after) x.id) (sym now) ∙ on))
+            subst Right (sym now) (begins last (ap (λ (x : Component). remembers (view_by after) x.id) (sym now) ∙ on))
         by e in_e false is on =
             let now : parted_at id part words e ≡ e = ap (λ h. cond {A = Component} h (parted_by part words e) e) is in
-            subst Right (sym now) (goes-on e in_e is (ap (λ (x : Component). equalises (view_by after) x.id) (sym now) ∙ on))
+            subst Right (sym now) (goes-on e in_e is (ap (λ (x : Component). remembers (view_by after) x.id) (sym now) ∙ on))
 
     flows-set : (b : ℕ) → flows w b ≡ flows (view_by t) b
     flows-set b =
@@ -240,8 +230,8 @@ module _ (t : Tables) (r : RegionState) (id : ℕ) (part : Part) (words : List �
         refl
         (last-view last)
         (rings-alike (view_by t) w flows-set (rings_of t) ∙ (held.kept 0).seen)
-        (ap (λ (v : View). map (history_seen f v (Some id)) (filter (equalises v) (components v.graph))) (last-view last)
-        ∙ sym (histories-each (equalises (view_by after)) (λ x. cond (goes_on (view_by t) (view_by after) (Some id) x) (numbers_in f x) (fresh_numbers (blob_in (view_by after) x) (channels_of (view_by after) x))) after.comps (numbers-left last)))
+        (ap (λ (v : View). map (history_seen f v (Some id)) (filter (remembers v) (components v.graph))) (last-view last)
+        ∙ sym (histories-each (remembers (view_by after)) (numbers_seen f (view_by after) (Some id)) after.comps (numbers-left last)))
         (sym (ap (λ (o : Option Staging). put o (rows.unstaged id (staging_by t.comps))) is) ∙ staging-parted id part words t.comps c ascends at)
 
 -- ---- the row's tests
@@ -390,11 +380,12 @@ module _ (t u : Tables) (r : RegionState) (id : ℕ) (part : Part) (words : List
   done-homes : IsDone t u id part words → AreOf r.home u
   done-homes done = seats-homes r.home (all_of t) (all_of u) (ap (λ (x : Tables). map seat (all_of x)) done.tables ∙ seats t r id part words held done.taker done.found done.takes) held.homes
 
-  done-channels : IsDone t u id part words → HasChannels u
-  done-channels done =
-      channels-are t u (λ c there. same c.id) (λ c there. same c.id)
-      (subst (λ (x : Tables). AllByRecursion (Fits (view_by t) moves) x.comps) (sym done.tables) (fits-map (view_by t) moves (parted_at id part words) (parted-id id part words) (parted-moves id part words) t.comps held.channels.comps))
-      (subst (λ (x : Tables). AllByRecursion (Fits (view_by t) frames) x.buffers) (sym done.tables) held.channels.buffers)
+  done-shapes : IsDone t u id part words → HasShapes u
+  done-shapes done =
+      shapes-are t u (λ c there. same c.id) (λ c there. same c.id)
+      (subst (λ (x : Tables). AllByRecursion (Fits (view_by t) moves) x.comps) (sym done.tables) (fits-map (view_by t) moves (parted_at id part words) (parted-id id part words) (parted-moves id part words) t.comps held.shapes.comps))
+      (subst (λ (x : Tables). AllByRecursion (Fits (view_by t) frames) x.buffers) (sym done.tables) held.shapes.buffers)
+      (subst (λ (x : Tables). AllByRecursion (HasRamp (view_by t)) x.comps) (sym done.tables) (ramps-map (view_by t) (parted_at id part words) (parted-id id part words) (parted-lengths id part words) t.comps held.shapes.ramps))
     where
       same : (x : ℕ) → IsSame (view_by t) (view_by u) x
       same x = subst (λ (y : Tables). IsSame (view_by t) (view_by y) x) (sym done.tables) (after-same t r id part words held done.taker done.found done.takes x)
@@ -407,4 +398,4 @@ module _ (t u : Tables) (r : RegionState) (id : ℕ) (part : Part) (words : List
   part-set-is keeps answer is kept seen =
       row-is (λ f. rows.set_data f id part) t u r r answer held
       (λ clock. told-set clock answer is seen) keeps (λ f g kept is. set-heap f g is)
-      (on-done answer is done-homes) (on-done answer is (λ done row. done-channels done)) (refl, refl, refl) (err-same t u r answer kept)
+      (on-done answer is done-homes) (on-done answer is (λ done row. done-shapes done)) (refl, refl, refl) (err-same t u r answer kept)

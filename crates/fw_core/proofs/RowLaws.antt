@@ -12,7 +12,7 @@ use Rattle.fw_heap.specs.Regions.{RegionState}
 use Rattle.fw_components.specs.Tables.{Tables}
 use Rattle.fw_pipeline.specs.Rows as rows
 use Rattle.fw_components.specs.States.{AreOf}
-use Rattle.fw_schedule.specs.Ticks.{HasChannels}
+use Rattle.fw_schedule.specs.Ticks.{HasShapes}
 use Rattle.fw_core.specs.Held.{state_in, IsPieceHeld}
 use Rattle.fw_core.specs.Answers.{answer_of, IsRow}
 
@@ -59,17 +59,17 @@ told-by (Err error) (Err e) v s is leads = ap (λ (n : ℤ). let r : Result FwSt
 pub row-is : {X : Type 0} (row : FwState → Result FwState ℤ) (t u : Tables) (r s : RegionState) (answer : Result X Errno) → IsPieceHeld t r
     → ((clock : ℕ) → answer_of (state_in u s clock) answer ≡ row (state_in t r clock))
     → RowIsKept row → ((f g : FwState) → IsKeptState f → row f ≡ Ok g → heap_bytes g.heap ≡ heap_bytes f.heap)
-    → OnOk answer (AreOf s.home u) → OnOk answer (row (state_in t r 0) ≡ Ok (state_in u s 0) → HasChannels u) → ((s.home ≡ r.home) × (s.size ≡ r.size) × (s.usable ≡ r.usable)) → OnErr answer ((u ≡ t) × (s ≡ r)) → IsRow row t u r s answer
-row-is {X} row t u r s answer held told keeps whole homes channels same kept = record { told = told; held = by answer told homes channels kept; same = same; kept = kept }
+    → OnOk answer (AreOf s.home u) → OnOk answer (row (state_in t r 0) ≡ Ok (state_in u s 0) → HasShapes u) → ((s.home ≡ r.home) × (s.size ≡ r.size) × (s.usable ≡ r.usable)) → OnErr answer ((u ≡ t) × (s ≡ r)) → IsRow row t u r s answer
+row-is {X} row t u r s answer held told keeps whole homes shapes same kept = record { told = told; held = by answer told homes shapes kept; same = same; kept = kept }
   where
-    by : (answer : Result X Errno) → ((clock : ℕ) → answer_of (state_in u s clock) answer ≡ row (state_in t r clock)) → OnOk answer (AreOf s.home u) → OnOk answer (row (state_in t r 0) ≡ Ok (state_in u s 0) → HasChannels u) → OnErr answer ((u ≡ t) × (s ≡ r)) → IsPieceHeld u s
-    by (Ok done) told homes channels kept = record {
+    by : (answer : Result X Errno) → ((clock : ℕ) → answer_of (state_in u s clock) answer ≡ row (state_in t r clock)) → OnOk answer (AreOf s.home u) → OnOk answer (row (state_in t r 0) ≡ Ok (state_in u s 0) → HasShapes u) → OnErr answer ((u ≡ t) × (s ≡ r)) → IsPieceHeld u s
+    by (Ok done) told homes shapes kept = record {
       kept = λ clock. keeps (state_in t r clock) (state_in u s clock) (held.kept clock) (sym (told clock));
       homes = homes;
       whole = whole (state_in t r 0) (state_in u s 0) (held.kept 0) (sym (told 0)) ∙ held.whole ∙ sym same.2;
-      channels = channels (sym (told 0));
+      shapes = shapes (sym (told 0));
     }
-    by (Err error) told homes channels kept = subst (λ (p : Tables × RegionState). IsPieceHeld p.0 p.1) (λ i. (sym kept.0 i, sym kept.1 i)) held
+    by (Err error) told homes shapes kept = subst (λ (p : Tables × RegionState). IsPieceHeld p.0 p.1) (λ i. (sym kept.0 i, sym kept.1 i)) held
 
 -- where nothing changes
 pub row-stays : {X : Type 0} (row : FwState → Result FwState ℤ) (t : Tables) (r : RegionState) (answer : Result X Errno) → IsPieceHeld t r → ((clock : ℕ) → answer_of (state_in t r clock) answer ≡ row (state_in t r clock)) → IsRow row t t r r answer

@@ -18,7 +18,7 @@ can-tick t r held = record {
   wired = (held.kept 0).wired;
   linked = (held.kept 0).linked;
   played = (held.kept 0).played;
-  channels = held.channels;
+  shapes = held.shapes;
 }
 
 -- what is so between messages is so after a tick
@@ -27,5 +27,5 @@ tick-held t u r clock io after held moved can homes = record {
   kept = λ n. kept-clock (state_in u r (next_clock clock)) n (subst IsKeptState (sym moved.state) (tick-kept (state_in t r clock) io (held.kept clock)));
   homes = homes;
   whole = ap (λ (f : FwState). heap_bytes f.heap) moved.state ∙ held.whole;
-  channels = can.channels;
+  shapes = can.shapes;
 }

@@ -6,16 +6,16 @@ use Rattle.row_laws.specs.Kept.{IsKeptState}
 use Rattle.fw_heap.specs.Regions.{RegionState}
 use Rattle.fw_components.specs.Tables.{Tables, carved_pieces}
 use Rattle.fw_components.specs.States.{AreOf, state_over}
-use Rattle.fw_schedule.specs.Ticks.{HasChannels}
+use Rattle.fw_schedule.specs.Ticks.{HasShapes}
 
 -- the state at a clock: the holes are those of the region, and all else stands in the tables
 abbrev pub state_in : Tables → RegionState → ℕ → FwState
 state_in t r clock = state_over t r.holes clock
 
 -- The state is one that rows keep, each piece is of the region, pieces and holes have all its usable bytes, and what is Live has the
--- channels of its stream.
+-- shape of its stream.
 pub record IsPieceHeld (t : Tables) (r : RegionState) : Type 0 where
   pub kept : (clock : ℕ) → IsKeptState (state_in t r clock)
   pub homes : AreOf r.home t
   pub whole : heap_bytes (record { holes = r.holes; pieces = carved_pieces t }) ≡ r.usable
-  pub channels : HasChannels t
+  pub shapes : HasShapes t

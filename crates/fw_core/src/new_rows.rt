@@ -3,7 +3,7 @@ ghost use Rattle.std.specs.Prelude.{◌≡◌, ◌==◌, true, false};
 ghost use Rattle.std.specs.List.{list_any};
 ghost use Rattle.ipc3_model.specs.Allowed.{is_buffer_size, is_period_allowed};
 ghost use Rattle.ipc3_model.specs.Messages.{IsKind};
-ghost use Rattle.mbox_link.specs.Step.{comp_new as comp_new_row, buffer_new as buffer_new_row, pipe_new as pipe_new_row, kind_of, first_setting, has_index as names_index};
+ghost use Rattle.mbox_link.specs.Step.{comp_new as comp_new_row, buffer_new as buffer_new_row, pipe_new as pipe_new_row, kind_of, first_setting, first_ramp, has_index as names_index};
 ghost use Rattle.fw_components.specs.Tables.{graph_of};
 ghost use Rattle.fw_components.specs.Changes.{added, is_there, is_full, IsNew, has_new_index};
 ghost use Rattle.fw_core.specs.Held.{IsPieceHeld};
@@ -35,7 +35,7 @@ pub(crate) fn comp_new(
 ) -> Result<(), Errno>
     requires words { IsKind words frame_fmt }
     requires held { IsPieceHeld registry.old region.old }
-    ensures { IsRow (λ f. comp_new_row f id pipe (kind_of words frame_fmt) (first_setting words)) registry.old registry.new region.old region.new result }
+    ensures { IsRow (λ f. comp_new_row f id pipe (kind_of words frame_fmt) (first_setting words) (first_ramp words)) registry.old registry.new region.old region.new result }
 {
     if is_used(registry, id) || is_complete(registry, pipe) {
         return Err(Errno::BUSY);

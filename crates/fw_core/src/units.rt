@@ -1,9 +1,9 @@
 // What a new component is, by the words of its message, and how many bytes it takes.
 ghost use Rattle.std.specs.Prelude.{ℕ, ◌≡◌, ◌≤◌, ◌<◌, replicate, false};
 ghost use Rattle.sof_base.specs.Holes.{rounded};
-ghost use Rattle.mbox_link.specs.Step.{comp_bytes, sample_format, kind_of as named_kind, first_setting as named_setting};
+ghost use Rattle.mbox_link.specs.Step.{comp_bytes, sample_format, kind_of as named_kind, first_setting as named_setting, first_ramp as named_ramp};
 ghost use Rattle.ipc3_model.specs.Messages.{IsKind};
-ghost use Rattle.fw_units.specs.Units.{is_buffer, is_pipeline, kind_by, setting_by};
+ghost use Rattle.fw_units.specs.Units.{is_buffer, is_pipeline, kind_by, setting_by, ramp_by};
 ghost use Rattle.fw_components.specs.Changes.{IsNew};
 ghost use Rattle.fw_core.specs.Making.{IsIn};
 
@@ -11,16 +11,17 @@ use eq_biquad::Eq;
 use fw_components::Unit;
 use fw_heap::Piece;
 use ipc3_codec::CompWords;
-use sof_base::{Bounded, Format};
+use sof_base::{Bounded, Format, ramp_of};
 use stream_law::Phase;
 
-/// A new component by the words of its message: a host is Idle, each gain of a volume is 1, a mux chooses its first input, and no
-/// blob is in force.
+/// A new component by the words of its message: a host is Idle, each gain of a volume is 1 with the ramp of its words, a mux chooses its
+/// first input, and no blob is in force.
 pub(crate) fn unit_of(words: CompWords, frame_fmt: u32, piece: Piece) -> Unit
     requires words { IsKind words frame_fmt }
     requires size { piece.size ≡ rounded (comp_bytes (named_kind words frame_fmt)) }
     ensures kind { kind_by result ≡ named_kind words frame_fmt }
     ensures setting { setting_by result ≡ named_setting words }
+    ensures ramp { ramp_by result ≡ named_ramp words }
     ensures piece { IsIn piece result }
     ensures new { IsNew result }
     ensures plain { (is_buffer result ≡ false) × (is_pipeline result ≡ false) }
@@ -37,8 +38,17 @@ pub(crate) fn unit_of(words: CompWords, frame_fmt: u32, piece: Piece) -> Unit
             format: frame_format(frame_fmt),
             piece,
         },
-        CompWords::Volume { channels, .. } => Unit::Volume {
+        CompWords::Volume {
+            channels,
+            ramp,
+            initial_ramp,
+            ..
+        } => Unit::Volume {
             gains: first_gains(channels),
+            ramp: ramp_of(ramp, initial_ramp),
+            from: first_gains(channels),
+            done: 0,
+            length: 0,
             piece,
         },
         CompWords::Mixer => Unit::Mixer { piece },

@@ -17,7 +17,7 @@ use Rattle.fw_components.specs.Tables.{Tables, all_of}
 use Rattle.fw_units.specs.Changes.{has_id}
 use Rattle.fw_components.specs.Changes.{is_there, found}
 use Rattle.fw_components.specs.Kept.{IsKept, AreIdsApart}
-use Rattle.fw_units.specs.Frames.{begun_at, begun_by, words_of, IsFreshBy, staged_of_one}
+use Rattle.fw_units.specs.Frames.{begun_at, begun_by, kept_words, IsFreshBy, staged_of_one}
 use Rattle.fw_components.specs.Frames.{begun, staged_at}
 use Rattle.fw_components.specs.Tables.{ids_of}
 use Rattle.fw_components.proofs.Listed.{listed-is}
@@ -65,32 +65,32 @@ become-read {Y} R f (c ∷ cs) (d ∷ ds) same each = ap (λ (p : Y × List Y). 
 
 -- ---- one that begins
 
-pub begun-id : (channels : ℕ) (h : Bool) (c d : Component) → IsBegun channels h c d → d.id ≡ c.id
-begun-id channels true c d is = ap (λ (x : Component). x.id) is.0
-begun-id channels false c d is = ap (λ (x : Component). x.id) is
+pub begun-id : (channels rate : ℕ) (h : Bool) (c d : Component) → IsBegun channels rate h c d → d.id ≡ c.id
+begun-id channels rate true c d is = ap (λ (x : Component). x.id) is.0
+begun-id channels rate false c d is = ap (λ (x : Component). x.id) is
 
 -- it begins with its own words
-own-words : (channels : ℕ) (words : List ℤ) (c : Component) → begun_by channels words c ≡ begun_by channels (words_of (begun_by channels words c)) c
-own-words channels words c = by c.unit
+own-words : (channels rate : ℕ) (words : List ℤ) (c : Component) → begun_by channels rate words c ≡ begun_by channels rate (kept_words (begun_by channels rate words c)) c
+own-words channels rate words c = by c.unit
   where
-    by : (u : units.Unit) → begun_by channels words (record { id = c.id; pipe = c.pipe; channels = c.channels; unit = u }) ≡ begun_by channels (words_of (begun_by channels words (record { id = c.id; pipe = c.pipe; channels = c.channels; unit = u }))) (record { id = c.id; pipe = c.pipe; channels = c.channels; unit = u })
+    by : (u : units.Unit) → begun_by channels rate words (record { id = c.id; pipe = c.pipe; channels = c.channels; unit = u }) ≡ begun_by channels rate (kept_words (begun_by channels rate words (record { id = c.id; pipe = c.pipe; channels = c.channels; unit = u }))) (record { id = c.id; pipe = c.pipe; channels = c.channels; unit = u })
     by (Buffer size ring source sink) = refl
     by u = refl
 
 -- one that begins again
-begun-again : (channels : ℕ) (words before : List ℤ) (c : Component) → begun_by channels words (begun_by channels before c) ≡ begun_by channels words c
-begun-again channels words before c = by c.unit
+begun-again : (channels rate : ℕ) (words before : List ℤ) (c : Component) → begun_by channels rate words (begun_by channels rate before c) ≡ begun_by channels rate words c
+begun-again channels rate words before c = by c.unit
   where
-    by : (u : units.Unit) → begun_by channels words (begun_by channels before (record { id = c.id; pipe = c.pipe; channels = c.channels; unit = u })) ≡ begun_by channels words (record { id = c.id; pipe = c.pipe; channels = c.channels; unit = u })
+    by : (u : units.Unit) → begun_by channels rate words (begun_by channels rate before (record { id = c.id; pipe = c.pipe; channels = c.channels; unit = u })) ≡ begun_by channels rate words (record { id = c.id; pipe = c.pipe; channels = c.channels; unit = u })
     by (Buffer size ring source sink) = refl
     by u = refl
 
-pub begun-next : (channels : ℕ) (h k : Bool) (c d e : Component) → IsBegun channels h c d → IsBegun channels k d e → IsBegun channels (h || k) c e
-begun-next channels false false c d e first second = second ∙ first
-begun-next channels false true c d e first second = subst (λ (x : Component). IsBegun channels true x e) first second
-begun-next channels true false c d e first second = subst (λ (x : Component). IsBegun channels true c x) (sym second) first
-begun-next channels true true c d e first second =
-    (second.0 ∙ ap (begun_by channels (words_of e)) first.0 ∙ begun-again channels (words_of e) (words_of d) c, (second.1.0, second.1.1 ∙ first.1.1))
+pub begun-next : (channels rate : ℕ) (h k : Bool) (c d e : Component) → IsBegun channels rate h c d → IsBegun channels rate k d e → IsBegun channels rate (h || k) c e
+begun-next channels rate false false c d e first second = second ∙ first
+begun-next channels rate false true c d e first second = subst (λ (x : Component). IsBegun channels rate true x e) first second
+begun-next channels rate true false c d e first second = subst (λ (x : Component). IsBegun channels rate true c x) (sym second) first
+begun-next channels rate true true c d e first second =
+    (second.0 ∙ ap (begun_by channels rate (kept_words e)) first.0 ∙ begun-again channels rate (kept_words e) (kept_words d) c, (second.1.0, second.1.1 ∙ first.1.1))
 
 -- ---- what one call begins
 
@@ -132,10 +132,10 @@ module _ (t : Tables) (kept : IsKept t) where
       ∙ own t.pipes kept.named.pipes c there
 
 -- the same id
-begun-at_id : (id channels : ℕ) (words : List ℤ) (c : Component) → (begun_at id channels words c).id ≡ c.id
-begun-at_id id channels words c = by (c.id == id)
+begun-at_id : (id channels rate : ℕ) (words : List ℤ) (c : Component) → (begun_at id channels rate words c).id ≡ c.id
+begun-at_id id channels rate words c = by (c.id == id)
   where
-    by : (h : Bool) → (cond {A = Component} h (begun_by channels words c) c).id ≡ c.id
+    by : (h : Bool) → (cond {A = Component} h (begun_by channels rate words c) c).id ≡ c.id
     by true = refl
     by false = refl
 
@@ -143,50 +143,50 @@ map-both : (f : Component → Component) (cs ds : List Component) → map f cs +
 map-both f [] ds = refl
 map-both f (c ∷ cs) ds = ap (λ (xs : List Component). f c ∷ xs) (map-both f cs ds)
 
-found-begun : (id channels : ℕ) (words : List ℤ) (t : Tables) → found (begun id channels words t) id ≡ option_map (begun_at id channels words) (found t id)
-found-begun id channels words t =
+found-begun : (id channels rate : ℕ) (words : List ℤ) (t : Tables) → found (begun id channels rate words t) id ≡ option_map (begun_at id channels rate words) (found t id)
+found-begun id channels rate words t =
     ap (find (λ c. c.id == id)) (ap (λ (cs : List Component). map f t.comps ++ cs) (map-both f t.buffers t.pipes) ∙ map-both f t.comps (t.buffers ++ t.pipes))
     ∙ find-map (λ (c : Component). c.id == id) f (all_of t)
-    ∙ ap (option_map f) (find-same (λ c. (f c).id == id) (λ c. c.id == id) (all_of t) (λ c. ap (λ n. n == id) (begun-at_id id channels words c)))
+    ∙ ap (option_map f) (find-same (λ c. (f c).id == id) (λ c. c.id == id) (all_of t) (λ c. ap (λ n. n == id) (begun-at_id id channels rate words c)))
   where
     f : Component → Component
-    f c = begun_at id channels words c
+    f c = begun_at id channels rate words c
 
-module _ (t u : Tables) (kept : IsKept t) (id channels : ℕ) (words : List ℤ) (is : u ≡ begun id channels words t) (fresh : IsFreshBy (found u id)) (staged : staged_at u id ≡ staged_at t id) where
-  at-one : (c : Component) → found t c.id ≡ Some c → IsBegun channels (c.id == id) c (begun_at id channels words c)
+module _ (t u : Tables) (kept : IsKept t) (id channels rate : ℕ) (words : List ℤ) (is : u ≡ begun id channels rate words t) (fresh : IsFreshBy (found u id)) (staged : staged_at u id ≡ staged_at t id) where
+  at-one : (c : Component) → found t c.id ≡ Some c → IsBegun channels rate (c.id == id) c (begun_at id channels rate words c)
   at-one c at = by (c.id == id) refl
     where
-      by : (h : Bool) → (c.id == id) ≡ h → IsBegun channels h c (cond h (begun_by channels words c) c)
+      by : (h : Bool) → (c.id == id) ≡ h → IsBegun channels rate h c (cond h (begun_by channels rate words c) c)
       by false other = refl
       by true same =
           let here : found t id ≡ Some c = ap (found t) (sym (eqb-true c.id id same)) ∙ at in
-          let there : found u id ≡ Some (begun_by channels words c) =
-          ap (λ (v : Tables). found v id) is ∙ found-begun id channels words t ∙ ap (option_map (begun_at id channels words)) here
-          ∙ ap (λ h. let r : Option Component = Some (cond h (begun_by channels words c) c) in r) same in
-          (own-words channels words c, (subst IsFreshBy there fresh, sym (ap staged_of_one there) ∙ staged ∙ ap staged_of_one here))
+          let there : found u id ≡ Some (begun_by channels rate words c) =
+          ap (λ (v : Tables). found v id) is ∙ found-begun id channels rate words t ∙ ap (option_map (begun_at id channels rate words)) here
+          ∙ ap (λ h. let r : Option Component = Some (cond h (begun_by channels rate words c) c) in r) same in
+          (own-words channels rate words c, (subst IsFreshBy there fresh, sym (ap staged_of_one there) ∙ staged ∙ ap staged_of_one here))
 
   -- the one of its id begins, and all others stay as they are
-  pub one-begun : HaveBegun channels (λ x. x == id) t u
-  one-begun = subst (HaveBegun channels (λ x. x == id) t) (sym is) (
-    become-map (λ c d. IsBegun channels (c.id == id) c d) (begun_at id channels words) t.comps (λ c there. at-one c (own-comp t kept c there)),
+  pub one-begun : HaveBegun channels rate (λ x. x == id) t u
+  one-begun = subst (HaveBegun channels rate (λ x. x == id) t) (sym is) (
+    become-map (λ c d. IsBegun channels rate (c.id == id) c d) (begun_at id channels rate words) t.comps (λ c there. at-one c (own-comp t kept c there)),
     (
-      become-map (λ c d. IsBegun channels (c.id == id) c d) (begun_at id channels words) t.buffers (λ c there. at-one c (own-buffer t kept c there)),
-      (become-map (λ c d. IsBegun channels (c.id == id) c d) (begun_at id channels words) t.pipes (λ c there. at-one c (own-pipe t kept c there)), refl),
+      become-map (λ c d. IsBegun channels rate (c.id == id) c d) (begun_at id channels rate words) t.buffers (λ c there. at-one c (own-buffer t kept c there)),
+      (become-map (λ c d. IsBegun channels rate (c.id == id) c d) (begun_at id channels rate words) t.pipes (λ c there. at-one c (own-pipe t kept c there)), refl),
     ),
   )
 
 -- ---- those of more and more ids
 
-module _ (channels : ℕ) (test : ℕ → Bool) where
+module _ (channels rate : ℕ) (test : ℕ → Bool) where
   -- of all ids these begin that are among the first and pass
   abbrev pub AreBegun : List ℕ → List Component → List Component → Type 0
-  AreBegun ids cs ds = BecomeEach (λ c d. IsBegun channels (is_among ids c.id && test c.id) c d) cs ds
+  AreBegun ids cs ds = BecomeEach (λ c d. IsBegun channels rate (is_among ids c.id && test c.id) c d) cs ds
 
   abbrev pub FirstBegun : List ℕ → Tables → Tables → Type 0
-  FirstBegun ids t u = HaveBegun channels (λ x. is_among ids x && test x) t u
+  FirstBegun ids t u = HaveBegun channels rate (λ x. is_among ids x && test x) t u
 
   pub none-begun : (t : Tables) → FirstBegun [] t t
-  none-begun t = (become-same (λ c d. IsBegun channels false c d) (λ c. refl) t.comps, (become-same (λ c d. IsBegun channels false c d) (λ c. refl) t.buffers, (become-same (λ c d. IsBegun channels false c d) (λ c. refl) t.pipes, refl)))
+  none-begun t = (become-same (λ c d. IsBegun channels rate false c d) (λ c. refl) t.comps, (become-same (λ c d. IsBegun channels rate false c d) (λ c. refl) t.buffers, (become-same (λ c d. IsBegun channels rate false c d) (λ c. refl) t.pipes, refl)))
 
   -- x is one of the first or the next, and passes
   more-pass : (ids : List ℕ) (i d x : ℕ) → i < length ids → (is_among (take (i + 1) ids) x && test x) ≡ ((is_among (take i ids) x && test x) || (get_or ids i d == x && test x))
@@ -204,11 +204,11 @@ module _ (channels : ℕ) (test : ℕ → Bool) where
       by false false c = refl
 
   module _ (ids : List ℕ) (i d : ℕ) (low : i < length ids) where
-    begun-list : (pass : test (get_or ids i d) ≡ true) → (cs ds es : List Component) → AreBegun (take i ids) cs ds → BecomeEach (λ c d'. IsBegun channels (c.id == get_or ids i d) c d') ds es → AreBegun (take (i + 1) ids) cs es
+    begun-list : (pass : test (get_or ids i d) ≡ true) → (cs ds es : List Component) → AreBegun (take i ids) cs ds → BecomeEach (λ c d'. IsBegun channels rate (c.id == get_or ids i d) c d') ds es → AreBegun (take (i + 1) ids) cs es
     begun-list pass cs ds es so_far next =
-        become-next (λ c d. IsBegun channels (is_among (take i ids) c.id && test c.id) c d) (λ c d'. IsBegun channels (c.id == get_or ids i d) c d') (λ c e. IsBegun channels (is_among (take (i + 1) ids) c.id && test c.id) c e) (λ c x e first second.
-        subst (λ h. IsBegun channels h c e) (sym (more-pass ids i d c.id low ∙ ap (λ h. (is_among (take i ids) c.id && test c.id) || h) (turned c.id)))
-        (begun-next channels (is_among (take i ids) c.id && test c.id) (c.id == get_or ids i d) c x e first (subst (λ n. IsBegun channels (n == get_or ids i d) x e) (begun-id channels _ c x first) second))) cs ds es so_far next
+        become-next (λ c d. IsBegun channels rate (is_among (take i ids) c.id && test c.id) c d) (λ c d'. IsBegun channels rate (c.id == get_or ids i d) c d') (λ c e. IsBegun channels rate (is_among (take (i + 1) ids) c.id && test c.id) c e) (λ c x e first second.
+        subst (λ h. IsBegun channels rate h c e) (sym (more-pass ids i d c.id low ∙ ap (λ h. (is_among (take i ids) c.id && test c.id) || h) (turned c.id)))
+        (begun-next channels rate (is_among (take i ids) c.id && test c.id) (c.id == get_or ids i d) c x e first (subst (λ n. IsBegun channels rate (n == get_or ids i d) x e) (begun-id channels rate _ c x first) second))) cs ds es so_far next
       where
         turned : (x : ℕ) → (get_or ids i d == x && test x) ≡ (x == get_or ids i d)
         turned x = by (x == get_or ids i d) refl
@@ -218,11 +218,11 @@ module _ (channels : ℕ) (test : ℕ → Bool) where
             by false other = ap (λ h. h && test x) (false_from_ne_true (get_or ids i d == x) (λ e. true≢false (sym (eq-eqb x (get_or ids i d) (sym (eqb-true (get_or ids i d) x e))) ∙ other)))
 
     -- one more begins
-    pub more-begun : (t u w : Tables) → FirstBegun (take i ids) t u → test (get_or ids i d) ≡ true → HaveBegun channels (λ x. x == get_or ids i d) u w → FirstBegun (take (i + 1) ids) t w
+    pub more-begun : (t u w : Tables) → FirstBegun (take i ids) t u → test (get_or ids i d) ≡ true → HaveBegun channels rate (λ x. x == get_or ids i d) u w → FirstBegun (take (i + 1) ids) t w
     more-begun t u w so_far pass one = (begun-list pass t.comps u.comps w.comps so_far.0 one.0, (begun-list pass t.buffers u.buffers w.buffers so_far.1.0 one.1.0, (begun-list pass t.pipes u.pipes w.pipes so_far.1.1.0 one.1.1.0, one.1.1.1 ∙ so_far.1.1.1)))
 
     passed-list : (fail : test (get_or ids i d) ≡ false) → (cs ds : List Component) → AreBegun (take i ids) cs ds → AreBegun (take (i + 1) ids) cs ds
-    passed-list fail cs ds so_far = become-other (λ c d. IsBegun channels (is_among (take i ids) c.id && test c.id) c d) (λ c d. IsBegun channels (is_among (take (i + 1) ids) c.id && test c.id) c d) cs ds (λ c x there first. subst (λ h. IsBegun channels h c x) (sym (more-pass ids i d c.id low ∙ stays c.id)) first) so_far
+    passed-list fail cs ds so_far = become-other (λ c d. IsBegun channels rate (is_among (take i ids) c.id && test c.id) c d) (λ c d. IsBegun channels rate (is_among (take (i + 1) ids) c.id && test c.id) c d) cs ds (λ c x there first. subst (λ h. IsBegun channels rate h c x) (sym (more-pass ids i d c.id low ∙ stays c.id)) first) so_far
       where
         stays : (x : ℕ) → ((is_among (take i ids) x && test x) || (get_or ids i d == x && test x)) ≡ (is_among (take i ids) x && test x)
         stays x = by (get_or ids i d == x) refl
@@ -240,21 +240,21 @@ module _ (channels : ℕ) (test : ℕ → Bool) where
     more-passed t u so_far fail = (passed-list fail t.comps u.comps so_far.0, (passed-list fail t.buffers u.buffers so_far.1.0, (passed-list fail t.pipes u.pipes so_far.1.1.0, so_far.1.1.1)))
 
   -- all that are listed
-  listed-begun : (ids : List ℕ) (cs ds : List Component) → ((c : Component) → IsIn c cs → is_among ids c.id ≡ true) → AreBegun ids cs ds → BecomeEach (λ c d. IsBegun channels (test c.id) c d) cs ds
-  listed-begun ids cs ds listed each = become-other (λ c d. IsBegun channels (is_among ids c.id && test c.id) c d) (λ c d. IsBegun channels (test c.id) c d) cs ds (λ c d there first. subst (λ h. IsBegun channels (h && test c.id) c d) (listed c there) first) each
+  listed-begun : (ids : List ℕ) (cs ds : List Component) → ((c : Component) → IsIn c cs → is_among ids c.id ≡ true) → AreBegun ids cs ds → BecomeEach (λ c d. IsBegun channels rate (test c.id) c d) cs ds
+  listed-begun ids cs ds listed each = become-other (λ c d. IsBegun channels rate (is_among ids c.id && test c.id) c d) (λ c d. IsBegun channels rate (test c.id) c d) cs ds (λ c d there first. subst (λ h. IsBegun channels rate (h && test c.id) c d) (listed c there) first) each
 
   module _ (t u : Tables) (kept : IsKept t) (ids : List ℕ) (are : ids ≡ ids_of t) (all : FirstBegun ids t u) where
     at-listed : (x : ℕ) → is_among ids x ≡ (has_id t.comps x || has_id t.buffers x)
     at-listed x = ap (λ (xs : List ℕ). is_among xs x) are ∙ listed-is t x
 
-    pub comps-begun : BecomeEach (λ c d. IsBegun channels (test c.id) c d) t.comps u.comps
+    pub comps-begun : BecomeEach (λ c d. IsBegun channels rate (test c.id) c d) t.comps u.comps
     comps-begun = listed-begun ids t.comps u.comps (λ c there. at-listed c.id ∙ or_left (has_id t.comps c.id) _ (in-any (λ d. d.id == c.id) t.comps c there (eq-eqb c.id c.id refl))) all.0
 
-    pub buffers-begun : BecomeEach (λ c d. IsBegun channels (test c.id) c d) t.buffers u.buffers
+    pub buffers-begun : BecomeEach (λ c d. IsBegun channels rate (test c.id) c d) t.buffers u.buffers
     buffers-begun = listed-begun ids t.buffers u.buffers (λ c there. at-listed c.id ∙ or_right (has_id t.comps c.id) _ (in-any (λ d. d.id == c.id) t.buffers c there (eq-eqb c.id c.id refl))) all.1.0
 
     pub pipes-stay : u.pipes ≡ t.pipes
-    pipes-stay = become-is (λ c d. IsBegun channels (is_among ids c.id && test c.id) c d) (λ c. c) t.pipes u.pipes (λ c d there first. subst (λ h. IsBegun channels (h && test c.id) c d) (unlisted c there) first) all.1.1.0 ∙ map-id t.pipes
+    pipes-stay = become-is (λ c d. IsBegun channels rate (is_among ids c.id && test c.id) c d) (λ c. c) t.pipes u.pipes (λ c d there first. subst (λ h. IsBegun channels rate (h && test c.id) c d) (unlisted c there) first) all.1.1.0 ∙ map-id t.pipes
       where
         unlisted : (c : Component) → IsIn c t.pipes → is_among ids c.id ≡ false
         unlisted c there = at-listed c.id ∙ ap (λ (p : Bool × Bool). p.0 || p.1) (λ i. (in-all (λ (d : Component). has_id t.comps d.id ≡ false) t.pipes c kept.named.comps_pipes there i, in-all (λ (d : Component). has_id t.buffers d.id ≡ false) t.pipes c kept.named.buffers_pipes there i))
@@ -268,7 +268,7 @@ module _ (channels : ℕ) (test : ℕ → Bool) where
   ids-begun ids [] [] each x = refl
   ids-begun ids [] (d ∷ ds) each x = absurd each
   ids-begun ids (c ∷ cs) [] each x = absurd each
-  ids-begun ids (c ∷ cs) (d ∷ ds) each x = ap (λ (p : Bool × Bool). p.0 || p.1) (λ i. (ap (λ n. n == x) (begun-id channels _ c d each.0) i, ids-begun ids cs ds each.1 x i))
+  ids-begun ids (c ∷ cs) (d ∷ ds) each x = ap (λ (p : Bool × Bool). p.0 || p.1) (λ i. (ap (λ n. n == x) (begun-id channels rate _ c d each.0) i, ids-begun ids cs ds each.1 x i))
 
   pub begun-there : (ids : List ℕ) (t u : Tables) → FirstBegun ids t u → (x : ℕ) → is_there u x ≡ is_there t x
   begun-there ids t u all x =

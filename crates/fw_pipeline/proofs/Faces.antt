@@ -15,7 +15,7 @@ use Rattle.fw_components.specs.Tables.{Tables, all_of}
 use Rattle.fw_units.specs.Changes.{IsOfHome, set_at, set_unit, ended_unit}
 use Rattle.fw_heap.specs.declared.run.Home.{Home}
 use Rattle.std.specs.List.{AllByRecursion}
-use Rattle.fw_units.specs.Frames.{begun_unit, words_of, staged_by}
+use Rattle.fw_units.specs.Frames.{begun_unit, kept_words, staged_by}
 use Rattle.fw_pipeline.specs.Triggers.{IsBegun, BecomeEach}
 
 -- what is staged of an equaliser, the number of the part that is next, and how many bytes remain
@@ -103,17 +103,17 @@ faces-all t u comps buffers pipes =
 
 -- ---- what leaves them
 
-pub face-begun : (channels : ℕ) (h : Bool) (c d : Component) → IsBegun channels h c d → face d ≡ face c
-face-begun channels false c d is = ap face is
-face-begun channels true c d is = ap face is.0 ∙ by c.unit (sym (ap (λ (x : Component). staged_by x.unit) is.0) ∙ is.1.1)
+pub face-begun : (channels rate : ℕ) (h : Bool) (c d : Component) → IsBegun channels rate h c d → face d ≡ face c
+face-begun channels rate false c d is = ap face is
+face-begun channels rate true c d is = ap face is.0 ∙ by c.unit (sym (ap (λ (x : Component). staged_by x.unit) is.0) ∙ is.1.1)
   where
     words : List ℤ
-    words = words_of d
+    words = kept_words d
 
     at : ℕ → units.Unit → Component
     at n u = record { id = c.id; pipe = c.pipe; channels = n; unit = u }
 
-    by : (u : units.Unit) → staged_by (begun_unit channels words u) ≡ staged_by u → face (at channels (begun_unit channels words u)) ≡ face (at c.channels u)
+    by : (u : units.Unit) → staged_by (begun_unit channels rate words u) ≡ staged_by u → face (at channels (begun_unit channels rate words u)) ≡ face (at c.channels u)
     by (Eq eq next remaining) same = ap (λ (bytes : List ℕ). let f : Face = record { comp = comp_by (at c.channels (Eq eq next remaining)); edge = edge_by (at c.channels (Eq eq next remaining)); piece = piece_by (at c.channels (Eq eq next remaining)); home = eq.piece.home; staged = Some (bytes, (next, remaining)) } in f) same
     by u same = refl
 
@@ -139,16 +139,16 @@ module _ (host : ℕ) (phase : Phase) (params : Option Params) where
 
 -- ---- streams
 
-stream-begun : (channels : ℕ) (h : Bool) (c d : Component) → IsBegun channels h c d → (ss : List StreamView) → with_stream_by d.id d.unit ss ≡ with_stream_by c.id c.unit ss
-stream-begun channels false c d is ss = ap (λ (x : Component). with_stream_by x.id x.unit ss) is
-stream-begun channels true c d is ss = ap (λ (x : Component). with_stream_by x.id x.unit ss) is.0 ∙ by c.unit
+stream-begun : (channels rate : ℕ) (h : Bool) (c d : Component) → IsBegun channels rate h c d → (ss : List StreamView) → with_stream_by d.id d.unit ss ≡ with_stream_by c.id c.unit ss
+stream-begun channels rate false c d is ss = ap (λ (x : Component). with_stream_by x.id x.unit ss) is
+stream-begun channels rate true c d is ss = ap (λ (x : Component). with_stream_by x.id x.unit ss) is.0 ∙ by c.unit
   where
-    by : (u : units.Unit) → with_stream_by c.id (begun_unit channels (words_of d) u) ss ≡ with_stream_by c.id u ss
+    by : (u : units.Unit) → with_stream_by c.id (begun_unit channels rate (kept_words d) u) ss ≡ with_stream_by c.id u ss
     by (Buffer size ring source sink) = refl
     by u = refl
 
-pub streams-begun : (channels : ℕ) (test : Component → Bool) (cs ds : List Component) → BecomeEach (λ c d. IsBegun channels (test c) c d) cs ds → streams_by ds ≡ streams_by cs
-streams-begun channels test [] [] each = refl
-streams-begun channels test [] (d ∷ ds) each = absurd each
-streams-begun channels test (c ∷ cs) [] each = absurd each
-streams-begun channels test (c ∷ cs) (d ∷ ds) each = stream-begun channels (test c) c d each.0 (streams_by ds) ∙ ap (with_stream_by c.id c.unit) (streams-begun channels test cs ds each.1)
+pub streams-begun : (channels rate : ℕ) (test : Component → Bool) (cs ds : List Component) → BecomeEach (λ c d. IsBegun channels rate (test c) c d) cs ds → streams_by ds ≡ streams_by cs
+streams-begun channels rate test [] [] each = refl
+streams-begun channels rate test [] (d ∷ ds) each = absurd each
+streams-begun channels rate test (c ∷ cs) [] each = absurd each
+streams-begun channels rate test (c ∷ cs) (d ∷ ds) each = stream-begun channels rate (test c) c d each.0 (streams_by ds) ∙ ap (with_stream_by c.id c.unit) (streams-begun channels rate test cs ds each.1)

@@ -22,7 +22,7 @@ use Rattle.fw_components.specs.Kept.{IsKept}
 use Rattle.fw_units.specs.Changes.{has_id}
 use Rattle.fw_components.proofs.Listed.{listed-is}
 use Rattle.fw_walks.proofs.Naming.{comp-named, edge-named}
-use Rattle.fw_walks.specs.Streams.{is_of, any_stream, is_host_of}
+use Rattle.fw_walks.specs.Streams.{is_sort, any_stream, is_host_of}
 use Rattle.fw_pipeline.specs.Rows.{is_growing}
 use Rattle.fw_walks.specs.declared.streams.Sort.TheVariants as sorts
 use Rattle.fw_places.specs.Walks.{leads_by, is_marked}
@@ -187,7 +187,7 @@ any-marked p q ids marks cs listed same = any-each (λ c. p c && is_marked ids m
 
 -- ---- by one walk from all hosts of playbacks
 
-plays-are : (unit : units.Unit) → (any_stream (is_of sorts.All) 0 unit && not (is_capture (kind_by unit))) ≡ is_play (kind_by unit)
+plays-are : (unit : units.Unit) → (any_stream (is_sort sorts.All) 0 unit && not (is_capture (kind_by unit))) ≡ is_play (kind_by unit)
 plays-are (Buffer size ring source sink) = refl
 plays-are (Host true phase params piece) = refl
 plays-are (Host false phase params piece) = refl
@@ -240,9 +240,9 @@ module _ (t : Tables) (kept : IsKept t) (j : Join) (ends : (is_among (ids_of t) 
       (b : (x : ℕ) → is_among ids x ≡ true → is_marked ids to_sink x ≡ leads_by true t.joins j.sink x)
       (c : (x : ℕ) → is_among ids x ≡ true → is_marked ids from_source x ≡ leads_by false t.joins j.source x)
       (d : (x : ℕ) → is_among ids x ≡ true → is_marked ids from_sink x ≡ leads_by false t.joins j.sink x) where
-    grown : (x : Component) → IsIn x t.comps → is_growing ids to_source to_sink from_source from_sink x ≡ any_stream (λ s. is_of sorts.Set s && has_grown g (with_join g j) s.host) x.id x.unit
+    grown : (x : Component) → IsIn x t.comps → is_growing ids to_source to_sink from_source from_sink x ≡ any_stream (λ s. is_sort sorts.Set s && has_grown g (with_join g j) s.host) x.id x.unit
     grown x there =
-        ap (λ h. any_stream (is_of sorts.Set) 0 x.unit && h) (by (is_capture (kind_by x.unit)) ∙ sym (host-grows x there))
+        ap (λ h. any_stream (is_sort sorts.Set) 0 x.unit && h) (by (is_capture (kind_by x.unit)) ∙ sym (host-grows x there))
         ∙ sym (stream-of sorts.Set (has_grown g (with_join g j)) x.id x.unit)
       where
         listed : is_among ids x.id ≡ true
@@ -254,7 +254,7 @@ module _ (t : Tables) (kept : IsKept t) (j : Join) (ends : (is_among (ids_of t) 
 
     pub grow-marked : list_any (is_growing ids to_source to_sink from_source from_sink) t.comps ≡ would_grow g (streams_of t) j.source j.sink
     unfolding would_grow
-    grow-marked = any-each (is_growing ids to_source to_sink from_source from_sink) (λ x. any_stream (λ s. is_of sorts.Set s && has_grown g (with_join g j) s.host) x.id x.unit) t.comps grown ∙ sym (any-streams (λ s. is_of sorts.Set s && has_grown g (with_join g j) s.host) t.comps)
+    grow-marked = any-each (is_growing ids to_source to_sink from_source from_sink) (λ x. any_stream (λ s. is_sort sorts.Set s && has_grown g (with_join g j) s.host) x.id x.unit) t.comps grown ∙ sym (any-streams (λ s. is_sort sorts.Set s && has_grown g (with_join g j) s.host) t.comps)
 
   -- a crossing, by the tables
   pub reach-tables : would_reach g j.source j.sink ≡ (list_any (λ a. is_play (kind_by a.unit) && list_any (λ b. is_capture (kind_by b.unit) && leads_by false t.joins a.id b.id) t.comps) t.comps || (list_any (λ a. is_play (kind_by a.unit) && leads_by true t.joins j.source a.id) t.comps && list_any (λ b. is_capture (kind_by b.unit) && leads_by false t.joins j.sink b.id) t.comps))

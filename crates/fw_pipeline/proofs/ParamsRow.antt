@@ -18,7 +18,7 @@ use Rattle.fw_units.specs.declared.component.Unit as units
 use Rattle.fw_units.specs.declared.component.Unit.TheVariants.{Host, Dai}
 use Rattle.fw_units.specs.Units.{streams_by, with_stream_by, kind_by, comp_by, is_host_unit}
 use Rattle.fw_walks.specs.declared.streams.Sort.TheVariants as sorts
-use Rattle.fw_walks.specs.Streams.{is_of, any_stream}
+use Rattle.fw_walks.specs.Streams.{is_sort, any_stream}
 use Rattle.fw_pipeline.specs.Preparing.{is_moving_at}
 use Rattle.fw_walks.proofs.Naming.{find-map}
 
@@ -39,9 +39,9 @@ unfolding AreAbove
 still-above [] n host le up = refl
 still-above (c ∷ cs) n host le up =
     let other : (c.id == host) ≡ false = false_from_ne_true _ (λ e. let same = eqb-true c.id host e in absurd (omega (arith, same, le, up.0))) in
-    ap (λ h. (h && any_stream (is_of sorts.Live) 0 c.unit) || is_moving_at cs host) other ∙ still-above cs n host le up.1
+    ap (λ h. (h && any_stream (is_sort sorts.Live) 0 c.unit) || is_moving_at cs host) other ∙ still-above cs n host le up.1
 
-moved : (id host : ℕ) (unit : units.Unit) (h : Bool) → (id == host) ≡ h → (rest : Bool) → (h ≡ true → rest ≡ false) → (ss : List StreamView) → rest ≡ is_stream_phase is_live_phase (option_map (λ (s : StreamView). s.phase) (find (λ s. s.host == host) ss)) → ((h && any_stream (is_of sorts.Live) 0 unit) || rest) ≡ is_stream_phase is_live_phase (option_map (λ (s : StreamView). s.phase) (find (λ s. s.host == host) (with_stream_by id unit ss)))
+moved : (id host : ℕ) (unit : units.Unit) (h : Bool) → (id == host) ≡ h → (rest : Bool) → (h ≡ true → rest ≡ false) → (ss : List StreamView) → rest ≡ is_stream_phase is_live_phase (option_map (λ (s : StreamView). s.phase) (find (λ s. s.host == host) ss)) → ((h && any_stream (is_sort sorts.Live) 0 unit) || rest) ≡ is_stream_phase is_live_phase (option_map (λ (s : StreamView). s.phase) (find (λ s. s.host == host) (with_stream_by id unit ss)))
 moved id host (Host capture phase params piece) true is rest none ss so = ap (λ h. is_live_phase phase || h) (none refl) ∙ last (is_live_phase phase) ∙ sym (ap (λ h. is_stream_phase is_live_phase (option_map (λ (s : StreamView). s.phase) (cond h (Some (record { host = id; phase = phase; params = params })) (find (λ s. s.host == host) ss)))) is)
   where
     last : (h : Bool) → (h || false) ≡ h

@@ -9,8 +9,8 @@ use Rattle.stream_law.specs.declared.graph.Graph.{Graph}
 use Rattle.stream_law.specs.declared.stream.Phase.TheVariants.{Prepared}
 use Rattle.stream_law.specs.declared.stream.StreamView.{StreamView}
 use Rattle.stream_law.specs.State.{FwState, View, RingView}
-use Rattle.stream_law.specs.Ways.{live, live_end, on_way, is_live_phase, comp_of, source_of, sink_of, channels_of}
-use Rattle.stream_law.specs.Seen.{flows, ring_seen, is_equaliser, equalises, goes_on, blob_in, fresh_numbers, numbers_in, seen}
+use Rattle.stream_law.specs.Ways.{live, live_end, on_way, is_live_phase, comp_of, source_of, sink_of}
+use Rattle.stream_law.specs.Seen.{flows, ring_seen, keeps_numbers, remembers, numbers_in, marked, numbers_seen, seen}
 use Rattle.stream_law.proofs.Members.{IsIn, in-any}
 use Rattle.mbox_link.specs.Step.{set_stream}
 use Rattle.fw_units.specs.declared.component.Component.{Component}
@@ -21,7 +21,7 @@ use Rattle.fw_components.specs.Tables.{Tables, view_by, graph_of, streams_of, al
 use Rattle.fw_units.specs.Changes.{set_at}
 use Rattle.fw_components.specs.Kept.{IsKept}
 use Rattle.fw_walks.specs.declared.streams.Sort.TheVariants as sorts
-use Rattle.fw_walks.specs.Streams.{is_of, any_stream}
+use Rattle.fw_walks.specs.Streams.{is_sort, any_stream}
 use Rattle.fw_places.proofs.Ways.{any-each}
 use Rattle.fw_walks.proofs.OnWays.{any-map, any-streams}
 use Rattle.fw_pipeline.specs.Preparing.{is_moving_at}
@@ -56,14 +56,14 @@ module _ (host : ℕ) (p : Params) (t u : Tables) (kept : IsKept t) (set : u ≡
   to = set_stream host Prepared (Some p)
 
   -- the stream of this host is not Live
-  unit-rests : (id : ℕ) (unit : units.Unit) → any_stream (λ s. s.host == host && is_live_phase s.phase) id unit ≡ (id == host && any_stream (is_of sorts.Live) 0 unit)
+  unit-rests : (id : ℕ) (unit : units.Unit) → any_stream (λ s. s.host == host && is_live_phase s.phase) id unit ≡ (id == host && any_stream (is_sort sorts.Live) 0 unit)
   unit-rests id (Host capture phase params piece) = refl
   unit-rests id u = none (id == host)
 
   stream-rests : list_any (λ s. s.host == host && is_live_phase s.phase) (streams_of t) ≡ false
   stream-rests =
       any-streams (λ s. s.host == host && is_live_phase s.phase) t.comps
-      ∙ any-each (λ c. any_stream (λ s. s.host == host && is_live_phase s.phase) c.id c.unit) (λ c. c.id == host && any_stream (is_of sorts.Live) 0 c.unit) t.comps (λ c there. unit-rests c.id c.unit)
+      ∙ any-each (λ c. any_stream (λ s. s.host == host && is_live_phase s.phase) c.id c.unit) (λ c. c.id == host && any_stream (is_sort sorts.Live) 0 c.unit) t.comps (λ c there. unit-rests c.id c.unit)
       ∙ rests
 
   -- what is Live stays so
@@ -107,20 +107,20 @@ module _ (host : ℕ) (p : Params) (t u : Tables) (kept : IsKept t) (set : u ≡
   buffers-are : u.buffers ≡ t.buffers
   buffers-are = ap (λ (u : Tables). u.buffers) set
 
-  numbers-left : (f : FwState) (d : Component) → IsIn d u.comps → equalises w d.id ≡ true → numbers_by d.unit d.channels ≡ cond (goes_on v w None d.id) (numbers_in (with_tables t f) d.id) (fresh_numbers (blob_in w d.id) (channels_of w d.id))
+  numbers-left : (f : FwState) (d : Component) → IsIn d u.comps → remembers w d.id ≡ true → numbers_by d.unit d.channels ≡ numbers_seen (with_tables t f) w None d.id
   numbers-left f d there e =
       let from = in-map (set_at host Prepared (Some p)) t.comps d (subst (IsIn d) comps-are there) in
       let c : Component = from.0 in
       let id : d.id ≡ c.id = ap (λ (x : Component). x.id) from.1.1 ∙ set-id host Prepared (Some p) c in
-      let both = and_parts (live w d.id) (option_map_or (λ x. is_equaliser x.kind) (comp_of w.graph d.id) false) e in
+      let both = and_parts (live w d.id) (option_map_or (λ x. keeps_numbers x.kind) (comp_of w.graph d.id) false) e in
       let at : comp_of w.graph d.id ≡ comp_of v.graph c.id = ap (λ (q : Graph × ℕ). comp_of q.0 q.1) (λ i. (graph-same i, id i)) in
       let was : live v d.id ≡ true = sym (live-same d.id) ∙ both.0 in
-      let first : equalises v c.id ≡ true = ap (λ (q : Bool × Bool). q.0 && q.1) (λ i. ((ap (live v) (sym id) ∙ was) i, (ap (λ (o : Option Comp). option_map_or (λ x. is_equaliser x.kind) o false) (sym at) ∙ both.1) i)) in
+      let first : remembers v c.id ≡ true = ap (λ (q : Bool × Bool). q.0 && q.1) (λ i. ((ap (live v) (sym id) ∙ was) i, (ap (λ (o : Option Comp). option_map_or (λ x. keeps_numbers x.kind) o false) (sym at) ∙ both.1) i)) in
       ap (λ (x : Component). numbers_by x.unit x.channels) from.1.1
       ∙ set-numbers host Prepared (Some p) c
       ∙ sym (history-own t kept c from.1.0 f first)
       ∙ ap (numbers_in (with_tables t f)) (sym id)
-      ∙ sym (ap (λ (q : Bool × Bool). cond ((q.0 && q.1) && true) (numbers_in (with_tables t f) d.id) (fresh_numbers (blob_in w d.id) (channels_of w d.id))) (λ i. (was i, both.0 i)))
+      ∙ sym (ap (λ (q : Bool × Bool). cond ((q.0 && q.1) && true) (numbers_in (with_tables t f) d.id) (marked v w d.id (numbers_in (with_tables t f) d.id))) (λ i. (was i, both.0 i)))
 
   pub state-prepared : (f : FwState) → map (ring_seen v) (rings_of t) ≡ rings_of t → with_tables u f ≡ seen w None (with_tables t f)
   state-prepared f settled = λ i. record {
@@ -129,6 +129,6 @@ module _ (host : ℕ) (p : Params) (t u : Tables) (kept : IsKept t) (set : u ≡
     graph = graph_of u;
     streams = streams_of u;
     rings = (ap (λ (u : Tables). rings_of u) set ∙ sym settled ∙ sym (rings-alike v w flows-same (rings_of t))) i;
-    histories = histories-each (equalises w) (λ x. cond (goes_on v w None x) (numbers_in (with_tables t f) x) (fresh_numbers (blob_in w x) (channels_of w x))) u.comps (numbers-left f) i;
+    histories = histories-each (remembers w) (numbers_seen (with_tables t f) w None) u.comps (numbers-left f) i;
     staging = staging-same t.comps u.comps comps-face i;
   }

@@ -40,8 +40,8 @@ module _ (what : Trigger) (host : ℕ) (p : Params) (t t1 t2 t3 : Tables) (kept 
     (set : t1 ≡ set_tables host (phase_after what) (params_after what (Some p)) t)
     (streams : streams_by (map (set_at host (phase_after what) (params_after what (Some p))) t.comps) ≡ map (set_stream host (phase_after what) (params_after what (Some p))) (streams_by t.comps))
     (ids : List ℕ) (before after : List Bool) (was : (x : ℕ) → is_marked ids before x ≡ live (view_by t) x) (now : (x : ℕ) → is_marked ids after x ≡ live (view_by t1) x)
-    (comps : BecomeEach (λ c d. IsBegun p.channels (begins_by ids before after c.id) c d) t1.comps t2.comps)
-    (buffers : BecomeEach (λ c d. IsBegun p.channels (begins_by ids before after c.id) c d) t1.buffers t2.buffers)
+    (comps : BecomeEach (λ c d. IsBegun p.channels p.rate (begins_by ids before after c.id) c d) t1.comps t2.comps)
+    (buffers : BecomeEach (λ c d. IsBegun p.channels p.rate (begins_by ids before after c.id) c d) t1.buffers t2.buffers)
     (pipes : t2.pipes ≡ t1.pipes) (joins : t2.joins ≡ t1.joins)
     (ended : t3 ≡ record { comps = t2.comps; buffers = map (settled_in (view_by t2)) t2.buffers; pipes = t2.pipes; joins = t2.joins }) where
   tests : (x : ℕ) → begins_by ids before after x ≡ begins (view_by t) (view_by t1) x

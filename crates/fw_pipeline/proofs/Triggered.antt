@@ -11,7 +11,7 @@ use Rattle.stream_law.specs.declared.graph.Graph.{Graph}
 use Rattle.stream_law.specs.declared.stream.StreamView.{StreamView}
 use Rattle.stream_law.specs.State.{View}
 use Rattle.stream_law.specs.Seen.{flows}
-use Rattle.stream_law.specs.Ways.{live, on_way, is_live_phase, channels_of, components, buffers}
+use Rattle.stream_law.specs.Ways.{live, live_params, on_way, is_live_phase, rate_of, channels_of, components, buffers}
 use Rattle.stream_law.proofs.Members.{IsIn, in-all, in-any}
 use Rattle.mbox_link.specs.Step.{set_stream}
 use Rattle.fw_units.specs.declared.component.Component.{Component}
@@ -21,7 +21,7 @@ use Rattle.fw_units.specs.Units.{streams_by, comp_by, edge_by, pipe_by, is_buffe
 use Rattle.fw_components.specs.Tables.{Tables, view_by, graph_of, streams_of}
 use Rattle.fw_units.specs.Changes.{set_at, ended_unit}
 use Rattle.fw_components.specs.Kept.{IsKept, IsBuffering}
-use Rattle.fw_units.specs.Frames.{begun_by, words_of}
+use Rattle.fw_units.specs.Frames.{begun_by, kept_words}
 use Rattle.fw_components.specs.Tables.{ids_of}
 use Rattle.fw_pipeline.specs.declared.phases.Trigger.{Trigger}
 use Rattle.fw_pipeline.specs.declared.phases.Trigger.TheVariants.{Start, Stop, Pause, Release, Free}
@@ -65,19 +65,23 @@ module _ (what : Trigger) (host : ℕ) (p : Params) (g : Graph) (ss : List Strea
   new = record { graph = g; streams = map set ss }
 
   -- what becomes Live is on the way of this host's stream alone
-  pub begins-with : (x : ℕ) → begins old new x ≡ true → channels_of new x ≡ p.channels
-  unfolding live channels_of
+  pub begins-with : (x : ℕ) → begins old new x ≡ true → (channels_of new x ≡ p.channels) × (rate_of new x ≡ p.rate)
+  unfolding live rate_of channels_of
   begins-with x e =
       let both = and_parts (live new x) (not (live old x)) e in
       let r = found-there (λ s. is_live_phase s.phase && on_way g s.host x) (map set ss) both.0 in
       let s = in-map set ss r.0 r.1.1.0 in
-      ap (λ (o : Option StreamView). option_map_or (λ (p : Params). p.channels) (option_and_then (λ (s : StreamView). s.params) o) 0) r.1.0
-      ∙ by s.0 s.1.0 r.0 s.1.1 (and_parts (is_live_phase r.0.phase) (on_way g r.0.host x) r.1.1.1) both.1 (s.0.host == host) refl
+      let given : live_params new x ≡ Some p =
+      ap (λ (o : Option StreamView). option_and_then (λ (s : StreamView). s.params) o) r.1.0
+      ∙ by s.0 s.1.0 r.0 s.1.1 (and_parts (is_live_phase r.0.phase) (on_way g r.0.host x) r.1.1.1) both.1 (s.0.host == host) refl in (
+        ap (λ (o : Option Params). option_map_or (λ (p : Params). p.channels) o 0) given,
+        ap (λ (o : Option Params). option_map_or (λ (p : Params). p.rate) o 0) given,
+      )
     where
-      by : (s : StreamView) → IsIn s ss → (r : StreamView) → r ≡ set s → (is_live_phase r.phase ≡ true) × (on_way g r.host x ≡ true) → not (live old x) ≡ true → (h : Bool) → (s.host == host) ≡ h → option_map_or (λ (p : Params). p.channels) r.params 0 ≡ p.channels
+      by : (s : StreamView) → IsIn s ss → (r : StreamView) → r ≡ set s → (is_live_phase r.phase ≡ true) × (on_way g r.host x ≡ true) → not (live old x) ≡ true → (h : Bool) → (s.host == host) ≡ h → r.params ≡ Some p
       by s there r is passes gone true same =
           let now : r ≡ record { host = s.host; phase = phase_after what; params = params_after what (Some p) } = is ∙ ap (λ h. let q : StreamView = cond h (record { host = s.host; phase = phase_after what; params = params_after what (Some p) }) s in q) same in
-          ap (λ (o : Option Params). option_map_or (λ (p : Params). p.channels) o 0) (ap (λ (q : StreamView). q.params) now ∙ live-params what p (sym (ap (λ (q : StreamView). is_live_phase q.phase) now) ∙ passes.0))
+          ap (λ (q : StreamView). q.params) now ∙ live-params what p (sym (ap (λ (q : StreamView). is_live_phase q.phase) now) ∙ passes.0)
       by s there r is passes gone false other =
           let now : r ≡ s = is ∙ ap (λ h. let q : StreamView = cond h (record { host = s.host; phase = phase_after what; params = params_after what (Some p) }) s in q) other in
           let was : live old x ≡ true = in-any (λ s. is_live_phase s.phase && on_way g s.host x) ss s there (and_from (is_live_phase s.phase) (on_way g s.host x) (sym (ap (λ (q : StreamView). is_live_phase q.phase) now) ∙ passes.0) (sym (ap (λ (q : StreamView). on_way g q.host x) now) ∙ passes.1)) in
@@ -85,10 +89,10 @@ module _ (what : Trigger) (host : ℕ) (p : Params) (g : Graph) (ss : List Strea
 
 -- ---- a buffer that begins
 
-begun-buffer : (channels : ℕ) (words : List ℤ) (c : Component) → is_buffer c.unit ≡ true → begun_by channels words c ≡ begun_by channels [] c
-begun-buffer channels words c buffer = by c.unit buffer
+begun-buffer : (channels rate : ℕ) (words : List ℤ) (c : Component) → is_buffer c.unit ≡ true → begun_by channels rate words c ≡ begun_by channels rate [] c
+begun-buffer channels rate words c buffer = by c.unit buffer
   where
-    by : (u : units.Unit) → is_buffer u ≡ true → begun_by channels words (record { id = c.id; pipe = c.pipe; channels = c.channels; unit = u }) ≡ begun_by channels [] (record { id = c.id; pipe = c.pipe; channels = c.channels; unit = u })
+    by : (u : units.Unit) → is_buffer u ≡ true → begun_by channels rate words (record { id = c.id; pipe = c.pipe; channels = c.channels; unit = u }) ≡ begun_by channels rate [] (record { id = c.id; pipe = c.pipe; channels = c.channels; unit = u })
     by (Buffer size ring source sink) e = refl
     by u e = absurd (false≢true e)
 
@@ -109,18 +113,18 @@ face-settled v c = by (flows v c.id)
 
 -- ---- all of it
 
-module _ (channels : ℕ) (test : Component → Bool) (t u : Tables) (comps : BecomeEach (λ c d. IsBegun channels (test c) c d) t.comps u.comps) (buffers : BecomeEach (λ c d. IsBegun channels (test c) c d) t.buffers u.buffers) (pipes : u.pipes ≡ t.pipes) (joins : u.joins ≡ t.joins) where
+module _ (channels rate : ℕ) (test : Component → Bool) (t u : Tables) (comps : BecomeEach (λ c d. IsBegun channels rate (test c) c d) t.comps u.comps) (buffers : BecomeEach (λ c d. IsBegun channels rate (test c) c d) t.buffers u.buffers) (pipes : u.pipes ≡ t.pipes) (joins : u.joins ≡ t.joins) where
   abbrev Begins : Component → Component → Type 0
-  Begins c d = IsBegun channels (test c) c d
+  Begins c d = IsBegun channels rate (test c) c d
 
   -- what begins is seen as it was
   pub seen-begun : view_by u ≡ view_by t
   seen-begun = ap (λ (q : (List Comp × List Edge) × (Tables × List StreamView)). let v : View = record { graph = record { comps = q.0.0; edges = q.0.1; pipes = map pipe_by q.1.0.pipes; joins = q.1.0.joins }; streams = q.1.1 } in v) (λ i. (
     (
-      comps-same t.comps u.comps (become-read Begins face t.comps u.comps (λ c d. face-begun channels (test c) c d) comps) i,
-      edges-same t.buffers u.buffers (become-read Begins face t.buffers u.buffers (λ c d. face-begun channels (test c) c d) buffers) i,
+      comps-same t.comps u.comps (become-read Begins face t.comps u.comps (λ c d. face-begun channels rate (test c) c d) comps) i,
+      edges-same t.buffers u.buffers (become-read Begins face t.buffers u.buffers (λ c d. face-begun channels rate (test c) c d) buffers) i,
     ),
-    (record { comps = t.comps; buffers = t.buffers; pipes = pipes i; joins = joins i }, streams-begun channels test t.comps u.comps comps i),
+    (record { comps = t.comps; buffers = t.buffers; pipes = pipes i; joins = joins i }, streams-begun channels rate test t.comps u.comps comps i),
   ))
 
 module _ (what : Trigger) (host : ℕ) (p : Params) (t t1 : Tables) (set : t1 ≡ record { comps = map (set_at host (phase_after what) (params_after what (Some p))) t.comps; buffers = t.buffers; pipes = t.pipes; joins = t.joins })
@@ -140,15 +144,15 @@ module _ (what : Trigger) (host : ℕ) (p : Params) (t t1 t2 t3 : Tables) (kept 
     (set : t1 ≡ record { comps = map (set_at host (phase_after what) (params_after what (Some p))) t.comps; buffers = t.buffers; pipes = t.pipes; joins = t.joins })
     (seen : view_by t1 ≡ new what host p (graph_of t) (streams_of t))
     (test : ℕ → Bool) (tests : (x : ℕ) → test x ≡ begins (view_by t) (view_by t1) x)
-    (comps : BecomeEach (λ c d. IsBegun p.channels (test c.id) c d) t1.comps t2.comps)
-    (buffers : BecomeEach (λ c d. IsBegun p.channels (test c.id) c d) t1.buffers t2.buffers)
+    (comps : BecomeEach (λ c d. IsBegun p.channels p.rate (test c.id) c d) t1.comps t2.comps)
+    (buffers : BecomeEach (λ c d. IsBegun p.channels p.rate (test c.id) c d) t1.buffers t2.buffers)
     (pipes : t2.pipes ≡ t1.pipes) (joins : t2.joins ≡ t1.joins)
     (ended : t3 ≡ record { comps = t2.comps; buffers = map (settled_in (view_by t2)) t2.buffers; pipes = t2.pipes; joins = t2.joins }) where
   abbrev IsFace : (ℕ → Bool) → Component → Component → Type 0
-  IsFace test c d = IsBegun p.channels (test c.id) c d
+  IsFace test c d = IsBegun p.channels p.rate (test c.id) c d
 
   seen-begun2 : view_by t2 ≡ view_by t1
-  seen-begun2 = seen-begun p.channels (λ c. test c.id) t1 t2 comps buffers pipes joins
+  seen-begun2 = seen-begun p.channels p.rate (λ c. test c.id) t1 t2 comps buffers pipes joins
 
   -- and so is what ends
   pub seen-ended : view_by t3 ≡ view_by t2
@@ -158,34 +162,37 @@ module _ (what : Trigger) (host : ℕ) (p : Params) (t t1 t2 t3 : Tables) (kept 
   pub seen-last : view_by t3 ≡ new what host p (graph_of t) (streams_of t)
   seen-last = seen-ended ∙ seen-begun2 ∙ seen
 
-  -- what begins has the channels of its stream
+  -- what begins has the channels and the rate of its stream
   begins-right : (x : ℕ) → test x ≡ begins (view_by t) (view_by t3) x
   begins-right x = tests x ∙ ap (λ (w : View). begins (view_by t) w x) (sym (seen-ended ∙ seen-begun2))
 
   channels-right : (x : ℕ) → begins (view_by t) (view_by t3) x ≡ true → p.channels ≡ channels_of (view_by t3) x
-  channels-right x e = sym (ap (λ (w : View). channels_of w x) seen-last ∙ begins-with what host p (graph_of t) (streams_of t) x (ap (λ (w : View). begins (view_by t) w x) (sym seen-last) ∙ e))
+  channels-right x e = sym (ap (λ (w : View). channels_of w x) seen-last ∙ (begins-with what host p (graph_of t) (streams_of t) x (ap (λ (w : View). begins (view_by t) w x) (sym seen-last) ∙ e)).0)
 
-  begun-right : (c d : Component) → IsBegun p.channels (test c.id) c d → IsBegun (channels_of (view_by t3) c.id) (begins (view_by t) (view_by t3) c.id) c d
-  begun-right c d is = by (begins (view_by t) (view_by t3) c.id) refl (subst (λ h. IsBegun p.channels h c d) (begins-right c.id) is)
+  rate-right : (x : ℕ) → begins (view_by t) (view_by t3) x ≡ true → p.rate ≡ rate_of (view_by t3) x
+  rate-right x e = sym (ap (λ (w : View). rate_of w x) seen-last ∙ (begins-with what host p (graph_of t) (streams_of t) x (ap (λ (w : View). begins (view_by t) w x) (sym seen-last) ∙ e)).1)
+
+  begun-right : (c d : Component) → IsBegun p.channels p.rate (test c.id) c d → IsBegun (channels_of (view_by t3) c.id) (rate_of (view_by t3) c.id) (begins (view_by t) (view_by t3) c.id) c d
+  begun-right c d is = by (begins (view_by t) (view_by t3) c.id) refl (subst (λ h. IsBegun p.channels p.rate h c d) (begins-right c.id) is)
     where
-      by : (h : Bool) → begins (view_by t) (view_by t3) c.id ≡ h → IsBegun p.channels h c d → IsBegun (channels_of (view_by t3) c.id) h c d
-      by true e is = subst (λ n. IsBegun n true c d) (channels-right c.id e) is
+      by : (h : Bool) → begins (view_by t) (view_by t3) c.id ≡ h → IsBegun p.channels p.rate h c d → IsBegun (channels_of (view_by t3) c.id) (rate_of (view_by t3) c.id) h c d
+      by true e is = subst (λ (q : ℕ × ℕ). IsBegun q.0 q.1 true c d) (λ i. (channels-right c.id e i, rate-right c.id e i)) is
       by false e is = is
 
   begun-buffers : t2.buffers ≡ map (begun_in (view_by t) (view_by t3)) t.buffers
   begun-buffers = become-is (IsFace test) (begun_in (view_by t) (view_by t3)) t.buffers t2.buffers (λ c d there is. by c d (in-all (λ (c : Component). IsBuffering c.unit) t.buffers c kept.buffering there).0 (begins (view_by t) (view_by t3) c.id) (begun-right c d is)) (subst (λ (u : Tables). BecomeEach (IsFace test) u.buffers t2.buffers) set buffers)
     where
-      by : (c d : Component) → is_buffer c.unit ≡ true → (h : Bool) → IsBegun (channels_of (view_by t3) c.id) h c d → d ≡ cond h (begun_by (channels_of (view_by t3) c.id) [] c) c
-      by c d buffer true is = is.0 ∙ begun-buffer (channels_of (view_by t3) c.id) (words_of d) c buffer
+      by : (c d : Component) → is_buffer c.unit ≡ true → (h : Bool) → IsBegun (channels_of (view_by t3) c.id) (rate_of (view_by t3) c.id) h c d → d ≡ cond h (begun_by (channels_of (view_by t3) c.id) (rate_of (view_by t3) c.id) [] c) c
+      by c d buffer true is = is.0 ∙ begun-buffer (channels_of (view_by t3) c.id) (rate_of (view_by t3) c.id) (kept_words d) c buffer
       by c d buffer false is = is
 
   pub is-triggered : IsTriggered what host t t3
   is-triggered = record {
-    comps = subst (λ (q : List Component × List Component). BecomeEach (λ c d. IsBegun (channels_of (view_by t3) c.id) (begins (view_by t) (view_by t3) c.id) c d) q.0 q.1) (λ i. (
+    comps = subst (λ (q : List Component × List Component). BecomeEach (λ c d. IsBegun (channels_of (view_by t3) c.id) (rate_of (view_by t3) c.id) (begins (view_by t) (view_by t3) c.id) c d) q.0 q.1) (λ i. (
       (ap (λ (u : Tables). u.comps) set ∙ ap (λ (o : Option Params). map (set_at host (phase_after what) (params_after what o)) t.comps) given) i,
       sym (ap (λ (u : Tables). u.comps) ended) i,
     ))
-        (become-other (IsFace test) (λ c d. IsBegun (channels_of (view_by t3) c.id) (begins (view_by t) (view_by t3) c.id) c d) t1.comps t2.comps (λ c d there is. begun-right c d is) comps);
+        (become-other (IsFace test) (λ c d. IsBegun (channels_of (view_by t3) c.id) (rate_of (view_by t3) c.id) (begins (view_by t) (view_by t3) c.id) c d) t1.comps t2.comps (λ c d there is. begun-right c d is) comps);
     buffers =
         ap (λ (u : Tables). u.buffers) ended
         ∙ ap (λ (q : View × List Component). map (settled_in q.0) q.1) (λ i. (sym seen-ended i, begun-buffers i))

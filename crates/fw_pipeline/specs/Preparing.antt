@@ -8,12 +8,12 @@ use Rattle.fw_units.specs.declared.component.Unit as units
 use Rattle.fw_units.specs.declared.component.Unit.TheVariants.{Host}
 use Rattle.fw_components.specs.Tables.{Tables, graph_of}
 use Rattle.fw_walks.specs.declared.streams.Sort.TheVariants as sorts
-use Rattle.fw_walks.specs.Streams.{is_of, any_stream}
+use Rattle.fw_walks.specs.Streams.{is_sort, any_stream}
 use Rattle.fw_components.specs.Tables.{ids_of}
 
 -- the stream of a host is Running or Paused
 abbrev pub is_moving_at : List Component → ℕ → Bool
-is_moving_at cs host = list_any (λ c. c.id == host && any_stream (is_of sorts.Live) 0 c.unit) cs
+is_moving_at cs host = list_any (λ c. c.id == host && any_stream (is_sort sorts.Live) 0 c.unit) cs
 
 -- the parameters that a component's stream would have once a host's has these
 abbrev pub shape_in : Bool → Params → units.Unit → Option Params

@@ -13,7 +13,7 @@ use Rattle.mbox_link.specs.Step.{comp_free, buffer_free, pipe_free}
 use Rattle.fw_pipeline.specs.declared.freeing.Item.{Item}
 use Rattle.fw_pipeline.specs.declared.freeing.Item.TheVariants as items
 use Rattle.fw_places.specs.Walks.{is_marked}
-use Rattle.fw_walks.specs.Streams.{is_of, any_stream}
+use Rattle.fw_walks.specs.Streams.{is_sort, any_stream}
 use Rattle.fw_walks.specs.declared.streams.Sort.TheVariants.{Set}
 
 -- a state with this view
@@ -51,7 +51,7 @@ terms_at g id = option_map terms_by (find (λ p. p.id == id) g.pipes)
 -- sink, and a capture's comes from its sink and not from its source
 abbrev pub is_growing : List ℕ → List Bool → List Bool → List Bool → List Bool → parts.Component → Bool
 is_growing ids to_source to_sink from_source from_sink c =
-    any_stream (is_of Set) 0 c.unit && (
+    any_stream (is_sort Set) 0 c.unit && (
     if is_capture (kind_by c.unit) then is_marked ids from_sink c.id && not (is_marked ids from_source c.id)
     else is_marked ids to_source c.id && not (is_marked ids to_sink c.id)
     )

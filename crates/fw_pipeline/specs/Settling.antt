@@ -12,12 +12,12 @@ use Rattle.fw_pipeline.specs.Triggers.{IsBegun, BecomeEach}
 abbrev pub begins_by : List ℕ → List Bool → List Bool → ℕ → Bool
 begins_by ids before after x = is_marked ids after x && not (is_marked ids before x)
 
--- in each table those that pass begin with so many channels
-abbrev pub HaveBegun : ℕ → (ℕ → Bool) → Tables → Tables → Type 0
-HaveBegun channels test t u =
-    BecomeEach (λ c d. IsBegun channels (test c.id) c d) t.comps u.comps
-    × (BecomeEach (λ c d. IsBegun channels (test c.id) c d) t.buffers u.buffers
-    × (BecomeEach (λ c d. IsBegun channels (test c.id) c d) t.pipes u.pipes
+-- in each table those that pass begin with so many channels, at so many frames a second
+abbrev pub HaveBegun : (channels rate : ℕ) → (ℕ → Bool) → Tables → Tables → Type 0
+HaveBegun channels rate test t u =
+    BecomeEach (λ c d. IsBegun channels rate (test c.id) c d) t.comps u.comps
+    × (BecomeEach (λ c d. IsBegun channels rate (test c.id) c d) t.buffers u.buffers
+    × (BecomeEach (λ c d. IsBegun channels rate (test c.id) c d) t.pipes u.pipes
     × (u.joins ≡ t.joins)))
 
 -- an end is there and marked; a buffer is, and so are both its ends

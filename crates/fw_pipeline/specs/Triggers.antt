@@ -4,7 +4,7 @@ use Rattle.sof_base.specs.declared.format.Params.{Params}
 use Rattle.stream_law.specs.declared.stream.Phase.{Phase}
 use Rattle.stream_law.specs.declared.stream.Phase.TheVariants.{Idle, Prepared, Running, Paused}
 use Rattle.stream_law.specs.State.{FwState, View}
-use Rattle.stream_law.specs.Ways.{live, channels_of, is_live_phase, is_running_phase}
+use Rattle.stream_law.specs.Ways.{live, rate_of, channels_of, is_live_phase, is_running_phase}
 use Rattle.stream_law.specs.Seen.{flows}
 use Rattle.mbox_link.specs.Step as rows
 use Rattle.fw_units.specs.declared.component.Component.{Component}
@@ -12,7 +12,7 @@ use Rattle.fw_units.specs.declared.component.Unit as units
 use Rattle.fw_units.specs.declared.component.Unit.TheVariants.{Host}
 use Rattle.fw_components.specs.Tables.{Tables, view_by}
 use Rattle.fw_units.specs.Changes.{set_at, ended_unit}
-use Rattle.fw_units.specs.Frames.{begun_by, words_of, IsFresh, staged_by}
+use Rattle.fw_units.specs.Frames.{begun_by, kept_words, IsFresh, staged_by}
 use Rattle.fw_pipeline.specs.declared.phases.Trigger.{Trigger}
 use Rattle.fw_pipeline.specs.declared.phases.Trigger.TheVariants.{Start, Stop, Pause, Release, Free}
 
@@ -61,11 +61,11 @@ left_by what unit = None
 abbrev pub begins : View → View → ℕ → Bool
 begins old new x = live new x && not (live old x)
 
--- What begins has so many channels from then on; its ring is empty, an equaliser's epoch begins, and what is staged of its blob stays.
--- What does not begin is as it was.
-abbrev pub IsBegun : ℕ → Bool → Component → Component → Type 0
-IsBegun channels true c d = (d ≡ begun_by channels (words_of d) c) × (IsFresh d.unit × (staged_by d.unit ≡ staged_by c.unit))
-IsBegun channels false c d = d ≡ c
+-- What begins has so many channels from then on, at so many frames a second; its ring is empty, an equaliser's epoch begins, and what is
+-- staged of its blob stays; a volume has the gains that are set. What does not begin is as it was.
+abbrev pub IsBegun : (channels rate : ℕ) → Bool → Component → Component → Type 0
+IsBegun channels rate true c d = (d ≡ begun_by channels rate (kept_words d) c) × (IsFresh d.unit × (staged_by d.unit ≡ staged_by c.unit))
+IsBegun channels rate false c d = d ≡ c
 
 -- each of one list becomes the one at its place in another
 abbrev pub BecomeEach : (Component → Component → Type 0) → List Component → List Component → Type 0
@@ -78,7 +78,7 @@ BecomeEach R (c ∷ cs) (d ∷ ds) = R c d × BecomeEach R cs ds
 
 -- a buffer that begins
 abbrev pub begun_in : View → View → Component → Component
-begun_in old new c = if begins old new c.id then begun_by (channels_of new c.id) [] c else c
+begun_in old new c = if begins old new c.id then begun_by (channels_of new c.id) (rate_of new c.id) [] c else c
 
 -- a buffer in which no frame may lie is empty
 abbrev pub settled_in : View → Component → Component
@@ -86,10 +86,10 @@ settled_in new c = if flows new c.id then c else record { id = c.id; pipe = c.pi
 
 -- ---- all of it
 
--- What is left of tables: the host has its phase and its parameters, what becomes Live begins with the channels of its stream, and
+-- What is left of tables: the host has its phase and its parameters, what becomes Live begins with the channels and the rate of its stream, and
 -- a buffer in which no frame may lie is empty. All else is as it was.
 pub record IsTriggered (what : Trigger) (host : ℕ) (t u : Tables) : Type 0 where
-  pub comps : BecomeEach (λ c d. IsBegun (channels_of (view_by u) c.id) (begins (view_by t) (view_by u) c.id) c d)
+  pub comps : BecomeEach (λ c d. IsBegun (channels_of (view_by u) c.id) (rate_of (view_by u) c.id) (begins (view_by t) (view_by u) c.id) c d)
       (map (set_at host (phase_after what) (params_after what (params_of (view_by t) host))) t.comps) u.comps
   pub buffers : u.buffers ≡ map (λ c. settled_in (view_by u) (begun_in (view_by t) (view_by u) c)) t.buffers
   pub pipes : u.pipes ≡ t.pipes

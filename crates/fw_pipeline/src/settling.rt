@@ -1,5 +1,6 @@
 // What becomes Live begins, and rings in which no frame may lie any more are empty.
 ghost use Rattle.std.specs.Prelude.{◌≡◌, ◌==◌, ◌&&◌, ◌≤◌, ◌<◌, ◌∷◌, [], ℕ, not, true, false, map, length, slice_index_or};
+ghost use Rattle.sof_base.specs.Rates.{is_rate};
 ghost use Rattle.stream_law.specs.Ways.{live as is_live};
 ghost use Rattle.stream_law.specs.Seen.{flows as may_hold};
 ghost use Rattle.fw_units.specs.declared.component.Component.{Component};
@@ -17,7 +18,7 @@ use fw_places::Places;
 use fw_walks::{sink_in, source_in};
 use sof_base::Params;
 
-/// What is marked after and was not before begins with the channels of these parameters.
+/// What is marked after and was not before begins with the channels and the rate of these parameters.
 pub(crate) fn begin_each(
     registry: &mut Registry,
     places: &Places,
@@ -29,8 +30,9 @@ pub(crate) fn begin_each(
     requires before { length before.now ≡ 257 }
     requires after { length after.now ≡ 257 }
     requires channels { (1 ≤ p.channels) × (p.channels ≤ 8) }
-    ensures comps { BecomeEach (λ c d. IsBegun p.channels (begins_by places.now.ids before.now after.now c.id) c d) registry.old.comps registry.new.comps }
-    ensures buffers { BecomeEach (λ c d. IsBegun p.channels (begins_by places.now.ids before.now after.now c.id) c d) registry.old.buffers registry.new.buffers }
+    requires rate { is_rate p.rate ≡ true }
+    ensures comps { BecomeEach (λ c d. IsBegun p.channels p.rate (begins_by places.now.ids before.now after.now c.id) c d) registry.old.comps registry.new.comps }
+    ensures buffers { BecomeEach (λ c d. IsBegun p.channels p.rate (begins_by places.now.ids before.now after.now c.id) c d) registry.old.buffers registry.new.buffers }
     ensures pipes { registry.new.pipes ≡ registry.old.pipes }
     ensures joins { registry.new.joins ≡ registry.old.joins }
 {
@@ -55,7 +57,8 @@ fn becomes_live(places: &Places, before: &[bool], after: &[bool], id: u32) -> bo
 fn begin_one(registry: &mut Registry, id: u32, p: Params)
     requires there { is_there registry.old id ≡ true }
     requires channels { (1 ≤ p.channels) × (p.channels ≤ 8) }
-    ensures { HaveBegun p.channels (λ x. x == id) registry.old registry.new }
+    requires rate { is_rate p.rate ≡ true }
+    ensures { HaveBegun p.channels p.rate (λ x. x == id) registry.old registry.new }
 {
     let _ = registry.comps();
     registry.begin(id, p);

@@ -20,7 +20,7 @@ use sof_base::{Errno, Params};
 
 /// A host's stream leaves its phase: a Prepared one is Running at `Start` and without parameters at `Free`, a Running or Paused one
 /// is Prepared at `Stop`, a Running one is Paused at `Pause`, and a Paused one is Running at `Release`. What becomes Live begins with
-/// the channels of the stream, and rings in which no frame may lie any more are empty. Refused with -19 where the id names nothing,
+/// the channels and the rate of the stream, and rings in which no frame may lie any more are empty. Refused with -19 where the id names nothing,
 /// and -22 where it is no host or its stream is in another phase.
 pub fn trigger(registry: &mut Registry, host: u32, what: Trigger) -> Result<(), Errno>
     ensures answer { (f : FwState) → view_answer (view_by registry.new) result ≡ view_after (triggered what (with_view (view_by registry.old) f) host) }

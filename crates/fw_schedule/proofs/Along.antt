@@ -92,7 +92,7 @@ module _ (t : Tables) (kept : IsKept t) (can : CanTick t) where
   found-at : (c : ℕ) (d : Component) → find (λ x. x.id == d.id) t.buffers ≡ Some d → IsIn d t.buffers → live v d.id ≡ true → channels_of v d.id ≡ channels_of v c → IsAt t c d.id
   unfolding capacity
   found-at c d found among lives wide =
-      let framed = in-all (λ (x : Component). live v x.id ≡ true → channels_by x.unit ≡ channels_of v x.id) t.buffers d can.channels.buffers among lives in
+      let framed = in-all (λ (x : Component). live v x.id ≡ true → channels_by x.unit ≡ channels_of v x.id) t.buffers d can.shapes.buffers among lives in
       let shown : find (λ e. e.buffer == d.id) (map edge_by t.buffers) ≡ Some (edge_by d) = find-map (λ (e : Edge). e.buffer == d.id) edge_by t.buffers ∙ ap (option_map edge_by) found in
       record {
         there = in-any (λ x. x.id == d.id) t.buffers d among (eq-eqb d.id d.id refl);

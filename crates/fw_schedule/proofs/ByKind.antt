@@ -14,7 +14,7 @@ use Rattle.stream_law.specs.State.{View}
 use Rattle.stream_law.specs.Ways.{comp_of, channels_of}
 use Rattle.stream_law.specs.Moves.{is_choosy, chooses}
 use Rattle.stream_law.specs.Joins.{fits_kind}
-use Rattle.stream_law.specs.Made.{frames_by, frames_made}
+use Rattle.stream_law.specs.Made.{Passing, frames_by, frames_made}
 use Rattle.stream_law.specs.Endpoints.{format_by, format_of, is_input, reads, bytes_by, bytes_written}
 
 -- ---- a component by its kind
@@ -24,9 +24,9 @@ module _ (v : View) (c : ℕ) (x : Comp) (is : comp_of v.graph c ≡ Some x) (k 
   unfolding chooses
   chooses-of = ap (λ o. option_map_or (λ y. is_choosy y.kind) o false) is ∙ ap is_choosy kind
 
-  pub made-of : (n : ℕ) (read : List Frame) (slices : List (ℕ × List Frame)) (equalise : List ℕ → ℕ → List Frame → List Frame) → frames_made v c n read slices equalise ≡ frames_by k x.setting v c n read slices equalise
+  pub made-of : (n : ℕ) (read : List Frame) (slices : List (ℕ × List Frame)) (equalise amplify : Passing) → frames_made v c n read slices equalise amplify ≡ frames_by k x.setting v c n read slices equalise amplify
   unfolding frames_made
-  made-of n read slices equalise = ap (λ o. option_map_or (λ y. frames_by y.kind y.setting v c n read slices equalise) o []) is ∙ ap (λ k. frames_by k x.setting v c n read slices equalise) kind
+  made-of n read slices equalise amplify = ap (λ o. option_map_or (λ y. frames_by y.kind y.setting v c n read slices equalise amplify) o []) is ∙ ap (λ k. frames_by k x.setting v c n read slices equalise amplify) kind
 
   pub written-of : (n most : ℕ) (frames : List Frame) → bytes_written v c n most frames ≡ bytes_by k v c n most frames
   unfolding bytes_written
@@ -41,7 +41,7 @@ module _ (v : View) (c : ℕ) (x : Comp) (is : comp_of v.graph c ≡ Some x) (k 
 -- ---- sources
 
 pub record IsSource (k : Kind) : Type 0 where
-  pub made : (setting : Setting) (v : View) (c n : ℕ) (read : List Frame) (slices : List (ℕ × List Frame)) (equalise : List ℕ → ℕ → List Frame → List Frame) → frames_by k setting v c n read slices equalise ≡ read
+  pub made : (setting : Setting) (v : View) (c n : ℕ) (read : List Frame) (slices : List (ℕ × List Frame)) (equalise amplify : Passing) → frames_by k setting v c n read slices equalise amplify ≡ read
   pub silent : (v : View) (c n most : ℕ) (frames : List Frame) → bytes_by k v c n most frames ≡ []
   pub reads : is_input k ≡ true
   pub picks : is_choosy k ≡ false
@@ -52,7 +52,7 @@ two-numbers m n a b h = let parts = and_parts (m == a) (n == b) h in (eqb-true m
 
 pub host-play : IsSource HostPlay
 host-play = record {
-  made = λ setting v c n read slices equalise. refl;
+  made = λ setting v c n read slices equalise amplify. refl;
   silent = λ v c n most frames. refl;
   reads = refl;
   picks = refl;
@@ -61,7 +61,7 @@ host-play = record {
 
 pub dai-capture : (format : Format) → IsSource (DaiCapture format)
 dai-capture format = record {
-  made = λ setting v c n read slices equalise. refl;
+  made = λ setting v c n read slices equalise amplify. refl;
   silent = λ v c n most frames. refl;
   reads = refl;
   picks = refl;
@@ -71,7 +71,7 @@ dai-capture format = record {
 -- ---- sinks
 
 pub record IsSink (k : Kind) (more : ℕ → ℕ → ℕ) : Type 0 where
-  pub made : (setting : Setting) (v : View) (c n : ℕ) (read : List Frame) (slices : List (ℕ × List Frame)) (equalise : List ℕ → ℕ → List Frame → List Frame) → frames_by k setting v c n read slices equalise ≡ []
+  pub made : (setting : Setting) (v : View) (c n : ℕ) (read : List Frame) (slices : List (ℕ × List Frame)) (equalise amplify : Passing) → frames_by k setting v c n read slices equalise amplify ≡ []
   pub written : (v : View) (c n most : ℕ) (frames : List Frame) → format_of v c ≡ format_by v c k → bytes_by k v c n most frames ≡ frames_out (format_of v c) frames ++ replicate (more most n * (channels_of v c * width (format_of v c))) 0
   pub reads : is_input k ≡ false
   pub picks : is_choosy k ≡ false
@@ -79,7 +79,7 @@ pub record IsSink (k : Kind) (more : ℕ → ℕ → ℕ) : Type 0 where
 
 pub host-capture : IsSink HostCapture (λ most n. 0)
 host-capture = record {
-  made = λ setting v c n read slices equalise. refl;
+  made = λ setting v c n read slices equalise amplify. refl;
   written = λ v c n most frames is. sym (append-nil (frames_out (format_of v c) frames)) ∙ ap (λ m. frames_out (format_of v c) frames ++ replicate m 0) (let e : 0 ≡ 0 * (channels_of v c * width (format_of v c)) = omega arith in e);
   reads = refl;
   picks = refl;
@@ -88,7 +88,7 @@ host-capture = record {
 
 pub dai-play : (format : Format) → IsSink (DaiPlay format) (λ most n. most - n)
 dai-play format = record {
-  made = λ setting v c n read slices equalise. refl;
+  made = λ setting v c n read slices equalise amplify. refl;
   written = λ v c n most frames is. ap (λ f. frames_out f frames ++ replicate ((most - n) * (channels_of v c * width (format_of v c))) 0) (sym is);
   reads = refl;
   picks = refl;

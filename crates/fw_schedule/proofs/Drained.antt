@@ -27,7 +27,7 @@ use Rattle.fw_schedule.proofs.ByKind.{chooses-of, written-of, reads-of, format-o
 use Rattle.fw_schedule.proofs.Still.{frames-heard}
 use Rattle.fw_schedule.proofs.Stages.{drained as drained-stage}
 use Rattle.fw_schedule.proofs.Along.{IsThere, IsAt, fits, in-at, only-passes}
-use Rattle.stream_law.specs.Seen.{is_equaliser, equalises, blob_in}
+use Rattle.stream_law.specs.Seen.{keeps_numbers, remembers, blob_in}
 use Rattle.stream_law.specs.declared.graph.Comp.{Comp}
 use Rattle.std.specs.Option.{option_map_or}
 
@@ -35,7 +35,7 @@ pub record IsDrain (k : Kind) : Type 0 where
   pub more : ℕ → ℕ → ℕ
   pub sink : IsSink k more
   pub least : (most n : ℕ) → more most n ≡ least_by k most - n
-  pub plain : is_equaliser k ≡ false
+  pub plain : keeps_numbers k ≡ false
 
 pub sink-by : (k : Kind) → is_output_kind k ≡ true → IsDrain k
 sink-by HostCapture is = record { more = λ most n. 0; sink = host-capture; least = λ most n. omega arith; plain = refl }
@@ -86,8 +86,8 @@ module _ (t : Tables) (kept : IsKept t) (can : CanTick t) (id : ℕ) (there : Is
   in-of b is = in-at t kept can id (λ k. is_output_kind k) there now b (only-passes (λ b. is_end (sink_of (graph_of t) b) id) _ b (in-one b is)) (or_left (not (chooses v id)) _ (ap not picks))
 
   -- it keeps no numbers
-  plain : equalises v id ≡ false
-  plain = and-not (live v id) (option_map_or (λ x. is_equaliser x.kind) (comp_of (graph_of t) id) false) (ap (λ (o : Option Comp). option_map_or (λ x. is_equaliser x.kind) o false) there.is ∙ drain.plain)
+  plain : remembers v id ≡ false
+  plain = and-not (live v id) (option_map_or (λ x. keeps_numbers x.kind) (comp_of (graph_of t) id) false) (ap (λ (o : Option Comp). option_map_or (λ x. keeps_numbers x.kind) o false) there.is ∙ drain.plain)
 
   module _ (began : Tables) (start : Io) (inputs : List InputView) (outputs : List OutputView) (a : Audio) (ends : AreEnds start a) (stage : IsStage began start t inputs outputs a) (clock : ℕ) (run : runs v clock id ≡ true) where
     abbrev blobs : ℕ → List ℕ

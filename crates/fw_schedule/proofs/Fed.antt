@@ -16,8 +16,9 @@ use Rattle.stream_law.specs.Moves.{capacity, runs, quota, looks, fed, fed_by, is
 use Rattle.stream_law.specs.Made.{only_slice}
 use Rattle.stream_law.specs.Endpoints.{is_input, format_of, bytes_of_frames, bytes_written}
 use Rattle.stream_law.specs.Equaliser.{passed_frames}
+use Rattle.stream_law.specs.Ramps.{ramped_frames, numbers_from, numbers_place}
 use Rattle.stream_law.specs.Move.{Audio, after_move, ring_length, ring_room, frames_moved, looked_now, fronts, made_now, bytes_moved, bytes_now}
-use Rattle.stream_law.specs.Seen.{blob_in}
+use Rattle.stream_law.specs.Seen.{blob_in, ramp_length}
 use Rattle.fw_components.specs.Tables.{Tables, graph_of, view_by, held_frames, capacity_at}
 use Rattle.fw_components.specs.Frames.{pushed}
 use Rattle.fw_components.specs.Kept.{IsKept}
@@ -69,8 +70,8 @@ module _ (t : Tables) (kept : IsKept t) (can : CanTick t) (id : ℕ) (there : Is
 
     made-read : made_now v blobs clock id a ≡ frames_in (format_of v id) (channels_of v id) (list_of a.left id) 0 (frames_moved v blobs clock id a)
     made-read =
-        made-of v id there.comp there.is there.comp.kind refl (frames_moved v blobs clock id a) (frames_in (format_of v id) (channels_of v id) (list_of a.left id) 0 (frames_moved v blobs clock id a)) (fronts v blobs clock id a) (λ blob channels frames. passed_frames blob channels (list_of a.numbers id) frames)
-        ∙ source.made there.comp.setting v id (frames_moved v blobs clock id a) (frames_in (format_of v id) (channels_of v id) (list_of a.left id) 0 (frames_moved v blobs clock id a)) (fronts v blobs clock id a) (λ blob channels frames. passed_frames blob channels (list_of a.numbers id) frames)
+        made-of v id there.comp there.is there.comp.kind refl (frames_moved v blobs clock id a) (frames_in (format_of v id) (channels_of v id) (list_of a.left id) 0 (frames_moved v blobs clock id a)) (fronts v blobs clock id a) (λ blob channels frames. passed_frames blob channels (list_of a.numbers id) frames) (ramped_frames (numbers_from (list_of a.numbers id)) (ramp_length v id) (numbers_place (list_of a.numbers id)))
+        ∙ source.made there.comp.setting v id (frames_moved v blobs clock id a) (frames_in (format_of v id) (channels_of v id) (list_of a.left id) 0 (frames_moved v blobs clock id a)) (fronts v blobs clock id a) (λ blob channels frames. passed_frames blob channels (list_of a.numbers id) frames) (ramped_frames (numbers_from (list_of a.numbers id)) (ramp_length v id) (numbers_place (list_of a.numbers id)))
 
     silent : bytes_now v blobs clock id a ≡ []
     silent =

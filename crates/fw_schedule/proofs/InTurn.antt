@@ -10,7 +10,7 @@ use Rattle.stream_law.specs.State.{View, RingView, History}
 use Rattle.stream_law.specs.Table.{list_of, number_of}
 use Rattle.stream_law.specs.Placed.{HasDistinct}
 use Rattle.stream_law.specs.Order.{is_among}
-use Rattle.stream_law.specs.Seen.{equalises, blob_in}
+use Rattle.stream_law.specs.Seen.{remembers, blob_in}
 use Rattle.stream_law.specs.Move.{Audio, after_move, after_moves}
 use Rattle.stream_law.proofs.Keyed.{keyed, keyed-values, map-same, all-from, all-both}
 use Rattle.stream_law.proofs.Placing.{Ascends-distinct}
@@ -132,7 +132,7 @@ module _ (t : Tables) (kept : IsKept t) (start : Io) (inputs : HasDistinct (λ x
   rings-apart = subst (IsDistinct nat_eq) (sym (ring-ids t.buffers)) (Ascends-distinct (λ (c : Component). c.id) t.buffers kept.named.buffers)
 
   histories-apart : HasDistinct (λ (h : History). h.comp) (histories_of t)
-  histories-apart = subst (IsDistinct nat_eq) (sym (history-ids (filter (λ c. equalises (view_by t) c.id) t.comps))) (distinct-filter (λ (c : Component). c.id) (λ c. equalises (view_by t) c.id) t.comps (Ascends-distinct (λ (c : Component). c.id) t.comps kept.named.comps))
+  histories-apart = subst (IsDistinct nat_eq) (sym (history-ids (filter (λ c. remembers (view_by t) c.id) t.comps))) (distinct-filter (λ (c : Component). c.id) (λ c. remembers (view_by t) c.id) t.comps (Ascends-distinct (λ (c : Component). c.id) t.comps kept.named.comps))
 
   pub stage-first : IsStage t start t start.inputs start.outputs (audio_from t start)
   stage-first = record {

@@ -16,6 +16,8 @@ use Rattle.stream_law.specs.Order.{is_among}
 use Rattle.stream_law.specs.Made.{only_slice, frames_made}
 use Rattle.stream_law.specs.Endpoints.{format_of, reads, bytes_of_frames, bytes_written}
 use Rattle.stream_law.specs.Equaliser.{passed_frames}
+use Rattle.stream_law.specs.Ramps.{ramped_frames, numbers_from, numbers_place}
+use Rattle.stream_law.specs.Seen.{ramp_length}
 use Rattle.stream_law.specs.Move.{Audio, after_move, frames_moved, looked_now, fronts, made_now, bytes_moved, bytes_now, io_after}
 use Rattle.stream_law.proofs.Among.{value_of-updated_among, value_of-updated_apart, value_of-updated_kept}
 use Rattle.fw_schedule.specs.Stages.{AreEnds}
@@ -103,8 +105,8 @@ module _ (v : View) (blobs : ℕ → List ℕ) (t c : ℕ) (io : Io) (a : Audio)
   -- what does not run makes nothing
   pub made-idle : frames_moved v blobs t c a ≡ 0 → made_now v blobs t c a ≡ []
   made-idle idle =
-      ap (λ n. frames_made v c n (frames_in (format_of v c) (channels_of v c) (list_of a.left c) 0 n) (table (looked_now v blobs t c a) (λ b. take n (list_of a.rings b))) (λ blob channels frames. passed_frames blob channels (list_of a.numbers c) frames)) idle
-      ∙ made-none (looked_now v blobs t c a) (λ b. list_of a.rings b) v c (list_of a.numbers c)
+      ap (λ n. frames_made v c n (frames_in (format_of v c) (channels_of v c) (list_of a.left c) 0 n) (table (looked_now v blobs t c a) (λ b. take n (list_of a.rings b))) (λ blob channels frames. passed_frames blob channels (list_of a.numbers c) frames) (ramped_frames (numbers_from (list_of a.numbers c)) (ramp_length v c) (numbers_place (list_of a.numbers c)))) idle
+      ∙ made-none (looked_now v blobs t c a) (λ b. list_of a.rings b) v c (list_of a.numbers c) (numbers_from (list_of a.numbers c)) (ramp_length v c) (numbers_place (list_of a.numbers c))
 
   pub writes-idle : runs v t c ≡ false → bytes_now v blobs t c a ≡ []
   writes-idle off = ap (λ h. cond h (bytes_written v c (frames_moved v blobs t c a) (quota v t c) (only_slice (fronts v blobs t c a))) []) off

@@ -1,9 +1,8 @@
 -- What a component makes of no frames, whatever its kind.
-use Rattle.std.proofs.Common.{◌≡◌, refl, ap, ℕ, List, [], ◌∷◌, map, take, replicate, Option, Some, None, Bool, true, false, cond, ◌==◌, ℤ}
+use Rattle.std.proofs.Common.{◌≡◌, refl, ap, ℕ, List, [], ◌∷◌, take, replicate, Option, Some, None, Bool, true, false, cond, ◌==◌, ℤ}
 use Rattle.std.specs.Prelude.{find, slice_get}
 use Rattle.std.specs.Option.{option_map_or}
 use Rattle.sof_base.specs.Samples.{Frame, silence}
-use Rattle.sof_base.specs.Equations.{volume_of}
 use Rattle.stream_law.specs.declared.graph.Kind.{Kind}
 use Rattle.stream_law.specs.declared.graph.Kind.TheVariants.{Volume, Mux, Eq}
 use Rattle.stream_law.specs.declared.graph.Setting.{Setting}
@@ -13,6 +12,7 @@ use Rattle.stream_law.specs.Table.{table}
 use Rattle.stream_law.specs.Ways.{comp_of, channels_of, inputs}
 use Rattle.stream_law.specs.Made.{gains, choice, blob, only_slice, chosen_slice, frames_by, frames_made}
 use Rattle.stream_law.specs.Equaliser.{passed_frames}
+use Rattle.stream_law.specs.Ramps.{ramped_frames}
 
 -- slices of no frames at these edges
 module _ (ids : List ℕ) (frames : ℕ → List Frame) where
@@ -38,17 +38,17 @@ module _ (ids : List ℕ) (frames : ℕ → List Frame) where
           by_id true rest = refl
           by_id false rest = rest
 
-  by-kind : (k : Kind) (setting : Setting) (v : View) (c : ℕ) (numbers : List ℤ) → frames_by k setting v c 0 [] slices (λ blob channels frames. passed_frames blob channels numbers frames) ≡ []
-  by-kind Volume setting v c numbers = ap (map (volume_of (channels_of v c) (gains setting))) only-none
-  by-kind Mux setting v c numbers = chosen-none (channels_of v c) (slice_get (inputs v.graph c) (choice setting))
-  by-kind Eq setting v c numbers = ap (passed_frames (blob setting) (channels_of v c) numbers) only-none
-  by-kind kind setting v c numbers = refl
+  by-kind : (k : Kind) (setting : Setting) (v : View) (c : ℕ) (numbers : List ℤ) (from : List ℕ) (over j : ℕ) → frames_by k setting v c 0 [] slices (λ blob channels frames. passed_frames blob channels numbers frames) (ramped_frames from over j) ≡ []
+  by-kind Volume setting v c numbers from over j = ap (ramped_frames from over j (gains setting) (channels_of v c)) only-none
+  by-kind Mux setting v c numbers from over j = chosen-none (channels_of v c) (slice_get (inputs v.graph c) (choice setting))
+  by-kind Eq setting v c numbers from over j = ap (passed_frames (blob setting) (channels_of v c) numbers) only-none
+  by-kind kind setting v c numbers from over j = refl
 
   -- a component makes none of them
-  pub made-none : (v : View) (c : ℕ) (numbers : List ℤ) → frames_made v c 0 [] slices (λ blob channels frames. passed_frames blob channels numbers frames) ≡ []
+  pub made-none : (v : View) (c : ℕ) (numbers : List ℤ) (from : List ℕ) (over j : ℕ) → frames_made v c 0 [] slices (λ blob channels frames. passed_frames blob channels numbers frames) (ramped_frames from over j) ≡ []
   unfolding frames_made
-  made-none v c numbers = by_comp (comp_of v.graph c)
+  made-none v c numbers from over j = by_comp (comp_of v.graph c)
     where
-      by_comp : (o : Option Comp) → option_map_or (λ x. frames_by x.kind x.setting v c 0 [] slices (λ blob channels frames. passed_frames blob channels numbers frames)) o [] ≡ []
+      by_comp : (o : Option Comp) → option_map_or (λ x. frames_by x.kind x.setting v c 0 [] slices (λ blob channels frames. passed_frames blob channels numbers frames) (ramped_frames from over j)) o [] ≡ []
       by_comp None = refl
-      by_comp (Some x) = by-kind x.kind x.setting v c numbers
+      by_comp (Some x) = by-kind x.kind x.setting v c numbers from over j

@@ -5,38 +5,42 @@ use Rattle.std.specs.Prelude.{find, slice_get, nat_eq}
 use Rattle.std.specs.List.{AllByRecursion, IsDistinct}
 use Rattle.std.specs.Option.{option_map_or}
 use Rattle.sof_base.specs.Samples.{Frame, frames_in}
+use Rattle.sof_base.specs.Ramps.{ramp_frames}
 use Rattle.sof_base.specs.Ports.{InputView, OutputView, Io}
 use Rattle.stream_law.specs.declared.graph.Kind.{Kind}
 use Rattle.stream_law.specs.declared.graph.Kind.TheVariants as kinds
 use Rattle.stream_law.specs.declared.graph.Comp.{Comp}
 use Rattle.stream_law.specs.declared.graph.Edge.{Edge}
+use Rattle.stream_law.specs.declared.graph.Graph.{Graph}
 use Rattle.stream_law.specs.State.{View, RingView, History}
 use Rattle.stream_law.specs.Table.{table, list_of}
-use Rattle.stream_law.specs.Ways.{ins, outs, buffers, comp_of, source_of, sink_of, is_end, active, active_end, live, channels_of}
+use Rattle.stream_law.specs.Ways.{ins, outs, buffers, comp_of, is_of, source_of, sink_of, is_end, active, active_end, live, rate_of, channels_of}
 use Rattle.stream_law.specs.Joins.{fits_kind}
 use Rattle.stream_law.specs.Moves.{runs, quota, chooses, is_choosy, looks, looked_at, fed, fed_by, is_empty, least}
 use Rattle.stream_law.specs.Order.{is_among}
 use Rattle.stream_law.specs.Made.{only_slice, frames_made}
-use Rattle.stream_law.specs.Seen.{is_equaliser, equalises, blob_in}
+use Rattle.stream_law.specs.Seen.{is_equaliser, is_volume, keeps_numbers, remembers, blob_in, gains_in, ramp_length}
 use Rattle.stream_law.specs.Endpoints.{is_input, format_of, bytes_of_frames, bytes_by, bytes_written}
 use Rattle.stream_law.specs.Equaliser.{passed_frames, numbers_after}
-use Rattle.stream_law.specs.Move.{Audio, after_move, ring_length, ring_room, frames_moved, looked_now, fronts, made_now, bytes_moved, bytes_now}
+use Rattle.stream_law.specs.Ramps.{ramped_frames, numbers_from, numbers_place, ramped_on}
+use Rattle.stream_law.specs.Move.{Audio, after_move, ring_length, ring_room, frames_moved, looked_now, fronts, made_now, numbers_moved, bytes_moved, bytes_now}
 use Rattle.stream_law.proofs.Members.{IsIn, in-all, in-any, find-in, filter-most}
 use Rattle.stream_law.proofs.Placing.{Ascends-distinct}
 use Rattle.stream_law.proofs.Feeding.{frames_made_same, looked-parts}
+use Rattle.stream_law.proofs.Remembering.{equaliser-keeps, volume-keeps}
 use Rattle.row_laws.proofs.Fewer.{distinct-filter}
 use Rattle.row_laws.proofs.Near.{no-loop}
 use Rattle.row_laws.proofs.Playing.{active-live}
 use Rattle.fw_units.specs.declared.component.Unit as units
 use Rattle.fw_units.specs.declared.component.Unit.TheVariants.{Host, Dai, Volume, Mixer, Mux, Eq, Buffer, Pipeline}
 use Rattle.fw_units.specs.declared.component.Component.{Component}
-use Rattle.fw_units.specs.Units.{comp_by, edge_by, kind_by, numbers_by}
+use Rattle.fw_units.specs.Units.{comp_by, edge_by, kind_by, ramp_by, numbers_by}
 use Rattle.fw_components.specs.Tables.{Tables, graph_of, view_by, rings_of, histories_of, staging_of, held_frames, capacity_at}
 use Rattle.fw_units.specs.Changes.{has_id}
 use Rattle.fw_components.specs.Frames.{with_frames}
 use Rattle.fw_components.specs.Kept.{IsKept, is_plain}
 use Rattle.fw_units.specs.Processed.{moves_of, IsInlet, IsOutlet, slices_in}
-use Rattle.fw_components.specs.Processed.{moves_at, channels_moved, made_at, eq_numbers_at, drained_ring, moved_rings, with_numbers}
+use Rattle.fw_components.specs.Processed.{moves_at, channels_moved, ramp_frames_by, ramp_frames_at, made_at, eq_numbers_at, drained_ring, moved_rings, with_numbers}
 use Rattle.fw_walks.proofs.Naming.{find-map}
 use Rattle.fw_walks.proofs.OnWays.{any-map}
 use Rattle.fw_schedule.specs.Ticks.{CanTick}
@@ -80,9 +84,27 @@ maker-by kinds.Mixer is = record { silent = λ v c n most frames. refl; reads = 
 maker-by kinds.Mux is = record { silent = λ v c n most frames. refl; reads = refl; single = choosy-single; alone = λ m n h picks. absurd (true≢false picks); few = choosy-few }
 maker-by kind is = absurd (false≢true is)
 
+-- what keeps numbers and is no volume is an equaliser
+keeps-equaliser : (g : Graph) (c : ℕ) → is_of g keeps_numbers c ≡ true → is_of g is_volume c ≡ false → is_of g is_equaliser c ≡ true
+keeps-equaliser g c keeps other = by (comp_of g c) keeps other
+  where
+    kind : (k : Kind) → keeps_numbers k ≡ true → is_volume k ≡ false → is_equaliser k ≡ true
+    kind kinds.Eq keeps other = refl
+    kind kinds.Volume keeps other = absurd (true≢false other)
+    kind kinds.HostPlay keeps other = absurd (false≢true keeps)
+    kind kinds.HostCapture keeps other = absurd (false≢true keeps)
+    kind (kinds.DaiPlay format) keeps other = absurd (false≢true keeps)
+    kind (kinds.DaiCapture format) keeps other = absurd (false≢true keeps)
+    kind kinds.Mixer keeps other = absurd (false≢true keeps)
+    kind kinds.Mux keeps other = absurd (false≢true keeps)
+
+    by : (o : Option Comp) → option_map_or (λ x. keeps_numbers x.kind) o false ≡ true → option_map_or (λ x. is_volume x.kind) o false ≡ false → option_map_or (λ x. is_equaliser x.kind) o false ≡ true
+    by None keeps other = absurd (false≢true keeps)
+    by (Some x) keeps other = kind x.kind keeps other
+
 -- a unit of such a kind moves so many
 unit-moves : (u : units.Unit) (inlets : ℕ) → is_plain u ≡ true → (not (is_input (kind_by u)) && not (is_output_kind (kind_by u))) ≡ true → (is_choosy (kind_by u) ≡ false → inlets ≡ 1) → moves_of u inlets ≡ true
-unit-moves (Volume gains piece) inlets plain is one = eq-eqb inlets 1 (one refl)
+unit-moves (Volume gains ramp from done frames piece) inlets plain is one = eq-eqb inlets 1 (one refl)
 unit-moves (Mixer piece) inlets plain is one = refl
 unit-moves (Mux choice piece) inlets plain is one = refl
 unit-moves (Eq eq next remaining) inlets plain is one = eq-eqb inlets 1 (one refl)
@@ -151,25 +173,25 @@ among-filter p (y ∷ ys) x there = by (p y) refl there (among-filter p ys x)
 abbrev history : ℕ → List ℤ → History
 history c numbers = record { comp = c; numbers = numbers }
 
--- the numbers of a Live equaliser are those of the audio
-numbers-heard : (a : Audio) (v : View) (cs : List Component) (hs : List History) → map (λ c. record { comp = c.id; numbers = numbers_by c.unit c.channels }) (filter (λ c. equalises v c.id) cs) ≡ map (heard_history a) hs → (id : ℕ) → equalises v id ≡ true → has_id cs id ≡ true → option_map_or (λ c. numbers_by c.unit c.channels) (find (λ c. c.id == id) cs) [] ≡ list_of a.numbers id
+-- the numbers of what keeps them are those of the audio
+numbers-heard : (a : Audio) (v : View) (cs : List Component) (hs : List History) → map (λ c. record { comp = c.id; numbers = numbers_by c.unit c.channels }) (filter (λ c. remembers v c.id) cs) ≡ map (heard_history a) hs → (id : ℕ) → remembers v id ≡ true → has_id cs id ≡ true → option_map_or (λ c. numbers_by c.unit c.channels) (find (λ c. c.id == id) cs) [] ≡ list_of a.numbers id
 numbers-heard a v [] hs same id is there = absurd (false≢true there)
-numbers-heard a v (c ∷ cs) hs same id is there = by (c.id == id) refl there (equalises v c.id) refl hs same (λ hs same there. numbers-heard a v cs hs same id is there)
+numbers-heard a v (c ∷ cs) hs same id is there = by (c.id == id) refl there (remembers v c.id) refl hs same (λ hs same there. numbers-heard a v cs hs same id is there)
   where
     one : Component → History
     one c = record { comp = c.id; numbers = numbers_by c.unit c.channels }
 
     rest : List Component
-    rest = filter (λ c. equalises v c.id) cs
+    rest = filter (λ c. remembers v c.id) cs
 
-    by : (h : Bool) → (c.id == id) ≡ h → (h || has_id cs id) ≡ true → (k : Bool) → equalises v c.id ≡ k → (hs : List History) → map (λ c. record { comp = c.id; numbers = numbers_by c.unit c.channels }) (cond k (c ∷ filter (λ c. equalises v c.id) cs) (filter (λ c. equalises v c.id) cs)) ≡ map (heard_history a) hs
-        → ((hs : List History) → map (λ c. record { comp = c.id; numbers = numbers_by c.unit c.channels }) (filter (λ c. equalises v c.id) cs) ≡ map (heard_history a) hs → has_id cs id ≡ true → option_map_or (λ c. numbers_by c.unit c.channels) (find (λ c. c.id == id) cs) [] ≡ list_of a.numbers id)
+    by : (h : Bool) → (c.id == id) ≡ h → (h || has_id cs id) ≡ true → (k : Bool) → remembers v c.id ≡ k → (hs : List History) → map (λ c. record { comp = c.id; numbers = numbers_by c.unit c.channels }) (cond k (c ∷ filter (λ c. remembers v c.id) cs) (filter (λ c. remembers v c.id) cs)) ≡ map (heard_history a) hs
+        → ((hs : List History) → map (λ c. record { comp = c.id; numbers = numbers_by c.unit c.channels }) (filter (λ c. remembers v c.id) cs) ≡ map (heard_history a) hs → has_id cs id ≡ true → option_map_or (λ c. numbers_by c.unit c.channels) (find (λ c. c.id == id) cs) [] ≡ list_of a.numbers id)
         → option_map_or (λ c. numbers_by c.unit c.channels) (cond h (Some c) (find (λ c. c.id == id) cs)) [] ≡ list_of a.numbers id
     by true own there true eq [] same more = absurd (cc same)
     by true own there true eq (h ∷ hs) same more =
         let first : record { comp = c.id; numbers = numbers_by c.unit c.channels } ≡ heard_history a h = cc same in
         ap (λ (h : History). h.numbers) first ∙ ap (list_of a.numbers) (sym (ap (λ (h : History). h.comp) first) ∙ eqb-true c.id id own)
-    by true own there false eq hs same more = absurd (true≢false (sym is ∙ ap (equalises v) (sym (eqb-true c.id id own)) ∙ eq))
+    by true own there false eq hs same more = absurd (true≢false (sym is ∙ ap (remembers v) (sym (eqb-true c.id id own)) ∙ eq))
     by false own there true eq [] same more = absurd (cc same)
     by false own there true eq (h ∷ hs) same more = more hs (cc same) there
     by false own there false eq hs same more = more hs same there
@@ -266,8 +288,19 @@ module _ (t : Tables) (kept : IsKept t) (can : CanTick t) (id : ℕ) (there : Is
   wide =
       let same = eqb-true own.0.id id own-in.1 in
       ap (λ (o : Option Component). option_map_or (λ c. c.channels) o 0) own.1
-      ∙ in-all (λ (c : Component). live v c.id ≡ true → c.channels ≡ channels_of v c.id) t.comps own.0 can.channels.comps own-in.0 (ap (live v) same ∙ active-live v can.wired can.linked can.played id now)
+      ∙ in-all (λ (c : Component). live v c.id ≡ true → c.channels ≡ channels_of v c.id) t.comps own.0 can.shapes.comps own-in.0 (ap (live v) same ∙ active-live v can.wired can.linked can.played id now)
       ∙ ap (channels_of v) same
+
+  -- a volume's ramp goes over as many frames as in the view
+  pub long : ramp_frames_at t id ≡ ramp_length v id
+  unfolding ramp_length
+  long =
+      let same = eqb-true own.0.id id own-in.1 in
+      ap (λ (o : Option Component). option_map_or (λ c. ramp_frames_by c.unit) o 0) own.1
+      ∙ in-all (λ (c : Component). live v c.id ≡ true → ramp_frames_by c.unit ≡ ramp_frames (ramp_by c.unit) (rate_of v c.id)) t.comps own.0 can.shapes.ramps own-in.0 (ap (live v) same ∙ active-live v can.wired can.linked can.played id now)
+      ∙ ap (λ c. ramp_frames (ramp_by own.0.unit) (rate_of v c)) same
+      ∙ ap (λ (x : Comp). ramp_frames x.ramp (rate_of v id)) own.2
+      ∙ sym (ap (λ (o : Option Comp). ramp_frames (option_map_or (λ x. x.ramp) o 0) (rate_of v id)) there.is)
 
   -- what is looked at can be taken from, and what is fed has room
   pub inlets : (looked : List ℕ) (q n : ℕ) → looked ≡ looked_at v (λ b. length (held_frames t b)) id → n ≡ least q (map (λ b. length (held_frames t b)) looked) → AllByRecursion (IsInlet t.buffers (channels_moved t id) n) looked
@@ -365,25 +398,32 @@ module _ (t : Tables) (kept : IsKept t) (can : CanTick t) (id : ℕ) (there : Is
       slices : slices_in t.buffers looked n ≡ fronts v blobs clock id a
       slices = takes n looked each-heard ∙ (λ i. table (sym now_looked i) (λ b. take (sym frames i) (list_of a.rings b)))
 
-      -- numbers of an equaliser
-      module _ (equal : equalises v id ≡ true) where
+      -- numbers of an equaliser or a volume
+      module _ (equal : remembers v id ≡ true) where
         numbers-now : eq_numbers_at t id ≡ list_of a.numbers id
         numbers-now = numbers-heard a v t.comps (histories_of began) stage.histories id equal (in-any (λ c. c.id == id) t.comps own.0 own-in.0 own-in.1)
 
-      equal-by : option_map_or (λ x. is_equaliser x.kind) (comp_of (graph_of t) id) false ≡ true → equalises v id ≡ true
-      equal-by kind = and_from (live v id) _ (active-live v can.wired can.linked can.played id now) kind
+      equal-by : is_of (graph_of t) is_equaliser id ≡ true → remembers v id ≡ true
+      equal-by kind = and_from (live v id) (is_of (graph_of t) keeps_numbers id) (active-live v can.wired can.linked can.played id now) (equaliser-keeps (graph_of t) id kind)
+
+      volume-by : is_of (graph_of t) is_volume id ≡ true → remembers v id ≡ true
+      volume-by kind = and_from (live v id) (is_of (graph_of t) keeps_numbers id) (active-live v can.wired can.linked can.played id now) (volume-keeps (graph_of t) id kind)
 
       module _ (u : Tables) (bare : bare_of u ≡ bare_of t)
           (rings-law : rings_of u ≡ moved_rings looked n b (made_at t id looked n) (rings_of t))
           (histories-law : histories_of u ≡ map (with_numbers id (eq_numbers_at u id)) (histories_of t))
           (staging-law : staging_of u ≡ staging_of t)
-          (made-law : (read : List Frame) → frames_made v id n read (slices_in t.buffers looked n) (λ blob channels frames. passed_frames blob channels (eq_numbers_at t id) frames) ≡ made_at t id looked n)
-          (numbers-law : option_map_or (λ x. is_equaliser x.kind) (comp_of (graph_of t) id) false ≡ true → numbers_after (blob_in v id) (channels_of v id) (eq_numbers_at t id) (only_slice (slices_in t.buffers looked n)) ≡ eq_numbers_at u id) where
+          (made-law : (read : List Frame) → frames_made v id n read (slices_in t.buffers looked n) (λ blob channels frames. passed_frames blob channels (eq_numbers_at t id) frames)
+          (ramped_frames (numbers_from (eq_numbers_at t id)) (ramp_length v id) (numbers_place (eq_numbers_at t id))) ≡ made_at t id looked n)
+          (numbers-law : is_of (graph_of t) is_equaliser id ≡ true → numbers_after (blob_in v id) (channels_of v id) (eq_numbers_at t id) (only_slice (slices_in t.buffers looked n)) ≡ eq_numbers_at u id)
+          (places-law : is_of (graph_of t) is_volume id ≡ true → ramped_on (ramp_length v id) (eq_numbers_at t id) (length (only_slice (slices_in t.buffers looked n))) ≡ eq_numbers_at u id) where
         made : made_now v blobs clock id a ≡ made_at t id looked n
         made =
-            (λ i. frames_made v id (frames i) (frames_in (format_of v id) (channels_of v id) (list_of a.left id) 0 (frames i)) (sym slices i) (λ blob channels frames. passed_frames blob channels (list_of a.numbers id) frames))
+            (λ i. frames_made v id (frames i) (frames_in (format_of v id) (channels_of v id) (list_of a.left id) 0 (frames i)) (sym slices i) (λ blob channels frames. passed_frames blob channels (list_of a.numbers id) frames) (ramped_frames (numbers_from (list_of a.numbers id)) (ramp_length v id) (numbers_place (list_of a.numbers id))))
             ∙ frames_made_same v id n (frames_in (format_of v id) (channels_of v id) (list_of a.left id) 0 n) (slices_in t.buffers looked n) (λ blob channels frames. passed_frames blob channels (list_of a.numbers id) frames) (λ blob channels frames. passed_frames blob channels (eq_numbers_at t id) frames)
+            (ramped_frames (numbers_from (list_of a.numbers id)) (ramp_length v id) (numbers_place (list_of a.numbers id))) (ramped_frames (numbers_from (eq_numbers_at t id)) (ramp_length v id) (numbers_place (eq_numbers_at t id)))
             (λ kind. ap (λ (numbers : List ℤ). passed_frames (blob_in v id) (channels_of v id) numbers (only_slice (slices_in t.buffers looked n))) (sym (numbers-now (equal-by kind))))
+            (λ kind. ap (λ (numbers : List ℤ). ramped_frames (numbers_from numbers) (ramp_length v id) (numbers_place numbers) (gains_in v id) (channels_of v id) (only_slice (slices_in t.buffers looked n))) (sym (numbers-now (volume-by kind))))
             ∙ made-law (frames_in (format_of v id) (channels_of v id) (list_of a.left id) 0 n)
 
         next : Audio
@@ -415,19 +455,26 @@ module _ (t : Tables) (kept : IsKept t) (can : CanTick t) (id : ℕ) (there : Is
         rings-each [] = refl
         rings-each (r ∷ rs) = λ i. ring-each r i ∷ rings-each rs i
 
-        histories-each-moved : (hs : List History) → AllByRecursion (λ (h : History). equalises (view_by began) h.comp ≡ true) hs → map (with_numbers id (eq_numbers_at u id)) (map (heard_history a) hs) ≡ map (heard_history (after_move v blobs clock id a)) hs
+        numbers-next : remembers v id ≡ true → eq_numbers_at u id ≡ numbers_moved v blobs clock id a id
+        numbers-next equal = by (is_of (graph_of t) is_volume id) refl
+          where
+            by : (k : Bool) → is_of (graph_of t) is_volume id ≡ k
+                → eq_numbers_at u id ≡ cond k (ramped_on (ramp_length v id) (list_of a.numbers id) (length (only_slice (fronts v blobs clock id a)))) (numbers_after (blobs id) (channels_of v id) (list_of a.numbers id) (only_slice (fronts v blobs clock id a)))
+            by true volume = sym (places-law volume) ∙ (λ i. ramped_on (ramp_length v id) (numbers-now equal i) (length (only_slice (slices i))))
+            by false other =
+                let keeps = (and_parts (live v id) (is_of (graph_of t) keeps_numbers id) equal).1 in
+                sym (numbers-law (keeps-equaliser (graph_of t) id keeps other)) ∙ (λ i. numbers_after (blob_in v id) (channels_of v id) (numbers-now equal i) (only_slice (slices i)))
+
+        histories-each-moved : (hs : List History) → AllByRecursion (λ (h : History). remembers (view_by began) h.comp ≡ true) hs → map (with_numbers id (eq_numbers_at u id)) (map (heard_history a) hs) ≡ map (heard_history (after_move v blobs clock id a)) hs
         histories-each-moved [] each = refl
         histories-each-moved (h ∷ hs) each = λ i. by (h.comp == id) refl i ∷ histories-each-moved hs each.1 i
           where
             by : (k : Bool) → (h.comp == id) ≡ k → cond k (record { comp = h.comp; numbers = eq_numbers_at u id }) (heard_history a h) ≡ heard_history (after_move v blobs clock id a) h
             by true same =
-                let equal : equalises v id ≡ true = (λ i. equalises (view-still t began stage.bare i) (sym (eqb-true h.comp id same) i)) ∙ each.0 in
-                let kind = (and_parts (live v id) (option_map_or (λ x. is_equaliser x.kind) (comp_of (graph_of t) id) false) equal).1 in
-                let numbers : eq_numbers_at u id ≡ numbers_after (blobs id) (channels_of v id) (list_of a.numbers id) (only_slice (fronts v blobs clock id a)) =
-                sym (numbers-law kind) ∙ (λ i. numbers_after (blob_in v id) (channels_of v id) (numbers-now equal i) (only_slice (slices i))) in
-                ap (history h.comp) numbers
-                ∙ sym (ap (λ q. history h.comp (cond q (numbers_after (blobs id) (channels_of v id) (list_of a.numbers id) (only_slice (fronts v blobs clock id a))) (list_of a.numbers h.comp))) (eqb-turned id h.comp ∙ same))
-            by false other = sym (ap (λ q. history h.comp (cond q (numbers_after (blobs id) (channels_of v id) (list_of a.numbers id) (only_slice (fronts v blobs clock id a))) (list_of a.numbers h.comp))) (eqb-turned id h.comp ∙ other))
+                let equal : remembers v id ≡ true = (λ i. remembers (view-still t began stage.bare i) (sym (eqb-true h.comp id same) i)) ∙ each.0 in
+                ap (history h.comp) (numbers-next equal)
+                ∙ sym (ap (λ q. history h.comp (cond q (numbers_moved v blobs clock id a id) (list_of a.numbers h.comp))) (eqb-turned id h.comp ∙ same))
+            by false other = sym (ap (λ q. history h.comp (cond q (numbers_moved v blobs clock id a id) (list_of a.numbers h.comp))) (eqb-turned id h.comp ∙ other))
 
         pub processed-stage : IsStage began start u inputs outputs (after_move v blobs clock id a)
         processed-stage = record {

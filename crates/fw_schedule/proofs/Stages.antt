@@ -1,5 +1,5 @@
 -- From one stage of a tick to the next.
-use Rattle.std.proofs.Common.{◌≡◌, refl, sym, ap, ◌∙◌, ℕ, List, [], ◌∷◌, ◌++◌, map, take, drop, filter, Bool, true, false, cond, ◌==◌, ℤ}
+use Rattle.std.proofs.Common.{◌≡◌, refl, sym, ap, ◌∙◌, ℕ, List, [], ◌∷◌, ◌++◌, map, take, drop, filter, length, Bool, true, false, cond, ◌==◌, ℤ}
 use Rattle.std.proofs.lemmas.Bool.{eqb-true, true≢false}
 use Rattle.std.specs.List.{AllByRecursion}
 use Rattle.sof_base.specs.Samples.{Frame}
@@ -8,12 +8,13 @@ use Rattle.sof_io.specs.Takes.{taken as input_taken}
 use Rattle.sof_io.specs.Puts.{with_piece}
 use Rattle.stream_law.specs.State.{View, RingView, History}
 use Rattle.stream_law.specs.Table.{table, list_of, number_of}
-use Rattle.stream_law.specs.Ways.{channels_of}
+use Rattle.stream_law.specs.Ways.{is_of, channels_of}
 use Rattle.stream_law.specs.Moves.{fed_by}
 use Rattle.stream_law.specs.Made.{only_slice}
-use Rattle.stream_law.specs.Seen.{equalises, blob_in}
+use Rattle.stream_law.specs.Seen.{is_volume, remembers, blob_in, ramp_length}
 use Rattle.stream_law.specs.Equaliser.{numbers_after}
-use Rattle.stream_law.specs.Move.{Audio, after_move, frames_moved, looked_now, fronts, made_now, bytes_moved, bytes_now, io_after}
+use Rattle.stream_law.specs.Ramps.{ramped_on}
+use Rattle.stream_law.specs.Move.{Audio, after_move, frames_moved, looked_now, fronts, made_now, numbers_moved, bytes_moved, bytes_now, io_after}
 use Rattle.fw_units.specs.declared.component.Component.{Component}
 use Rattle.fw_units.specs.Units.{numbers_by}
 use Rattle.fw_components.specs.Tables.{Tables, view_by, rings_of, histories_of}
@@ -27,16 +28,16 @@ use Rattle.fw_schedule.proofs.Moved.{io-moved, rings-still, takes-none, rings-fe
 
 -- ---- histories
 
--- each history is an equaliser's
-history-each : (v : View) (cs : List Component) → AllByRecursion (λ (h : History). equalises v h.comp ≡ true) (map (λ c. record { comp = c.id; numbers = numbers_by c.unit c.channels }) (filter (λ c. equalises v c.id) cs))
+-- each history is of one that keeps numbers
+history-each : (v : View) (cs : List Component) → AllByRecursion (λ (h : History). remembers v h.comp ≡ true) (map (λ c. record { comp = c.id; numbers = numbers_by c.unit c.channels }) (filter (λ c. remembers v c.id) cs))
 history-each v [] = tt
-history-each v (c ∷ cs) = by (equalises v c.id) refl (history-each v cs)
+history-each v (c ∷ cs) = by (remembers v c.id) refl (history-each v cs)
   where
-    by : (h : Bool) → equalises v c.id ≡ h → AllByRecursion (λ (h : History). equalises v h.comp ≡ true) (map (λ c. record { comp = c.id; numbers = numbers_by c.unit c.channels }) (filter (λ c. equalises v c.id) cs)) → AllByRecursion (λ (h : History). equalises v h.comp ≡ true) (map (λ c. record { comp = c.id; numbers = numbers_by c.unit c.channels }) (cond h (c ∷ filter (λ c. equalises v c.id) cs) (filter (λ c. equalises v c.id) cs)))
+    by : (h : Bool) → remembers v c.id ≡ h → AllByRecursion (λ (h : History). remembers v h.comp ≡ true) (map (λ c. record { comp = c.id; numbers = numbers_by c.unit c.channels }) (filter (λ c. remembers v c.id) cs)) → AllByRecursion (λ (h : History). remembers v h.comp ≡ true) (map (λ c. record { comp = c.id; numbers = numbers_by c.unit c.channels }) (cond h (c ∷ filter (λ c. remembers v c.id) cs) (filter (λ c. remembers v c.id) cs)))
     by true is rest = (is, rest)
     by false is rest = rest
 
-pub histories-each : (t : Tables) → AllByRecursion (λ (h : History). equalises (view_by t) h.comp ≡ true) (histories_of t)
+pub histories-each : (t : Tables) → AllByRecursion (λ (h : History). remembers (view_by t) h.comp ≡ true) (histories_of t)
 histories-each t = history-each (view_by t) t.comps
 
 -- histories by numbers that are the same at each
@@ -49,7 +50,7 @@ all-same a b same [] = tt
 all-same a b same (h ∷ hs) = (same h.comp, all-same a b same hs)
 
 histories-view : (t u : Tables) → t.comps ≡ u.comps → view_by t ≡ view_by u → histories_of t ≡ histories_of u
-histories-view t u comps view = λ i. map (λ c. record { comp = c.id; numbers = numbers_by c.unit c.channels }) (filter (λ c. equalises (view i) c.id) (comps i))
+histories-view t u comps view = λ i. map (λ c. record { comp = c.id; numbers = numbers_by c.unit c.channels }) (filter (λ c. remembers (view i) c.id) (comps i))
 
 -- ---- rings
 
@@ -88,20 +89,29 @@ module _ (began : Tables) (start : Io) (t : Tables) (inputs : List InputView) (o
   numbers-still : only_slice (fronts v blobs clock c a) ≡ [] → (x : ℕ) → list_of a.numbers x ≡ list_of next.numbers x
   numbers-still none x = by (c == x) refl
     where
-      by : (h : Bool) → (c == x) ≡ h → list_of a.numbers x ≡ cond h (numbers_after (blobs c) (channels_of v c) (list_of a.numbers c) (only_slice (fronts v blobs clock c a))) (list_of a.numbers x)
-      by true h = sym (ap (numbers_after (blobs c) (channels_of v c) (list_of a.numbers c)) none ∙ ap (list_of a.numbers) (eqb-true c x h))
+      both : (k : Bool) → cond k (list_of a.numbers c) (list_of a.numbers c) ≡ list_of a.numbers c
+      both true = refl
+      both false = refl
+
+      none_taken : numbers_moved v blobs clock c a c ≡ list_of a.numbers c
+      none_taken =
+          ap (λ (fs : List Frame). cond (is_of v.graph is_volume c) (ramped_on (ramp_length v c) (list_of a.numbers c) (length fs)) (numbers_after (blobs c) (channels_of v c) (list_of a.numbers c) fs)) none
+          ∙ both (is_of v.graph is_volume c)
+
+      by : (h : Bool) → (c == x) ≡ h → list_of a.numbers x ≡ cond h (numbers_moved v blobs clock c a c) (list_of a.numbers x)
+      by true h = sym (none_taken ∙ ap (list_of a.numbers) (eqb-true c x h))
       by false h = refl
 
-  -- or that are no equaliser's
-  pub numbers-plain : equalises v c ≡ false → AllByRecursion (λ (h : History). list_of a.numbers h.comp ≡ list_of next.numbers h.comp) (histories_of began)
+  -- or that are of another
+  pub numbers-plain : remembers v c ≡ false → AllByRecursion (λ (h : History). list_of a.numbers h.comp ≡ list_of next.numbers h.comp) (histories_of began)
   numbers-plain plain = each (histories_of began) (histories-each began)
     where
-      each : (hs : List History) → AllByRecursion (λ (h : History). equalises (view_by began) h.comp ≡ true) hs → AllByRecursion (λ (h : History). list_of a.numbers h.comp ≡ list_of next.numbers h.comp) hs
+      each : (hs : List History) → AllByRecursion (λ (h : History). remembers (view_by began) h.comp ≡ true) hs → AllByRecursion (λ (h : History). list_of a.numbers h.comp ≡ list_of next.numbers h.comp) hs
       each [] are = tt
       each (h ∷ hs) are = (by (c == h.comp) refl, each hs are.1)
         where
-          by : (k : Bool) → (c == h.comp) ≡ k → list_of a.numbers h.comp ≡ cond k (numbers_after (blobs c) (channels_of v c) (list_of a.numbers c) (only_slice (fronts v blobs clock c a))) (list_of a.numbers h.comp)
-          by true k = absurd (true≢false (sym are.0 ∙ (λ i. equalises (sym (view-still t began stage.bare) i) (sym (eqb-true c h.comp k) i)) ∙ plain))
+          by : (k : Bool) → (c == h.comp) ≡ k → list_of a.numbers h.comp ≡ cond k (numbers_moved v blobs clock c a c) (list_of a.numbers h.comp)
+          by true k = absurd (true≢false (sym are.0 ∙ (λ i. remembers (sym (view-still t began stage.bare) i) (sym (eqb-true c h.comp k) i)) ∙ plain))
           by false k = refl
 
   inputs-next : (m : ℕ) → bytes_moved v blobs clock c a ≡ m → (io_after start next).inputs ≡ input_taken c m inputs
@@ -143,7 +153,7 @@ module _ (began : Tables) (start : Io) (t : Tables) (inputs : List InputView) (o
   }
 
   -- one that feeds nothing takes its frames from the buffer that it looks at
-  pub drained : (b n : ℕ) (piece : List ℕ) → equalises v c ≡ false → looked_now v blobs clock c a ≡ b ∷ [] → fed_by v c ≡ [] → frames_moved v blobs clock c a ≡ n → bytes_moved v blobs clock c a ≡ 0 → bytes_now v blobs clock c a ≡ piece → IsStage began start (with_taken b n t) inputs (with_piece c piece outputs) next
+  pub drained : (b n : ℕ) (piece : List ℕ) → remembers v c ≡ false → looked_now v blobs clock c a ≡ b ∷ [] → fed_by v c ≡ [] → frames_moved v blobs clock c a ≡ n → bytes_moved v blobs clock c a ≡ 0 → bytes_now v blobs clock c a ≡ piece → IsStage began start (with_taken b n t) inputs (with_piece c piece outputs) next
   drained b n piece plain look feed count moved wrote = record {
     bare = bare-taken b n t ∙ stage.bare;
     rings =

@@ -5,27 +5,28 @@ use Rattle.std.specs.Prelude.{find}
 use Rattle.std.specs.List.{AllByRecursion}
 use Rattle.std.specs.Option.{option_map_or}
 use Rattle.sof_base.specs.Samples.{Frame}
+use Rattle.sof_base.specs.Ramps.{ramp_frames}
 use Rattle.fw_heap.specs.declared.run.Home.{Home}
 use Rattle.stream_law.specs.declared.stream.StreamView.{StreamView}
 use Rattle.stream_law.specs.State.{RingView, View}
 use Rattle.stream_law.specs.Table.{list_of}
 use Rattle.stream_law.specs.Order.{is_among}
 use Rattle.stream_law.specs.Placed.{placed}
-use Rattle.stream_law.specs.Ways.{live, channels_of}
+use Rattle.stream_law.specs.Ways.{live, rate_of, channels_of}
 use Rattle.stream_law.specs.Move.{Audio}
 use Rattle.row_laws.specs.Wired.{IsWired, HasJoinedSides}
 use Rattle.row_laws.specs.Played.{AreStreamsPlayable}
 use Rattle.fw_units.specs.declared.component.Unit as units
-use Rattle.fw_units.specs.declared.component.Unit.TheVariants.{Buffer}
+use Rattle.fw_units.specs.declared.component.Unit.TheVariants.{Volume, Buffer}
 use Rattle.fw_units.specs.declared.component.Component.{Component}
-use Rattle.fw_units.specs.Units.{piece_of, comp_by, edge_by, kind_by, setting_by, streams_by, with_stream_by, ring_by, unit_frames, piece_by, pieces_by}
+use Rattle.fw_units.specs.Units.{piece_of, comp_by, edge_by, kind_by, setting_by, ramp_by, streams_by, with_stream_by, ring_by, unit_frames, piece_by, pieces_by}
 use Rattle.fw_components.specs.Tables.{Tables, graph_of, view_by, streams_of, rings_of, carved_pieces}
 use Rattle.fw_units.specs.Changes.{has_id, IsOfHome}
 use Rattle.fw_components.specs.Kept.{IsKept, IsBuffering}
 use Rattle.fw_units.specs.Frames.{channels_by, taken_unit, taken_at, pushed_unit, pushed_at}
 use Rattle.fw_components.specs.Frames.{with_taken, pushed, with_frames}
 use Rattle.fw_units.specs.Processed.{drained_at, run_unit, run_at}
-use Rattle.fw_components.specs.Processed.{processed}
+use Rattle.fw_components.specs.Processed.{processed, ramp_frames_by}
 use Rattle.fw_components.specs.States.{AreOf}
 use Rattle.fw_schedule.specs.Ticks.{CanTick}
 use Rattle.fw_schedule.specs.Stages.{bare_unit, bare_by, bare_of, heard_ring}
@@ -39,15 +40,18 @@ map-same view change same (c ∷ cs) = λ i. same c i ∷ map-same view change s
 
 taken-bare : (n : ℕ) (u : units.Unit) → bare_unit (taken_unit n u) ≡ bare_unit u
 taken-bare n (Buffer size ring source sink) = refl
+taken-bare n (Volume gains ramp from done frames piece) = refl
 taken-bare n u = refl
 
 pushed-bare : (fs : List Frame) (w : List ℤ) (u : units.Unit) → bare_unit (pushed_unit fs w u) ≡ bare_unit u
 pushed-bare fs w (Buffer size ring source sink) = refl
+pushed-bare fs w (Volume gains ramp from done frames piece) = refl
 pushed-bare fs w u = refl
 
-run-bare : (w : List ℤ) (u : units.Unit) → bare_unit (run_unit w u) ≡ bare_unit u
-run-bare w (Buffer size ring source sink) = refl
-run-bare w u = refl
+run-bare : (w : List ℤ) (n : ℕ) (u : units.Unit) → bare_unit (run_unit w n u) ≡ bare_unit u
+run-bare w n (Buffer size ring source sink) = refl
+run-bare w n (Volume gains ramp from done frames piece) = refl
+run-bare w n u = refl
 
 -- a component whose unit changes where a test holds
 where-bare : (f : units.Unit → units.Unit) → ((u : units.Unit) → bare_unit (f u) ≡ bare_unit u) → (h : Bool) (c : Component) → bare_by (cond h (record { id = c.id; pipe = c.pipe; channels = c.channels; unit = f c.unit }) c) ≡ bare_by c
@@ -65,22 +69,29 @@ bare-pushed b fs w t = bare-changed t t.comps (map (pushed_at b fs w) t.buffers)
 
 pub bare-processed : (id n fed : ℕ) (looked : List ℕ) (fs : List Frame) (v w : List ℤ) (t : Tables) → bare_of (processed id looked n fed fs v w t) ≡ bare_of t
 bare-processed id n fed looked fs v w t =
-    bare-changed t (map (run_at id w) t.comps) (map (pushed_at fed fs v) (map (drained_at looked n) t.buffers))
-    (map-same bare_by (run_at id w) (λ c. where-bare (run_unit w) (run-bare w) (c.id == id) c) t.comps)
+    bare-changed t (map (run_at id w n) t.comps) (map (pushed_at fed fs v) (map (drained_at looked n) t.buffers))
+    (map-same bare_by (run_at id w n) (λ c. where-bare (run_unit w n) (run-bare w n) (c.id == id) c) t.comps)
     (map-same bare_by (pushed_at fed fs v) (λ c. where-bare (pushed_unit fs v) (pushed-bare fs v) (c.id == fed) c) (map (drained_at looked n) t.buffers)
     ∙ map-same bare_by (drained_at looked n) (λ c. where-bare (taken_unit n) (taken-bare n) (is_among looked c.id) c) t.buffers)
 
 -- ---- what is read of what is bare
 
+ramp-bare : (u : units.Unit) → ramp_by (bare_unit u) ≡ ramp_by u
+ramp-bare (Buffer size ring source sink) = refl
+ramp-bare (Volume gains ramp from done frames piece) = refl
+ramp-bare u = refl
+
 bare-comp : (c : Component) → comp_by (bare_by c) ≡ comp_by c
-bare-comp c = λ i. record { id = c.id; kind = kind c.unit i; pipe = c.pipe; setting = setting c.unit i }
+bare-comp c = λ i. record { id = c.id; kind = kind c.unit i; pipe = c.pipe; setting = setting c.unit i; ramp = ramp-bare c.unit i }
   where
     kind : (u : units.Unit) → kind_by (bare_unit u) ≡ kind_by u
     kind (Buffer size ring source sink) = refl
+    kind (Volume gains ramp from done frames piece) = refl
     kind u = refl
 
     setting : (u : units.Unit) → setting_by (bare_unit u) ≡ setting_by u
     setting (Buffer size ring source sink) = refl
+    setting (Volume gains ramp from done frames piece) = refl
     setting u = refl
 
 bare-edge : (c : Component) → edge_by (bare_by c) ≡ edge_by c
@@ -88,6 +99,7 @@ bare-edge c = by c.unit
   where
     by : (u : units.Unit) → edge_by (record { id = c.id; pipe = c.pipe; channels = c.channels; unit = bare_unit u }) ≡ edge_by (record { id = c.id; pipe = c.pipe; channels = c.channels; unit = u })
     by (Buffer size ring source sink) = refl
+    by (Volume gains ramp from done frames piece) = refl
     by u = refl
 
 graph-bare : (t : Tables) → graph_of (bare_of t) ≡ graph_of t
@@ -95,6 +107,7 @@ graph-bare t = λ i. record { comps = map-same comp_by bare_by bare-comp t.comps
 
 bare-stream : (id : ℕ) (u : units.Unit) (ss : List StreamView) → with_stream_by id (bare_unit u) ss ≡ with_stream_by id u ss
 bare-stream id (Buffer size ring source sink) ss = refl
+bare-stream id (Volume gains ramp from done frames piece) ss = refl
 bare-stream id u ss = refl
 
 streams-bare : (cs : List Component) → streams_by (map bare_by cs) ≡ streams_by cs
@@ -117,6 +130,7 @@ bare-piece c = by c.unit
   where
     by : (u : units.Unit) → piece_by (record { id = c.id; pipe = c.pipe; channels = c.channels; unit = bare_unit u }) ≡ piece_by (record { id = c.id; pipe = c.pipe; channels = c.channels; unit = u })
     by (Buffer size ring source sink) = refl
+    by (Volume gains ramp from done frames piece) = refl
     by u = refl
 
 pieces-front : (cs ds es : List Component) → pieces_by ds ≡ pieces_by es → pieces_by (map bare_by cs ++ ds) ≡ pieces_by (cs ++ es)
@@ -131,6 +145,7 @@ pieces-still t u same = sym (pieces-bare t) ∙ ap carved_pieces same ∙ pieces
 
 home-bare : (u : units.Unit) → (piece_of (bare_unit u)).home ≡ (piece_of u).home
 home-bare (Buffer size ring source sink) = refl
+home-bare (Volume gains ramp from done frames piece) = refl
 home-bare u = refl
 
 module _ (home : Home) where
@@ -152,7 +167,13 @@ module _ (home : Home) where
 
 channels-bare : (u : units.Unit) → channels_by (bare_unit u) ≡ channels_by u
 channels-bare (Buffer size ring source sink) = refl
+channels-bare (Volume gains ramp from done frames piece) = refl
 channels-bare u = refl
+
+length-bare : (u : units.Unit) → ramp_frames_by (bare_unit u) ≡ ramp_frames_by u
+length-bare (Buffer size ring source sink) = refl
+length-bare (Volume gains ramp from done frames piece) = refl
+length-bare u = refl
 
 module _ (v : View) where
   abbrev AreWide : List Component → Type 0
@@ -160,6 +181,9 @@ module _ (v : View) where
 
   abbrev AreFramed : List Component → Type 0
   AreFramed cs = AllByRecursion (λ c. live v c.id ≡ true → channels_by c.unit ≡ channels_of v c.id) cs
+
+  abbrev AreTied : List Component → Type 0
+  AreTied cs = AllByRecursion (λ c. live v c.id ≡ true → ramp_frames_by c.unit ≡ ramp_frames (ramp_by c.unit) (rate_of v c.id)) cs
 
   wide-in : (cs : List Component) → AreWide cs → AreWide (map bare_by cs)
   wide-in [] all = tt
@@ -177,20 +201,28 @@ module _ (v : View) where
   framed-out [] all = tt
   framed-out (c ∷ cs) all = (λ now. sym (channels-bare c.unit) ∙ all.0 now, framed-out cs all.1)
 
+  tied-in : (cs : List Component) → AreTied cs → AreTied (map bare_by cs)
+  tied-in [] all = tt
+  tied-in (c ∷ cs) all = (λ now. length-bare c.unit ∙ all.0 now ∙ ap (λ r. ramp_frames r (rate_of v c.id)) (sym (ramp-bare c.unit)), tied-in cs all.1)
+
+  tied-out : (cs : List Component) → AreTied (map bare_by cs) → AreTied cs
+  tied-out [] all = tt
+  tied-out (c ∷ cs) all = (λ now. sym (length-bare c.unit) ∙ all.0 now ∙ ap (λ r. ramp_frames r (rate_of v c.id)) (ramp-bare c.unit), tied-out cs all.1)
+
 -- what CanTick says of a view and tables
 abbrev CanBy : View → Tables → Type 0
-CanBy v t = AreWide v t.comps × AreFramed v t.buffers
+CanBy v t = AreWide v t.comps × AreFramed v t.buffers × AreTied v t.comps
 
 pub can-still : (t u : Tables) → bare_of t ≡ bare_of u → CanTick t → CanTick u
 can-still t u same can =
     let view = view-still t u same in
-    let bare : CanBy (view_by t) (bare_of t) = (wide-in (view_by t) t.comps can.channels.comps, framed-in (view_by t) t.buffers can.channels.buffers) in
+    let bare : CanBy (view_by t) (bare_of t) = (wide-in (view_by t) t.comps can.shapes.comps, framed-in (view_by t) t.buffers can.shapes.buffers, tied-in (view_by t) t.comps can.shapes.ramps) in
     let moved : CanBy (view_by u) (bare_of u) = subst (λ (p : View × Tables). CanBy p.0 p.1) (λ i. (view i, same i)) bare in
     record {
       wired = subst (λ (v : View). IsWired v.graph) view can.wired;
       linked = subst (λ (v : View). HasJoinedSides v.graph) view can.linked;
       played = subst AreStreamsPlayable view can.played;
-      channels = record { comps = wide-out (view_by u) u.comps moved.0; buffers = framed-out (view_by u) u.buffers moved.1 };
+      shapes = record { comps = wide-out (view_by u) u.comps moved.0; buffers = framed-out (view_by u) u.buffers moved.1; ramps = tied-out (view_by u) u.comps moved.2 };
     }
 
 -- ---- rings

@@ -8,15 +8,16 @@ use Rattle.stream_law.specs.Table.{number_of, list_of}
 use Rattle.stream_law.specs.Move.{Audio, io_after, after_move}
 use Rattle.stream_law.specs.Seen.{blob_in}
 use Rattle.fw_units.specs.declared.component.Unit as units
-use Rattle.fw_units.specs.declared.component.Unit.TheVariants.{Eq, Buffer}
+use Rattle.fw_units.specs.declared.component.Unit.TheVariants.{Volume, Eq, Buffer}
 use Rattle.fw_units.specs.declared.component.Component.{Component}
 use Rattle.fw_components.specs.Tables.{Tables, view_by, rings_of, histories_of, staging_of}
 use Rattle.fw_units.specs.Frames.{piece_with_words}
 
--- a unit without what moves: a ring is empty, and it and an equaliser have no words in their pieces
+-- a unit without what moves: a ring is empty, it and an equaliser have no words in their pieces, and of a volume's ramp nothing is done
 abbrev pub bare_unit : units.Unit → units.Unit
 bare_unit (Eq eq next remaining) = Eq (record { blob = eq.blob; piece = piece_with_words [] eq.piece }) next remaining
 bare_unit (Buffer size ring source sink) = Buffer size (record { frames = []; words = ring.words; channels = ring.channels; start = 0; piece = piece_with_words [] ring.piece }) source sink
+bare_unit (Volume gains ramp from done frames piece) = Volume gains ramp from 0 frames piece
 bare_unit unit = unit
 
 abbrev pub bare_by : Component → Component

@@ -15,7 +15,7 @@ use Rattle.fw_units.specs.Changes.{has_id}
 use Rattle.fw_components.specs.Kept.{IsKept}
 use Rattle.fw_components.specs.Tally.{IsSeenIn}
 use Rattle.fw_walks.specs.declared.streams.Sort.{Sort}
-use Rattle.fw_walks.specs.Streams.{is_of, any_stream, is_host_of}
+use Rattle.fw_walks.specs.Streams.{is_sort, any_stream, is_host_of}
 use Rattle.fw_places.specs.Walks.{place_in, is_marked}
 use Rattle.fw_places.specs.Charts.{AreHostsOf, is_capture_at}
 use Rattle.fw_places.proofs.Reaching.{at-place, both-true}
@@ -117,8 +117,8 @@ module _ (sort : Sort) (g : Graph) (ids : List ℕ) (cs : List Component) (liste
       by capture c.0 c.1.1.1 ∙ in-all (IsSeenIn g) cs c.0 seen c.1.0 ∙ ap (is_capture_at g) c.1.1.0
     where
       by : (h : Bool) (c : Component) → is_host_of sort h c ≡ true → h ≡ is_capture (kind_by c.unit)
-      by true c is = sym (and_parts (any_stream (is_of sort) 0 c.unit) (is_capture (kind_by c.unit)) is).1
-      by false c is = opposite (is_capture (kind_by c.unit)) (and_parts (any_stream (is_of sort) 0 c.unit) (not (is_capture (kind_by c.unit))) is).1
+      by true c is = sym (and_parts (any_stream (is_sort sort) 0 c.unit) (is_capture (kind_by c.unit)) is).1
+      by false c is = opposite (is_capture (kind_by c.unit)) (and_parts (any_stream (is_sort sort) 0 c.unit) (not (is_capture (kind_by c.unit))) is).1
         where
           opposite : (h : Bool) → not h ≡ true → false ≡ h
           opposite true e = e
@@ -126,11 +126,11 @@ module _ (sort : Sort) (g : Graph) (ids : List ℕ) (cs : List Component) (liste
 
   -- both directions together
   pub ways-both : (front back : List Bool) → Are false front → Are true back → (on : ℕ → Bool)
-      → (list_any (λ h. is_marked ids front h && on h) ids || list_any (λ h. is_marked ids back h && on h) ids) ≡ list_any (λ c. any_stream (is_of sort) 0 c.unit && on c.id) cs
+      → (list_any (λ h. is_marked ids front h && on h) ids || list_any (λ h. is_marked ids back h && on h) ids) ≡ list_any (λ c. any_stream (is_sort sort) 0 c.unit && on c.id) cs
   ways-both front back ahead behind on =
       (λ i. hosts-pass (is_host_of sort false) ids cs listed front ahead on i || hosts-pass (is_host_of sort true) ids cs listed back behind on i)
       ∙ any-or (λ c. is_host_of sort false c && on c.id) (λ c. is_host_of sort true c && on c.id) cs
-      ∙ any-each (λ c. (is_host_of sort false c && on c.id) || (is_host_of sort true c && on c.id)) (λ c. any_stream (is_of sort) 0 c.unit && on c.id) cs (λ c here. by (any_stream (is_of sort) 0 c.unit) (is_capture (kind_by c.unit)) (on c.id))
+      ∙ any-each (λ c. (is_host_of sort false c && on c.id) || (is_host_of sort true c && on c.id)) (λ c. any_stream (is_sort sort) 0 c.unit && on c.id) cs (λ c here. by (any_stream (is_sort sort) 0 c.unit) (is_capture (kind_by c.unit)) (on c.id))
     where
       by : (l k a : Bool) → (((l && not k) && a) || ((l && k) && a)) ≡ (l && a)
       by true true a = refl

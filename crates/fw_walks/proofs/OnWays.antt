@@ -8,7 +8,7 @@ use Rattle.fw_units.specs.declared.component.Unit.TheVariants.{Host, Buffer}
 use Rattle.fw_units.specs.Units.{streams_by, with_stream_by}
 use Rattle.fw_walks.specs.declared.streams.Sort.{Sort}
 use Rattle.fw_walks.specs.declared.streams.Sort.TheVariants.{All, Live, Set}
-use Rattle.fw_walks.specs.Streams.{is_of, any_stream}
+use Rattle.fw_walks.specs.Streams.{is_sort, any_stream}
 
 -- ---- tests of lists
 
@@ -38,10 +38,10 @@ any-streams p (c ∷ cs) = stream-more p c.id c.unit (streams_by cs) ∙ ap (λ 
 
 module _ (sort : Sort) (q : ℕ → Bool) where
   -- a host's stream is of a sort and passes
-  pub stream-of : (id : ℕ) (unit : units.Unit) → any_stream (λ s. is_of sort s && q s.host) id unit ≡ (any_stream (is_of sort) 0 unit && q id)
+  pub stream-of : (id : ℕ) (unit : units.Unit) → any_stream (λ s. is_sort sort s && q s.host) id unit ≡ (any_stream (is_sort sort) 0 unit && q id)
   stream-of id (Host capture phase params piece) = by sort
     where
-      by : (k : Sort) → (is_of k (record { host = id; phase = phase; params = params }) && q id) ≡ (is_of k (record { host = 0; phase = phase; params = params }) && q id)
+      by : (k : Sort) → (is_sort k (record { host = id; phase = phase; params = params }) && q id) ≡ (is_sort k (record { host = 0; phase = phase; params = params }) && q id)
       by All = refl
       by Live = refl
       by Set = refl

@@ -10,10 +10,10 @@ use Rattle.fw_walks.specs.declared.streams.Sort.{Sort}
 use Rattle.fw_walks.specs.declared.streams.Sort.TheVariants.{All, Live, Set}
 
 -- any stream, or one that is Running or Paused, or that has parameters
-abbrev pub is_of : Sort → StreamView → Bool
-is_of All s = true
-is_of Live s = is_live_phase s.phase
-is_of Set s = is_some s.params
+abbrev pub is_sort : Sort → StreamView → Bool
+is_sort All s = true
+is_sort Live s = is_live_phase s.phase
+is_sort Set s = is_some s.params
 
 -- the stream of a host passes; no other unit has one
 abbrev pub any_stream : (StreamView → Bool) → ℕ → units.Unit → Bool
@@ -22,4 +22,4 @@ any_stream p id unit = false
 
 -- the stream of a host is of a sort, and it is that of a capture, or of a playback
 abbrev pub is_host_of : Sort → Bool → parts.Component → Bool
-is_host_of sort capture c = any_stream (is_of sort) 0 c.unit && (if capture then is_capture (kind_by c.unit) else not (is_capture (kind_by c.unit)))
+is_host_of sort capture c = any_stream (is_sort sort) 0 c.unit && (if capture then is_capture (kind_by c.unit) else not (is_capture (kind_by c.unit)))

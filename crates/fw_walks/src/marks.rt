@@ -4,7 +4,7 @@ ghost use Rattle.std.specs.List.{list_any, AllByRecursion};
 ghost use Rattle.stream_law.specs.Ways.{live as is_live, on_way};
 ghost use Rattle.stream_law.specs.Order.{is_among};
 ghost use Rattle.fw_components.specs.Tables.{view_by, graph_of, streams_of};
-ghost use Rattle.fw_walks.specs.Streams.{is_of, is_host_of};
+ghost use Rattle.fw_walks.specs.Streams.{is_sort, is_host_of};
 ghost use Rattle.fw_places.specs.Charts.{IsChartOf};
 ghost use Rattle.fw_places.specs.Walks.{is_marked};
 
@@ -31,7 +31,7 @@ pub fn live_marks(registry: &Registry, places: &Places) -> [bool; 257]
 /// Marks all that is on the way of a stream of a sort.
 pub fn ways(registry: &Registry, places: &Places, sort: Sort) -> [bool; 257]
     requires { IsChartOf (graph_of registry.now) places.now }
-    ensures { (x : ℕ) → is_among places.now.ids x ≡ true → is_marked places.now.ids result x ≡ list_any (λ s. is_of sort s && on_way (graph_of registry.now) s.host x) (streams_of registry.now) }
+    ensures { (x : ℕ) → is_among places.now.ids x ≡ true → is_marked places.now.ids result x ≡ list_any (λ s. is_sort sort s && on_way (graph_of registry.now) s.host x) (streams_of registry.now) }
 {
     let comps = registry.comps();
     let mut marks = mark_hosts(comps, places, sort, false);

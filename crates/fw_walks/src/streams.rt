@@ -2,7 +2,7 @@
 ghost use Rattle.std.specs.Prelude.{◌≡◌};
 ghost use Rattle.stream_law.specs.Ways.{live as is_live, active as is_active};
 ghost use Rattle.fw_components.specs.Tables.{view_by};
-ghost use Rattle.fw_walks.specs.Streams.{is_of, any_stream};
+ghost use Rattle.fw_walks.specs.Streams.{is_sort, any_stream};
 
 use fw_components::{Registry, Unit};
 use stream_law::Phase;
@@ -31,7 +31,7 @@ pub fn active(registry: &Registry, id: u32) -> bool
 
 /// Whether a unit is a host whose stream is of a sort.
 pub fn has_stream(unit: &Unit, sort: Sort) -> bool
-    ensures { result ≡ any_stream (is_of sort) 0 unit.now }
+    ensures { result ≡ any_stream (is_sort sort) 0 unit.now }
 {
     match unit {
         Unit::Host { phase, params, .. } => match sort {

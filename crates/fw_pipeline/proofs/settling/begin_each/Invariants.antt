@@ -4,4 +4,4 @@ use Rattle.fw_pipeline.proofs.Begins.{FirstBegun}
 use Rattle.fw_pipeline.proofs.settling.begin_each.Given as goal
 
 abbrev pub invariant-loop-id : goal.invariant-loop-id
-invariant-loop-id l = FirstBegun l.p.channels (begins_by l.places.ids l.before l.after) (take l.id-index l.places.ids) l.initial.registry l.registry
+invariant-loop-id l = FirstBegun l.p.channels l.p.rate (begins_by l.places.ids l.before l.after) (take l.id-index l.places.ids) l.initial.registry l.registry

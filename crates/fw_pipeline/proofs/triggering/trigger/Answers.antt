@@ -34,7 +34,7 @@ begin_each-requires-clause-ids c =
 
 pub end_each-requires-clause-live : goal.end_each-requires-clause-live
 end_each-requires-clause-live c = λ x.
-    c.live_marks-after.ensures x ∙ ap (λ (v : View). live v x) (sym (seen-begun c.in-Some.p.channels _ c.set_stream.new.self c.begin_each.new.registry c.begin_each.ensures.comps c.begin_each.ensures.buffers c.begin_each.ensures.pipes c.begin_each.ensures.joins))
+    c.live_marks-after.ensures x ∙ ap (λ (v : View). live v x) (sym (seen-begun c.in-Some.p.channels c.in-Some.p.rate _ c.set_stream.new.self c.begin_each.new.registry c.begin_each.ensures.comps c.begin_each.ensures.buffers c.begin_each.ensures.pipes c.begin_each.ensures.joins))
 
 pub returns-clause-done : goal.returns-clause-done
 returns-clause-done c =

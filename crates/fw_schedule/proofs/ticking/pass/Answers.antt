@@ -9,7 +9,7 @@ use Rattle.fw_components.specs.Processed.{made_at, eq_numbers_at, processed, wit
 use Rattle.fw_schedule.specs.Stages.{bare_of}
 use Rattle.fw_schedule.proofs.Still.{bare-processed}
 use Rattle.fw_schedule.proofs.Along.{there-is}
-use Rattle.fw_schedule.proofs.Processed.{is_maker, fed-at, looked-distinct, looked-one, moves, wide, inlets, outlet, looked-there, unlooked, processed-stage}
+use Rattle.fw_schedule.proofs.Processed.{is_maker, fed-at, looked-distinct, looked-one, moves, wide, long, inlets, outlet, looked-there, unlooked, processed-stage}
 use Rattle.fw_schedule.proofs.ticking.pass.Goals as goal
 
 not-empty : (xs : List ℕ) → (length xs == 0) ≡ false → is_empty xs ≡ false
@@ -107,11 +107,13 @@ returns-clause-moved c = λ clock inputs outputs run quota began start a ends st
     let tables : u ≡ processed id looked n b fs w o t = c.process.ensures.tables in
     let able = moves t kept can id there now (length looked) (λ plain. ap length are ∙ looked-one t kept can id there now (λ b. length (held_frames t b)) plain) in
     let shape = sym (wide t kept can id there now) in
+    let ramps = long t kept can id there now in
     let some : is_empty looked ≡ false = not-empty looked (sym c.is_empty.ensures ∙ c.if-is_empty.false) in
     processed-stage t kept can id there now began start inputs outputs a ends stage clock run b is looked are some n c.free.result most c.free.ensures (c.min-bound.ensures ∙ ap (λ q. min q c.free.result) quota) count u
     (ap bare_of tables ∙ bare-processed id n b looked fs w o t)
     (ap rings_of tables ∙ c.moves_are_seen.ensures.rings id b n looked fs w o t kept)
     (subst (λ (u : Tables). histories_of u ≡ map (with_numbers id (eq_numbers_at u id)) (histories_of t)) (sym tables) (c.moves_are_seen.ensures.histories id b n looked fs w o t kept))
     (ap staging_of tables ∙ c.moves_are_seen.ensures.staging id b n looked fs w o t kept (subst (λ (u : Tables). staged_in u.comps id ≡ staged_in t.comps id) tables c.process.ensures.staged))
-    (λ read. c.moves_are_ticks.ensures.frames id n looked read t able shape)
+    (λ read. c.moves_are_ticks.ensures.frames id n looked read t able shape (λ volume. ramps))
     (λ kind. c.moves_are_ticks.ensures.numbers id n looked t kind shape ∙ sym c.process.ensures.numbers)
+    (λ kind. c.moves_are_ticks.ensures.places id n looked t kind ramps ∙ sym c.process.ensures.numbers)

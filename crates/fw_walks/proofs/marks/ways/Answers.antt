@@ -7,7 +7,7 @@ use Rattle.fw_components.specs.Tables.{graph_of}
 use Rattle.fw_components.proofs.HostWays.{all-seen}
 use Rattle.fw_places.specs.Walks.{place_in, is_marked}
 use Rattle.fw_places.proofs.Ways.{any-each}
-use Rattle.fw_walks.specs.Streams.{is_of, any_stream, is_host_of}
+use Rattle.fw_walks.specs.Streams.{is_sort, any_stream, is_host_of}
 use Rattle.fw_walks.proofs.OnWays.{any-streams, stream-of}
 use Rattle.fw_walks.proofs.HostMarks.{hosts-listed, hosts-of, ways-both}
 use Rattle.fw_walks.proofs.marks.ways.Goals as goal
@@ -30,5 +30,5 @@ returns c =
     c.add.ensures.each (place_in ids x)
     ∙ (λ i. c.ways.ensures g c.requires (hosts-of sort g ids t.comps listed seen false c.mark_hosts-marks.result ahead) x there i || c.ways-2.ensures g c.requires (hosts-of sort g ids t.comps listed seen true c.mark_hosts-behind.result behind) x there i)
     ∙ ways-both sort g ids t.comps listed seen c.mark_hosts-marks.result c.mark_hosts-behind.result ahead behind (λ h. on_way g h x)
-    ∙ any-each (λ (d : Component). any_stream (is_of sort) 0 d.unit && on_way g d.id x) (λ (d : Component). any_stream (λ s. is_of sort s && on_way g s.host x) d.id d.unit) t.comps (λ d here. sym (stream-of sort (λ host. on_way g host x) d.id d.unit))
-    ∙ sym (any-streams (λ s. is_of sort s && on_way g s.host x) t.comps)
+    ∙ any-each (λ (d : Component). any_stream (is_sort sort) 0 d.unit && on_way g d.id x) (λ (d : Component). any_stream (λ s. is_sort sort s && on_way g s.host x) d.id d.unit) t.comps (λ d here. sym (stream-of sort (λ host. on_way g host x) d.id d.unit))
+    ∙ sym (any-streams (λ s. is_sort sort s && on_way g s.host x) t.comps)

@@ -94,7 +94,7 @@ module _ (plan : Plan) (sound : IsSound plan) (kept : Record) (is : IsRecordOf p
     sees : Sees f (record_view plan now) (Some id) f'
     sees =
         let s = seen-sees f (record_view plan now) (Some id) rings in
-        subst (Sees f (record_view plan now) (Some id)) (sym made) (record { clock = s.clock; view = s.view; buffers = s.buffers; rings = s.rings; equalisers = s.equalisers; histories = s.histories })
+        subst (Sees f (record_view plan now) (Some id)) (sym made) (record { clock = s.clock; view = s.view; buffers = s.buffers; rings = s.rings; remembered = s.remembered; histories = s.histories })
 
     blob-stands : (whole : List (ℕ × List ℕ)) (inputs : List InputView) (before : List Moment) (stood : Stands (Some f) whole inputs before) →
         (after_it : Stands (Some f') whole inputs (before ++ Now (record_view plan now) (Some id) ∷ [])) × Leads whole stood.past (Now (record_view plan now) (Some id) ∷ []) after_it.past

@@ -11,10 +11,11 @@ use Rattle.stream_law.specs.declared.graph.Kind.TheVariants as kinds
 use Rattle.stream_law.specs.declared.graph.Setting.{Setting}
 use Rattle.stream_law.specs.declared.graph.Setting.TheVariants as settings
 use Rattle.stream_law.specs.State.{FwState}
-use Rattle.stream_law.specs.Ways.{comp_of}
+use Rattle.stream_law.specs.Ways.{comp_of, is_of}
+use Rattle.stream_law.specs.Seen.{is_volume}
 use Rattle.ipc3_model.specs.declared.message.Message.TheVariants.{SetValue, GetValue}
 use Rattle.mbox_link.specs.Step as fw
-use Rattle.mbox_link.specs.Step.{row, is_used, has_comp, has_edge, has_pipe, with_comps, with_setting, no_device, invalid}
+use Rattle.mbox_link.specs.Step.{row, is_used, has_comp, has_edge, has_pipe, with_setting_at, no_device, invalid}
 use Rattle.tplg_plan.specs.declared.plans.ControlPlan.{ControlPlan}
 use Rattle.tplg_plan.specs.declared.plans.ControlKind.{ControlKind}
 use Rattle.tplg_plan.specs.declared.plans.ControlKind.TheVariants.{Volume, Choice, Blob}
@@ -31,6 +32,7 @@ use Rattle.host_widgets.proofs.PartFacts.{none-empty}
 use Rattle.host_ctl.specs.ControlOrders.{control_answer}
 use Rattle.host_ctl.specs.ControlAnswers.{MaySet, value_command, setting_answer}
 use Rattle.host_ctl.proofs.ControlsThere.{Was}
+use Rattle.host_ctl.proofs.PutShows.{put_state}
 
 -- a control of an id
 abbrev pub control : ℕ → ControlKind → ControlPlan
@@ -49,12 +51,12 @@ values_by c (Blob most initial) = []
 
 -- values that a component takes are set
 set-answers : (f : FwState) (id command : ℕ) (vs : List ℕ) (x : Comp) (s : Setting) → comp_of f.graph id ≡ Some x → fw.new_setting x.kind x.setting command vs ≡ Some s →
-    row f (SetValue id command vs) ≡ Ok (record f { graph = with_comps (map (with_setting id s) f.graph.comps) f.graph })
+    row f (SetValue id command vs) ≡ Ok (put_state f (with_setting_at f id s) id (is_of f.graph is_volume id))
 set-answers f id command vs x s there new =
     by (is_used f.graph id) (option_and_then (λ (c : Comp). fw.new_setting c.kind c.setting command vs) (comp_of f.graph id)) (used-comp f.graph id x there)
     (ap (option_and_then (λ (c : Comp). fw.new_setting c.kind c.setting command vs)) there ∙ new)
   where
-    by : (b : Bool) (o : Option Setting) → b ≡ true → o ≡ Some s → cond (not b) (Err no_device) (fw.value_set f id o) ≡ Ok (record f { graph = with_comps (map (with_setting id s) f.graph.comps) f.graph })
+    by : (b : Bool) (o : Option Setting) → b ≡ true → o ≡ Some s → cond (not b) (Err no_device) (fw.value_set f id o) ≡ Ok (put_state f (with_setting_at f id s) id (is_of f.graph is_volume id))
     by b o used is = rw (used, is) refl
 
 gains-new : (gs vs : List ℕ) → length vs ≡ length gs → AreGains vs → fw.new_setting kinds.Volume (settings.Gains gs) 0 vs ≡ Some (settings.Gains vs)

@@ -2,6 +2,7 @@
 use Rattle.std.proofs.Common.{◌≡◌, refl, sym, ap, ◌∙◌, subst, ℕ, Bool, true, false, List, [], ◌∷◌, Option, Some, None, Ok, Err, map, length, ◌==◌, ◌&&◌, find, zip, get_or, option_map, option_and_then}
 use Rattle.std.specs.Prelude.{if◌then◌else◌, not, nat_le}
 use Rattle.std.specs.List.{list_all, AllByRecursion}
+use Rattle.std.specs.Option.{option_map_or}
 use Rattle.std.specs.Cmp.{nat_eq_equiv}
 use Rattle.std.proofs.lemmas.Bool.{false≢true, eqb-true}
 use Rattle.stream_law.specs.declared.graph.Kind.{Kind}
@@ -10,9 +11,10 @@ use Rattle.stream_law.specs.declared.graph.Setting.{Setting}
 use Rattle.stream_law.specs.declared.graph.Setting.TheVariants as settings
 use Rattle.stream_law.specs.declared.graph.Comp.{Comp}
 use Rattle.stream_law.specs.State.{FwState, View, view_of}
-use Rattle.stream_law.specs.Ways.{comp_of}
+use Rattle.stream_law.specs.Ways.{comp_of, is_of}
+use Rattle.stream_law.specs.Seen.{seen, is_volume}
 use Rattle.mbox_link.specs.Step as fw
-use Rattle.mbox_link.specs.Step.{row, with_setting, with_comps, no_device}
+use Rattle.mbox_link.specs.Step.{row, with_setting, with_setting_at, with_comps, no_device}
 use Rattle.tplg_plan.specs.declared.plans.Plan.{Plan}
 use Rattle.tplg_plan.specs.declared.plans.ControlPlan.{ControlPlan}
 use Rattle.tplg_plan.specs.declared.plans.ControlKind.{ControlKind}
@@ -74,14 +76,14 @@ module _ (plan : Plan) (kept : Record) (comp : ℕ) (g : ControlRec → ControlR
   now = with_control plan comp g kept
 
   one-set : (c : Comp) → ((c.id == comp) ≡ true → c.kind ≡ kind) → (b : Bool) → (c.id == comp) ≡ b → (if b then record (set_comp plan kept c) { setting = setting } else set_comp plan kept c) ≡ set_comp plan now c
-  one-set c is_kind true same = λ i. record { id = c.id; kind = c.kind; pipe = c.pipe; setting = of_it i }
+  one-set c is_kind true same = λ i. record { id = c.id; kind = c.kind; pipe = c.pipe; setting = of_it i; ramp = c.ramp }
     where
       of_it : setting ≡ record_setting c.kind (control_at plan now c.id)
       of_it = sym at ∙ (λ i. record_setting (sym (is_kind same) i) (control_at plan now (same_id i)))
         where
           same_id : comp ≡ c.id
           same_id = sym (eqb-true c.id comp same)
-  one-set c is_kind false other = λ i. record { id = c.id; kind = c.kind; pipe = c.pipe; setting = record_setting c.kind (sym (elsewhere-at comp g c.id other plan.controls kept.controls) i) }
+  one-set c is_kind false other = λ i. record { id = c.id; kind = c.kind; pipe = c.pipe; setting = record_setting c.kind (sym (elsewhere-at comp g c.id other plan.controls kept.controls) i); ramp = c.ramp }
 
   pub all-set : (comps : List Comp) → AreKind comp kind comps → map (with_setting comp setting) (map (set_comp plan kept) comps) ≡ map (set_comp plan now) comps
   all-set [] are = refl
@@ -104,12 +106,20 @@ mux-setting s [] setting is = absurd (cc is)
 mux-setting s (v ∷ []) setting is = let same : settings.Choice v ≡ setting = cc is in sym same
 mux-setting s (v ∷ w ∷ vs) setting is = absurd (cc is)
 
+-- a state once values are in force at a component: at a volume a ramp begins, and of others all but the view is as it was
+abbrev pub put_state : FwState → View → ℕ → Bool → FwState
+put_state f v id volume = if volume then seen v (Some id) f else record f { graph = v.graph; streams = v.streams }
+
+pub put_state-view : (f : FwState) (v : View) (id : ℕ) (volume : Bool) → view_of (put_state f v id volume) ≡ v
+put_state-view f v id true = refl
+put_state-view f v id false = refl
+
 -- what a row of values that was done set
 pub set-done : (used : Bool) (f f' : FwState) (id : ℕ) (o : Option Setting) → (if not used then Err no_device else fw.value_set f id o) ≡ Ok f' →
-    (setting : Setting) × (o ≡ Some setting) × (view_of f' ≡ record { graph = with_comps (map (with_setting id setting) f.graph.comps) f.graph; streams = f.streams })
+    (setting : Setting) × (o ≡ Some setting) × (f' ≡ put_state f (with_setting_at f id setting) id (is_of f.graph is_volume id))
 set-done false f f' id o is = absurd (cc is)
 set-done true f f' id None is = absurd (cc is)
-set-done true f f' id (Some setting) is = (setting, refl, ap view_of (let same : f' ≡ record f { graph = with_comps (map (with_setting id setting) f.graph.comps) f.graph } = cc (sym is) in same))
+set-done true f f' id (Some setting) is = (setting, refl, (let same : f' ≡ put_state f (with_setting_at f id setting) id (is_of f.graph is_volume id) = cc (sym is) in same))
 
 -- the component of an id, with what the record sets
 pub found-set : (plan : Plan) (kept : Record) (id : ℕ) (comps : List Comp) → find (λ (c : Comp). c.id == id) (map (set_comp plan kept) comps) ≡ option_map (set_comp plan kept) (find (λ (c : Comp). c.id == id) comps)
@@ -128,25 +138,36 @@ module _ (plan : Plan) (kept : Record) (f f' : FwState) (shows : view_of f ≡ r
   abbrev pub now_put : Record
   now_put = after plan (Put comp values) kept
 
+  -- it is a volume in the firmware where it is one in the plan
+  volume-same : is_of f.graph is_volume comp ≡ is_of plan.graph is_volume comp
+  volume-same =
+      ap (λ (o : Option Comp). option_map_or (λ (c : Comp). is_volume c.kind) o false) found
+      ∙ sym (ap (λ (o : Option Comp). option_map_or (λ (c : Comp). is_volume c.kind) o false) there)
+
+  -- the firmware with what the record says then
+  abbrev pub state_put : FwState
+  state_put = put_state f (record_view plan now_put) comp (is_of plan.graph is_volume comp)
+
   put-by : (command : ℕ) (vs : List ℕ) (kind : Kind) (want : Setting) → AreKind comp kind plan.graph.comps → x.kind ≡ kind → record_setting kind (control_at plan now_put comp) ≡ want →
       ((s setting : Setting) → fw.new_setting kind s command vs ≡ Some setting → setting ≡ want) →
-      row f (SetValue comp command vs) ≡ Ok f' → view_of f' ≡ record_view plan now_put
+      row f (SetValue comp command vs) ≡ Ok f' → f' ≡ state_put
   put-by command vs kind want are kind_is at only done =
       let d = set-done (fw.is_used f.graph comp) f f' comp (option_and_then (λ (c : Comp). fw.new_setting c.kind c.setting command vs) (comp_of f.graph comp)) done in
       let s = (set_comp plan kept x).setting in
       let is : fw.new_setting x.kind s command vs ≡ Some d.0 = sym (ap (option_and_then (λ (c : Comp). fw.new_setting c.kind c.setting command vs)) found) ∙ d.1 in
       let want_is : d.0 ≡ want = only s d.0 (ap (λ (k : Kind). fw.new_setting k s command vs) (sym kind_is) ∙ is) in
-      d.2
-      ∙ (λ i. record { graph = with_comps (map (with_setting comp (want_is i)) (shows i).graph.comps) (shows i).graph; streams = (shows i).streams })
-      ∙ (λ i. record { graph = with_comps (all-set plan kept comp (with_values values) kind want at plan.graph.comps are i) plan.graph; streams = (record_view plan kept).streams })
+      let view : with_setting_at f comp d.0 ≡ record_view plan now_put =
+      (λ i. record { graph = with_comps (map (with_setting comp (want_is i)) (shows i).graph.comps) (shows i).graph; streams = (shows i).streams })
+      ∙ (λ i. record { graph = with_comps (all-set plan kept comp (with_values values) kind want at plan.graph.comps are i) plan.graph; streams = (record_view plan kept).streams }) in
+      d.2 ∙ (λ i. put_state f (view i) comp (volume-same i))
 
   -- the record of the control, once it has the values
   at-now : (kind : Kind) (k : ControlPlan) (c : ControlRec) → control_at plan kept comp ≡ Some (k, c) → record_setting kind (control_at plan now_put comp) ≡ record_setting kind (Some (k, with_values values c))
   at-now kind k c at = ap (record_setting kind) (there-at comp (with_values values) plan.controls kept.controls ∙ ap (option_map (changed_pair comp (with_values values))) at)
 
-  -- values that the firmware takes are shown as the record says
+  -- values that the firmware takes are in force as the record says
   put-kind : (k : ControlKind) (c : ControlRec) → control_at plan kept comp ≡ Some (record { comp = comp; kind = k }, c) → AreKind comp x.kind plan.graph.comps → IsControlOf k x.kind →
-      row f (set_message comp values k) ≡ Ok f' → view_of f' ≡ record_view plan now_put
+      row f (set_message comp values k) ≡ Ok f' → f' ≡ state_put
   put-kind (controls.Volume min max channels lowest step mute) c at are live done =
       let k : ControlKind = controls.Volume min max channels lowest step mute in
       put-by 0 (map (control_gain k) values) kinds.Volume (settings.Gains (map (control_gain k) values))
@@ -160,6 +181,11 @@ module _ (plan : Plan) (kept : Record) (f f' : FwState) (shows : view_of f ≡ r
       put-by 0 (map (control_gain (controls.Blob most initial)) values) kinds.Eq (record_setting kinds.Eq (control_at plan now_put comp))
       (subst (λ (kind : Kind). AreKind comp kind plan.graph.comps) live.0 are) live.0 refl (λ s setting is. absurd (cc is)) done
 
+  pub put-made : (k : ControlKind) (c : ControlRec) → control_at plan kept comp ≡ Some (record { comp = comp; kind = k }, c) → control_of plan comp ≡ Some (record { comp = comp; kind = k }) →
+      AreKind comp x.kind plan.graph.comps → IsControlOf k x.kind → row f (act_message plan (Put comp values)) ≡ Ok f' → f' ≡ state_put
+  put-made k c at of are live done = put-kind k c at are live (ap (λ (o : Option ControlPlan). row f (put_message comp values o)) (sym of) ∙ done)
+
+  -- and shown so
   pub put-shows : (k : ControlKind) (c : ControlRec) → control_at plan kept comp ≡ Some (record { comp = comp; kind = k }, c) → control_of plan comp ≡ Some (record { comp = comp; kind = k }) →
       AreKind comp x.kind plan.graph.comps → IsControlOf k x.kind → row f (act_message plan (Put comp values)) ≡ Ok f' → view_of f' ≡ record_view plan now_put
-  put-shows k c at of are live done = put-kind k c at are live (ap (λ (o : Option ControlPlan). row f (put_message comp values o)) (sym of) ∙ done)
+  put-shows k c at of are live done = ap view_of (put-made k c at of are live done) ∙ put_state-view f (record_view plan now_put) comp (is_of plan.graph is_volume comp)

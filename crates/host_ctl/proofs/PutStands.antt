@@ -1,4 +1,4 @@
--- What stands goes on standing over values that are put at a control: ways, rings and epochs stay.
+-- What stands goes on standing over values that are put at a control: ways, rings and epochs stay, and a volume's ramp begins.
 use Rattle.std.proofs.Common.{◌≡◌, refl, sym, ap, ◌∙◌, subst, ℕ, ◌-◌, Bool, true, false, not, List, [], ◌∷◌, ◌++◌, map, find, Option, Some, None, option_map, ◌==◌, ◌&&◌, ◌||◌, arith}
 use Rattle.std.specs.Prelude.{if◌then◌else◌}
 use Rattle.std.specs.List.{list_any, list_all}
@@ -11,16 +11,16 @@ use Rattle.stream_law.specs.declared.graph.Comp.{Comp}
 use Rattle.stream_law.specs.declared.stream.StreamView.{StreamView}
 use Rattle.stream_law.specs.State.{FwState, View, view_of}
 use Rattle.stream_law.specs.Table.{number_of, list_of}
-use Rattle.stream_law.specs.Ways.{comp_of, components, buffers, source_of, sink_of, is_capture, on_way, reaches, live, is_live_phase, same_shape, channels_of, agree}
+use Rattle.stream_law.specs.Ways.{comp_of, components, buffers, source_of, sink_of, is_capture, is_of, on_way, reaches, live, is_live_phase, same_shape, agree}
 use Rattle.stream_law.specs.Made.{blob}
-use Rattle.stream_law.specs.Epochs.{history_of}
-use Rattle.stream_law.specs.Seen.{flows, equalises, is_equaliser, goes_on, numbers_in, blob_in}
+use Rattle.stream_law.specs.Seen.{flows, remembers, keeps_numbers, goes_on, numbers_in, marked, blob_in}
 use Rattle.stream_law.specs.Past.{Moment, Now, Past, part_of, Leads, after_now}
 use Rattle.stream_law.specs.Stands.{Stands, ring_frames}
 use Rattle.stream_law.specs.Viewing.{Sees, StaysAsLive}
 use Rattle.stream_law.specs.Stays.{KeepsShape}
 use Rattle.stream_law.proofs.Shapes.{live-stays}
 use Rattle.stream_law.proofs.Standing.{Stands-now}
+use Rattle.stream_law.proofs.Remembering.{is_of-kinds}
 use Rattle.tplg_plan.specs.declared.plans.Plan.{Plan}
 use Rattle.tplg_plan.specs.declared.plans.ControlPlan.{ControlPlan}
 use Rattle.host_widgets.specs.declared.kept.Record.{Record}
@@ -48,6 +48,13 @@ module _ (plan : Plan) (kept : Record) where
   kinds-by c = ap (option_map (λ (x : Comp). x.kind)) (found-set plan kept c plan.graph.comps) ∙ by (comp_of plan.graph c)
     where
       by : (o : Option Comp) → option_map (λ (x : Comp). x.kind) (option_map (set_comp plan kept) o) ≡ option_map (λ (x : Comp). x.kind) o
+      by None = refl
+      by (Some x) = refl
+
+  ramps-by : (c : ℕ) → option_map_or (λ (x : Comp). x.ramp) (comp_of (graph_by plan kept) c) 0 ≡ option_map_or (λ (x : Comp). x.ramp) (comp_of plan.graph c) 0
+  ramps-by c = ap (λ (o : Option Comp). option_map_or (λ (x : Comp). x.ramp) o 0) (found-set plan kept c plan.graph.comps) ∙ by (comp_of plan.graph c)
+    where
+      by : (o : Option Comp) → option_map_or (λ (x : Comp). x.ramp) (option_map (set_comp plan kept) o) 0 ≡ option_map_or (λ (x : Comp). x.ramp) o 0
       by None = refl
       by (Some x) = refl
 
@@ -101,6 +108,7 @@ module _ (plan : Plan) (kept : Record) (comp : ℕ) (g : ControlRec → ControlR
     };
     edges = refl;
     blobs = stay;
+    ramps = λ c. ramps-by plan now c ∙ sym (ramps-by plan kept c);
   }
 
   -- ---- with its blob kept
@@ -135,21 +143,18 @@ module _ (plan : Plan) (kept : Record) (comp : ℕ) (g : ControlRec → ControlR
         by None = refl
         by (Some x) = blob-set x.kind x.id
 
-    shape : IsRecordOf plan kept → KeepsShape old_view new_view None
-    shape is = shape-with None (λ c none. blobs c) is
+    -- the firmware that sees the record then, with a mark at the fresh one
+    pub stands-seen : (fresh : Option ℕ) → IsRecordOf plan kept → (f f' : FwState) → view_of f ≡ old_view → Sees f new_view fresh f' → (whole : List (ℕ × List ℕ)) (inputs : List InputView) (moments : List Moment) (before : Stands (Some f) whole inputs moments) →
+        (after : Stands (Some f') whole inputs (moments ++ Now new_view fresh ∷ [])) × Leads whole before.past (Now new_view fresh ∷ []) after.past
+    unfolding Stands-now
+    stands-seen fresh is f f' shows sees whole inputs moments before = (
+      Stands-now f f' new_view fresh whole inputs moments before sees (same-agree ∙ is.shapes)
+          (subst (λ (v : View). StaysAsLive v new_view fresh) (sym shows) (live-stays old_view new_view fresh (shape-with fresh (λ c apart. blobs c) is))),
+      (after_now new_view fresh before.past, refl, refl),
+    )
 
-    equalises-same : (c : ℕ) → equalises new_view c ≡ equalises old_view c
-    equalises-same c = λ i. same-live i c && kind_same i
-      where
-        by : (o : Option Comp) → option_map_or (λ (x : Comp). is_equaliser x.kind) (option_map (set_comp plan now) o) false ≡ option_map_or (λ (x : Comp). is_equaliser x.kind) (option_map (set_comp plan kept) o) false
-        by None = refl
-        by (Some x) = refl
-
-        kind_same : option_map_or (λ (x : Comp). is_equaliser x.kind) (comp_of new_view.graph c) false ≡ option_map_or (λ (x : Comp). is_equaliser x.kind) (comp_of old_view.graph c) false
-        kind_same =
-            ap (λ (o : Option Comp). option_map_or (λ (x : Comp). is_equaliser x.kind) o false) (found-set plan now c plan.graph.comps)
-            ∙ by (comp_of plan.graph c)
-            ∙ sym (ap (λ (o : Option Comp). option_map_or (λ (x : Comp). is_equaliser x.kind) o false) (found-set plan kept c plan.graph.comps))
+    remembers-same : (c : ℕ) → remembers new_view c ≡ remembers old_view c
+    remembers-same c = λ i. same-live i c && is_of-kinds keeps_numbers new_view.graph old_view.graph c (kinds-by plan now c ∙ sym (kinds-by plan kept c)) i
 
     -- the firmware that shows the record then, with all but its graph as it was
     module _ (is : IsRecordOf plan kept) (f f' : FwState) (shows : view_of f ≡ old_view) (shows' : view_of f' ≡ new_view) (clock : f'.clock ≡ f.clock) (rings : f'.rings ≡ f.rings) (histories : f'.histories ≡ f.histories)
@@ -171,9 +176,9 @@ module _ (plan : Plan) (kept : Record) (comp : ℕ) (g : ControlRec → ControlR
       ring-seen b true flow = refl
       ring-seen b false flow = empty-ring b flow
 
-      was-live : (c : ℕ) → equalises new_view c ≡ true → goes_on (view_of f) new_view None c ≡ true
+      was-live : (c : ℕ) → remembers new_view c ≡ true → goes_on (view_of f) new_view None c ≡ true
       was-live c there =
-          let live_now : live new_view c ≡ true = (and_parts (live new_view c) (option_map_or (λ (x : Comp). is_equaliser x.kind) (comp_of new_view.graph c) false) there).0 in
+          let live_now : live new_view c ≡ true = (and_parts (live new_view c) (is_of new_view.graph keeps_numbers c) there).0 in
           (λ i. live (shows i) c && live new_view c && true) ∙ (λ i. sym same-live i c && live new_view c && true) ∙ (λ i. live_now i && live_now i && true)
 
       sees : Sees f new_view None f'
@@ -182,17 +187,13 @@ module _ (plan : Plan) (kept : Record) (comp : ℕ) (g : ControlRec → ControlR
         view = shows';
         buffers = ap (map (λ r. r.buffer)) rings ∙ before.holds.buffers ∙ ap (λ (v : View). buffers v.graph) shows ∙ sym (ap (λ (v : View). buffers v.graph) shows');
         rings = λ b. ap (λ rs. option_map_or (λ r. r.frames) (find (λ r. r.buffer == b) rs) []) rings ∙ ring-seen b (flows new_view b) refl;
-        equalisers = λ c there. ap (λ hs. list_any (λ id. id == c) (map (λ h. h.comp) hs)) histories ∙ before.holds.equalisers c (ap (λ (v : View). equalises v c) past-view ∙ sym (equalises-same c) ∙ there);
+        remembered = λ c there. ap (λ hs. list_any (λ id. id == c) (map (λ h. h.comp) hs)) histories ∙ before.holds.remembered c (ap (λ (v : View). remembers v c) past-view ∙ sym (remembers-same c) ∙ there);
         histories = λ c there. ap (λ hs. option_map_or (λ h. h.numbers) (find (λ h. h.comp == c) hs) []) histories
-            ∙ sym (ap (λ (t : Bool). if t then numbers_in f c else history_of (blob_in new_view c) (channels_of new_view c) []) (was-live c there));
+            ∙ sym (ap (λ (t : Bool). if t then numbers_in f c else marked (view_of f) new_view c (numbers_in f c)) (was-live c there));
       }
 
       pub put-stands : (after : Stands (Some f') whole inputs (moments ++ Now new_view None ∷ [])) × Leads whole before.past (Now new_view None ∷ []) after.past
-      unfolding Stands-now
-      put-stands = (
-        Stands-now f f' new_view None whole inputs moments before sees (same-agree ∙ is.shapes) (subst (λ (v : View). StaysAsLive v new_view None) (sym shows) (live-stays old_view new_view None (shape is))),
-        (after_now new_view None before.past, refl, refl),
-      )
+      put-stands = stands-seen None is f f' shows sees whole inputs moments before
 
     -- and the record stays one of the plan, where its controls do
     pub put-record : IsRecordOf plan kept → AreControls plan.controls now.controls → IsRecordOf plan now

@@ -10,8 +10,8 @@ use Rattle.stream_law.specs.declared.stream.StreamView.{StreamView}
 use Rattle.stream_law.specs.State.{FwState, RingView, History, View, view_of}
 use Rattle.stream_law.specs.Placed.{HasDistinct}
 use Rattle.stream_law.specs.Ways.{agree, components, is_live_phase, is_silent}
-use Rattle.stream_law.specs.Seen.{equalises, seen, ring_seen, history_seen}
-use Rattle.stream_law.proofs.Building.{dead-equaliser}
+use Rattle.stream_law.specs.Seen.{remembers, seen, ring_seen, history_seen}
+use Rattle.stream_law.proofs.Building.{dead-remembers}
 use Rattle.ipc3_model.specs.Messages.{message_spelling, decoded}
 use Rattle.mbox_link.specs.Step as fw
 use Rattle.mbox_link.specs.Step.{row, set_stream, no_device, invalid}
@@ -121,16 +121,16 @@ module _ (plan : Plan) (heap : ℕ) where
     pieces = rested.pieces;
     clock = rested.clock;
     rings = ap (map (ring_seen v)) rested.rings ∙ empty-seen v plan.graph.edges;
-    histories = ap (map (history_seen f v None)) (none-kept (equalises v) never (components v.graph));
+    histories = ap (map (history_seen f v None)) (none-kept (remembers v) never (components v.graph));
     silent = silent;
   }
     where
-      by : (c : ℕ) (b : Bool) → equalises v c ≡ b → b ≡ false
-      by c true is = absurd (dead-equaliser v c silent is)
+      by : (c : ℕ) (b : Bool) → remembers v c ≡ b → b ≡ false
+      by c true is = absurd (dead-remembers v c silent is)
       by c false is = refl
 
-      never : (c : ℕ) → equalises v c ≡ false
-      never c = by c (equalises v c) refl
+      never : (c : ℕ) → remembers v c ≡ false
+      never c = by c (remembers v c) refl
 
   row-rested : (t : ℕ) (host : ℕ) (p : Params) (f f' : FwState) → IsRested t f → row f (act_message plan (Prepare host p)) ≡ Ok f' → IsRested t f'
   row-rested t host p f f' rested done =

@@ -47,7 +47,7 @@ module _ {D : Type 0} (means : Meaning D) (plan : Plan) (heap : ℕ) (goes_on : 
 
   -- after a link that failed the device is cut, and no more is said than that the ticks before the message came
   abbrev pub Then : Outcome → Type 0
-  Then (Ok done) = Holds IsReadyThen (after plan act kept) (replicate m.lag Tick ++ Now (record_view plan (after plan act kept)) (fresh_in act) ∷ [])
+  Then (Ok done) = Holds IsReadyThen (after plan act kept) (replicate m.lag Tick ++ Now (record_view plan (after plan act kept)) (fresh_in plan act) ∷ [])
   Then (Err LinkDown) = ReadsOn (Some f) w.io v.io (replicate m.lag Tick)
   Then (Err fault) = Holds IsReadyWhereOn kept (replicate m.lag Tick)
 
@@ -89,11 +89,11 @@ module _ {D : Type 0} (means : Meaning D) (plan : Plan) (heap : ℕ) (goes_on : 
 
   -- one that passed
   passes : (next : FwState) → means.on v.device ≡ Some next → v.io ≡ before.1 → row before.0 (act_message plan act) ≡ Ok next →
-      Holds IsReadyThen (after plan act kept) (replicate m.lag Tick ++ Now (record_view plan (after plan act kept)) (fresh_in act) ∷ [])
+      Holds IsReadyThen (after plan act kept) (replicate m.lag Tick ++ Now (record_view plan (after plan act kept)) (fresh_in plan act) ∷ [])
   passes next is_on io done =
       let r = ready before.0 same.staging in
       let l = is.leaves before.0 next keeps-before.view keeps-before.rings r.0 done in
-      let now : List Moment = Now (record_view plan (after plan act kept)) (fresh_in act) ∷ [] in
+      let now : List Moment = Now (record_view plan (after plan act kept)) (fresh_in plan act) ∷ [] in
       record {
         state = next;
         so = r.1 next done;

@@ -98,6 +98,7 @@ module _ (plan : Plan) (kept : Record) (host : ℕ) (g : StreamRec → StreamRec
     };
     edges = refl;
     blobs = λ c none. refl;
+    ramps = λ c. refl;
   }
 
   -- an act that changes a stream, once its row has given the firmware this view

@@ -70,8 +70,8 @@ module _ {D : Type 0} (means : Meaning D) (plan : Plan) (heap : ℕ) (kept : Rec
           Onwards (goes_past false a.outcome) ms did.0 x (ActsDid means plan heap false a.kept acts ms did.0 x) →
           AllOf v (followed_by act a ms (goes_past false a.outcome) (walk plan heap false next_of a.kept ms acts)).moments)
       by (Ok done) rest refused on =
-          all-of-append v (lag_of m ++ Now (record_view plan (after plan act now)) (fresh_in act) ∷ []) (walk plan heap false next_of (after plan act now) ms acts).moments
-          (all-of-append v (lag_of m) (Now (record_view plan (after plan act now)) (fresh_in act) ∷ []) ticks (ap (record_view plan) passed, tt))
+          all-of-append v (lag_of m ++ Now (record_view plan (after plan act now)) (fresh_in plan act) ∷ []) (walk plan heap false next_of (after plan act now) ms acts).moments
+          (all-of-append v (lag_of m) (Now (record_view plan (after plan act now)) (fresh_in plan act) ∷ []) ticks (ap (record_view plan) passed, tt))
           (rest on)
       by (Err fault) rest refused on = ended fault (goes_past false (Err fault)) refused on
 
@@ -132,8 +132,8 @@ passed-view plan heap v (act ∷ acts) ms now ok all = inr (λ u. by (outcome_by
     by (Ok done) ok all u =
         let rest = (walk plan heap false next_of (after plan act now) (next_of ms).1 acts).moments in
         let w = record_view plan (after plan act now) in
-        let whole = append_assoc (lag_of (next_of ms).0) (Now w (fresh_in act) ∷ []) rest in
-        ap (view_from u) whole ∙ first-view (next_of ms).0.lag v w u (fresh_in act) rest (subst (AllOf v) whole all)
+        let whole = append_assoc (lag_of (next_of ms).0) (Now w (fresh_in plan act) ∷ []) rest in
+        ap (view_from u) whole ∙ first-view (next_of ms).0.lag v w u (fresh_in plan act) rest (subst (AllOf v) whole all)
     by (Err fault) ok all u = absurd (let no : Err fault ≡ Ok tt = sym (ap (λ (b : Bool). (so_far plan heap act acts ms now (Err fault) b).outcome) (ends-at fault)) ∙ ok in cc no)
 
 -- without acts it had no moment
@@ -155,7 +155,7 @@ module _ {D : Type 0} (means : Meaning D) (plan : Plan) (heap : ℕ) where
 
   -- an act's own moments: the ticks, and perhaps a view
   own-clock : (act : Act) (now : Record) (n t : ℕ) (o : Outcome) → clock_from (t % 2 ^ 32) (performed plan act now (replicate n Tick) o).moments ≡ (t + n) % 2 ^ 32
-  own-clock act now n t (Ok done) = clock-append (t % 2 ^ 32) (replicate n Tick) (Now (record_view plan (after plan act now)) (fresh_in act) ∷ []) ∙ clock-ticks n t
+  own-clock act now n t (Ok done) = clock-append (t % 2 ^ 32) (replicate n Tick) (Now (record_view plan (after plan act now)) (fresh_in plan act) ∷ []) ∙ clock-ticks n t
   own-clock act now n t (Err fault) = clock-ticks n t
 
   pub acts-clocked : (acts : List Act) (ms : List Meeting) (now : Record) (w x : World D) → ActsDid means plan heap false now acts ms w x → Clocked w x (walk plan heap false next_of now ms acts).moments

@@ -5,11 +5,11 @@ use Rattle.std.specs.Option.{option_map}
 use Rattle.sof_base.specs.declared.errno.Errno.{Errno}
 use Rattle.sof_base.specs.declared.part.Part.{Part as Carried}
 use Rattle.stream_law.specs.declared.graph.Setting.{Setting}
-use Rattle.stream_law.specs.declared.graph.Graph.{Graph}
 use Rattle.stream_law.specs.declared.graph.Comp.{Comp}
 use Rattle.stream_law.specs.declared.graph.Edge.{Edge}
 use Rattle.stream_law.specs.declared.graph.Pipe.{Pipe}
-use Rattle.stream_law.specs.Ways.{comp_of, edge_of}
+use Rattle.stream_law.specs.Ways.{comp_of, edge_of, is_of}
+use Rattle.stream_law.specs.Seen.{seen, is_volume}
 use Rattle.stream_law.specs.Joins.{with_join}
 use Rattle.stream_law.specs.State.{FwState}
 use Rattle.ipc3_model.specs.declared.message.Message.{Message}
@@ -18,7 +18,7 @@ use Rattle.ipc3_model.specs.declared.reply.Body.{Body}
 use Rattle.ipc3_model.specs.declared.reply.Body.TheVariants.{Nothing}
 use Rattle.ipc3_model.specs.Messages.{message_spelling, decoded, IsMessage}
 use Rattle.ipc3_model.proofs.Spelled.{decoded-spelling}
-use Rattle.mbox_link.specs.Step.{row, row_of, body, body_of, kind_of, first_setting, new_setting, with_setting, with_comps, with_comp, with_buffer, with_pipe, with_pipes, with_staged, blob_installed, staged_bytes, staging_at, completed, no_memory}
+use Rattle.mbox_link.specs.Step.{row, row_of, body, body_of, kind_of, first_setting, first_ramp, new_setting, with_setting_at, with_comp, with_buffer, with_pipe, with_pipes, with_staged, blob_installed, staged_bytes, staging_at, completed, no_memory}
 use Rattle.tplg_plan.specs.declared.plans.Plan.{Plan}
 use Rattle.tplg_plan.specs.declared.plans.WidgetPlan.{WidgetPlan}
 use Rattle.tplg_plan.specs.declared.plans.ControlPlan.{ControlPlan}
@@ -38,19 +38,18 @@ use Rattle.host_widgets.proofs.Exchanges.{verdict-zero}
 use Rattle.host_widgets.proofs.SilentTicks.{at, IsStill}
 use Rattle.host_widgets.proofs.PartRows.{part_effect}
 
--- a graph with this set at a component, where it can be set
-abbrev pub set_at : ℕ → Option Setting → Graph → Graph
-set_at id None g = g
-set_at id (Some setting) g = with_comps (map (with_setting id setting) g.comps) g
+-- the effect of values that are set at a component, where they can be set
+abbrev pub value_effect : ℕ → Option Setting → FwState → FwState
+value_effect id None f = f
+value_effect id (Some setting) f = cond (is_of f.graph is_volume id) (seen (with_setting_at f id setting) (Some id) f) (record f { graph = (with_setting_at f id setting).graph })
 
 -- the effect of a message that brings a device up, where it is taken
 abbrev pub effect : Message → FwState → FwState
-effect (CompNew id pipe periods_sink periods_source frame_fmt kind) f = with_comp id pipe (kind_of kind frame_fmt) (first_setting kind) f
+effect (CompNew id pipe periods_sink periods_source frame_fmt kind) f = with_comp id pipe (kind_of kind frame_fmt) (first_setting kind) (first_ramp kind) f
 effect (BufferNew id pipe size caps) f = with_buffer id pipe size f
 effect (PipeNew id pipe sched period priority mips frames time_domain) f = with_pipe id pipe sched period f
 effect (Connect source sink) f = record f { graph = with_join f.graph (record { source = source; sink = sink }) }
-effect (SetValue id command values) f =
-    record f { graph = set_at id (option_and_then (λ c. new_setting c.kind c.setting command values) (comp_of f.graph id)) f.graph }
+effect (SetValue id command values) f = value_effect id (option_and_then (λ c. new_setting c.kind c.setting command values) (comp_of f.graph id)) f
 effect (PipeComplete id) f = record f { graph = with_pipes (map (completed id) f.graph.pipes) f.graph }
 effect (SetData id part) f = part_effect id (staged_bytes (staging_at f id) part) part f
 effect m f = f
@@ -59,6 +58,15 @@ part-at : (id : ℕ) (bytes : List ℕ) (p : Carried) (g : FwState) (t : ℕ) �
 part-at id bytes p g t = by (p.remaining == 0)
   where
     by : (b : Bool) → cond b (blob_installed id bytes (at g t)) (with_staged id bytes p (at g t)) ≡ at (cond b (blob_installed id bytes g) (with_staged id bytes p g)) t
+    by true = refl
+    by false = refl
+
+value-at : (id : ℕ) (o : Option Setting) (g : FwState) (t : ℕ) → value_effect id o (at g t) ≡ at (value_effect id o g) t
+value-at id None g t = refl
+value-at id (Some setting) g t = by (is_of g.graph is_volume id)
+  where
+    by : (b : Bool) → cond b (seen (with_setting_at (at g t) id setting) (Some id) (at g t)) (record (at g t) { graph = (with_setting_at g id setting).graph })
+        ≡ at (cond b (seen (with_setting_at g id setting) (Some id) g) (record g { graph = (with_setting_at g id setting).graph })) t
     by true = refl
     by false = refl
 
@@ -73,7 +81,7 @@ effect-at (CompFree id) g t = refl
 effect-at (PipeFree id) g t = refl
 effect-at (BufferFree id) g t = refl
 effect-at CtxSave g t = refl
-effect-at (SetValue id command values) g t = refl
+effect-at (SetValue id command values) g t = value-at id (option_and_then (λ c. new_setting c.kind c.setting command values) (comp_of g.graph id)) g t
 effect-at (GetValue id command) g t = refl
 effect-at (SetData id part) g t = part-at id (staged_bytes (staging_at g id) part) part g t
 effect-at (GetData id index) g t = refl

@@ -10,7 +10,7 @@ use Rattle.stream_law.specs.declared.graph.Pipe.{Pipe}
 use Rattle.stream_law.specs.State.{FwState}
 use Rattle.stream_law.specs.Placed.{Ascends, HasDistinct}
 use Rattle.ipc3_model.specs.declared.message.Message.{Message}
-use Rattle.mbox_link.specs.Step.{row, busy, no_memory, kind_of, first_setting, with_comp, with_buffer, with_pipe, is_used, is_complete, has_index, has_comp, has_edge, has_pipe, has_hole, comp_bytes, buffer_bytes, pipe_bytes}
+use Rattle.mbox_link.specs.Step.{row, busy, no_memory, kind_of, first_setting, first_ramp, with_comp, with_buffer, with_pipe, is_used, is_complete, has_index, has_comp, has_edge, has_pipe, has_hole, comp_bytes, buffer_bytes, pipe_bytes}
 use Rattle.tplg_plan.specs.declared.plans.Plan.{Plan}
 use Rattle.tplg_plan.specs.declared.plans.WidgetPlan.{WidgetPlan}
 use Rattle.tplg_plan.specs.Sound.{IsSound, NamesComponent, NamesBuffer, NamesPipeline}
@@ -92,7 +92,7 @@ module _ (plan : Plan) (heap : ℕ) (s : IsSound plan) (n : ℕ) where
       let words = component_words x.comp.kind (control_of plan n) w in
       let limit = within-limit 128 (made_comp plan) (comps_below plan n) (length-room (λ (c : Comp). c.id) n 128 plan.graph.comps x.comp s.comps_ascend x.there s.comps) in
       let bytes : comp_bytes (kind_of words w.frame_fmt) ≡ stated_bytes plan n = ap comp_bytes (kind-read x.comp.kind (control_of plan n) w x.is.format) ∙ sym (bytes-comp plan heap s n x) in
-      let done = with_comp n w.pipe (kind_of words w.frame_fmt) (first_setting words) (at g t) in
+      let done = with_comp n w.pipe (kind_of words w.frame_fmt) (first_setting words) (first_ramp words) (at g t) in
       guarded (is_used g.graph n || is_complete g.graph w.pipe) (nat_le 128 (length g.graph.comps)) (has_hole (at g t) (comp_bytes (kind_of words w.frame_fmt))) done (or_from (is_used g.graph n) (is_complete g.graph w.pipe) unused (incomplete w.pipe)) limit
       ∙ ap (λ b. if_fits (fits (rounded b) g.heap.holes) done) bytes
 

@@ -17,12 +17,12 @@ use Rattle.stream_law.specs.declared.stream.StreamView.{StreamView}
 use Rattle.stream_law.specs.State.{FwState, HeapView, RingView}
 use Rattle.stream_law.specs.Placed.{placed}
 use Rattle.stream_law.specs.Ways.{edge_of}
-use Rattle.mbox_link.specs.Step.{sample_format, kind_of, first_setting, with_host_stream, heap_with_piece, with_comp, with_buffer, with_pipe, comp_bytes, buffer_bytes, pipe_bytes, fresh}
+use Rattle.mbox_link.specs.Step.{sample_format, kind_of, first_setting, first_ramp, with_host_stream, heap_with_piece, with_comp, with_buffer, with_pipe, comp_bytes, buffer_bytes, pipe_bytes, fresh}
 use Rattle.tplg_plan.specs.declared.plans.Plan.{Plan}
 use Rattle.tplg_plan.specs.declared.plans.WidgetPlan.{WidgetPlan}
 use Rattle.tplg_plan.specs.declared.plans.ControlPlan.{ControlPlan}
 use Rattle.tplg_plan.specs.declared.plans.StreamPlan.{StreamPlan}
-use Rattle.tplg_plan.specs.WidgetWords.{format_number}
+use Rattle.tplg_plan.specs.WidgetWords.{format_number, kind_ramp}
 use Rattle.tplg_plan.specs.Sound.{IsSound, Names, NamesComponent, NamesBuffer, NamesPipeline, has_number, host_by, host_of}
 use Rattle.host_widgets.specs.HostRecord.{closed}
 use Rattle.host_widgets.specs.Controls.{control_of}
@@ -176,6 +176,12 @@ kind-read Volume (Some k) w is = refl
 kind-read Volume None w is = refl
 kind-read kind k w is = refl
 
+-- its words carry its ramp
+pub ramp-made : (kind : Kind) (k : Option ControlPlan) (w : WidgetPlan) → first_ramp (component_words kind k w) ≡ kind_ramp kind w.ramp_type w.ramp_ms
+ramp-made Volume (Some k) w = refl
+ramp-made Volume None w = refl
+ramp-made kind k w = refl
+
 -- ---- the next widget
 
 module _ (plan : Plan) (heap : ℕ) (s : IsSound plan) (n : ℕ) where
@@ -209,14 +215,15 @@ module _ (plan : Plan) (heap : ℕ) (s : IsSound plan) (n : ℕ) where
 
   -- what it does
   abbrev comp_as : Comp → ℕ → Comp
-  comp_as c m = record { id = m; kind = c.kind; pipe = c.pipe; setting = first_setting (component_words c.kind (control_of plan m) (widget_words plan m)) }
+  comp_as c m = record { id = m; kind = c.kind; pipe = c.pipe; setting = first_setting (component_words c.kind (control_of plan m) (widget_words plan m)); ramp = c.ramp }
 
   pub effect-comp : (x : NamesComponent plan.graph n w) → effect (comp_message n (control_of plan n) w x.comp) (made_by plan heap n) ≡ made_by plan heap (n + 1)
   effect-comp x =
       let c = x.comp in
       let id : c.id ≡ n = found-is (λ (c : Comp). c.id) plan.graph.comps n c x.there in
-      let words : with_comp n w.pipe (kind_of (component_words c.kind (control_of plan n) w) w.frame_fmt) (first_setting (component_words c.kind (control_of plan n) w)) (made_by plan heap n) ≡ with_comp n c.pipe c.kind (first_setting (component_words c.kind (control_of plan n) w)) (made_by plan heap n) =
-      λ i. with_comp n (x.is.pipe i) (kind-read c.kind (control_of plan n) w x.is.format i) (first_setting (component_words c.kind (control_of plan n) w)) (made_by plan heap n) in
+      let ramp : first_ramp (component_words c.kind (control_of plan n) w) ≡ c.ramp = ramp-made c.kind (control_of plan n) w ∙ sym x.is.ramp in
+      let words : with_comp n w.pipe (kind_of (component_words c.kind (control_of plan n) w) w.frame_fmt) (first_setting (component_words c.kind (control_of plan n) w)) (first_ramp (component_words c.kind (control_of plan n) w)) (made_by plan heap n) ≡ with_comp n c.pipe c.kind (first_setting (component_words c.kind (control_of plan n) w)) c.ramp (made_by plan heap n) =
+      λ i. with_comp n (x.is.pipe i) (kind-read c.kind (control_of plan n) w x.is.format i) (first_setting (component_words c.kind (control_of plan n) w)) (ramp i) (made_by plan heap n) in
       let piece : heap_with_piece n (comp_bytes c.kind) (heap_by plan heap n) ≡ heap_by plan heap (n + 1) = ap (λ b. heap_with_piece n b (heap_by plan heap n)) (sym (bytes-comp x)) ∙ heap-more plan heap n in
       let comps : placed (λ c. c.id) (comp_as c n) (map (made_comp plan) (comps_below plan n)) ≡ map (made_comp plan) (comps_below plan (n + 1)) =
       ap (λ m. placed (λ c. c.id) (comp_as c m) (map (made_comp plan) (comps_below plan n))) (sym id)

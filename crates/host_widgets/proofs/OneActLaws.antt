@@ -68,7 +68,7 @@ pub record LeavesSo (plan : Plan) (act : Act) (f f' : FwState) (now : Record) : 
   pub heap : f'.heap ≡ f.heap
   pub rings : map (λ r. r.buffer) f'.rings ≡ buffers plan.graph
   pub stands : (whole : List (ℕ × List ℕ)) (inputs : List InputView) (before : List Moment) (stood : Stands (Some f) whole inputs before) →
-      (after_it : Stands (Some f') whole inputs (before ++ Now (record_view plan now) (fresh_in act) ∷ [])) × Leads whole stood.past (Now (record_view plan now) (fresh_in act) ∷ []) after_it.past
+      (after_it : Stands (Some f') whole inputs (before ++ Now (record_view plan now) (fresh_in plan act) ∷ [])) × Leads whole stood.past (Now (record_view plan now) (fresh_in plan act) ∷ []) after_it.past
 
 abbrev pub Leaves : Plan → Record → Act → FwState → FwState → Type 0
 Leaves plan kept act f f' = LeavesSo plan act f f' (after plan act kept)
@@ -97,7 +97,7 @@ pub record IsStreamAct (plan : Plan) (kept : Record) (act : Act) : Type 0 where
   pub host : ℕ
   pub change : StreamRec → StreamRec
   pub changes : after plan act kept ≡ with_stream plan host change kept
-  pub no_blob : fresh_in act ≡ None
+  pub no_blob : fresh_in plan act ≡ None
   pub message : IsMessage (act_message plan act)
   pub bare : (f : FwState) → body_of f (decoded (message_spelling (act_message plan act))) ≡ Nothing
   pub sees : (f f' : FwState) → view_of f ≡ record_view plan kept → row f (act_message plan act) ≡ Ok f' → f' ≡ seen (record_view plan (after plan act kept)) None f

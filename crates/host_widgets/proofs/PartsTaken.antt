@@ -1,8 +1,7 @@
 -- A firmware in which a sound plan stands takes all parts of a blob, one after another.
-use Rattle.std.proofs.Common.{◌≡◌, refl, sym, ap, ◌∙◌, ℕ, zero, suc, ◌+◌, ◌<◌, ◌≤◌, ◌^◌, Bool, true, false, not, cond, ◌==◌, ◌&&◌, List, [], ◌∷◌, map, filter, Some, arith}
+use Rattle.std.proofs.Common.{◌≡◌, refl, sym, ap, ◌∙◌, ℕ, zero, suc, ◌+◌, ◌<◌, ◌≤◌, ◌^◌, Bool, true, false, not, cond, ◌==◌, ◌&&◌, List, [], ◌∷◌, map, filter, Option, Some, arith}
 use Rattle.std.specs.Prelude.{find}
 use Rattle.std.specs.List.{range_with_len}
-use Rattle.std.specs.Option.{option_map_or}
 use Rattle.std.proofs.lemmas.Bool.{eq-eqb, ne_eqb}
 use Rattle.sof_base.specs.BlobFaults.{is_blob}
 use Rattle.stream_law.specs.declared.graph.Kind.TheVariants as kinds
@@ -12,8 +11,8 @@ use Rattle.stream_law.specs.declared.graph.Edge.{Edge}
 use Rattle.stream_law.specs.declared.graph.Graph.{Graph}
 use Rattle.stream_law.specs.State.{FwState, RingView, Staging, View, view_of}
 use Rattle.stream_law.specs.Placed.{placed}
-use Rattle.stream_law.specs.Ways.{comp_of, components}
-use Rattle.stream_law.specs.Seen.{equalises, flows, history_seen, is_equaliser, ring_seen}
+use Rattle.stream_law.specs.Ways.{comp_of, components, is_of}
+use Rattle.stream_law.specs.Seen.{remembers, flows, history_seen, keeps_numbers, ring_seen, seen}
 use Rattle.stream_law.proofs.Silent.{silent-dead}
 use Rattle.ipc3_model.specs.declared.message.Message.TheVariants.{SetData}
 use Rattle.mbox_link.specs.BlobParts.{blob_part, is_last, parts}
@@ -32,7 +31,7 @@ use Rattle.host_widgets.proofs.StandingStill.{stands-still}
 use Rattle.host_widgets.proofs.PartFacts.{front, few-parts, more-behind, none-behind, none-left, last-front}
 use Rattle.host_widgets.proofs.PartRows.{staged_of, part_effect, part-message, bytes-so-far, part-row}
 
--- ---- rings without frames and no Live equaliser stay so
+-- ---- rings without frames stay so, and where nothing is Live there are no numbers
 
 rings-empty : (v : View) (es : List Edge) → map (ring_seen v) (map (λ (e : Edge). record { buffer = e.buffer; frames = [] }) es) ≡ map (λ (e : Edge). record { buffer = e.buffer; frames = [] }) es
 rings-empty v [] = refl
@@ -43,12 +42,21 @@ rings-empty v (e ∷ es) = λ i. by (flows v e.buffer) i ∷ rings-empty v es i
     by false = refl
 
 module _ (plan : Plan) (sound : IsSound plan) (heap : ℕ) where
-  none-equalises : (g : Graph) (ids : List ℕ) → filter (equalises (view_of (standing plan heap g))) ids ≡ []
-  none-equalises g [] = refl
-  none-equalises g (c ∷ cs) =
-      ap (λ (b : Bool). cond b (c ∷ filter (equalises (view_of (standing plan heap g))) cs) (filter (equalises (view_of (standing plan heap g))) cs))
-      (ap (λ (b : Bool). b && option_map_or (λ (x : Comp). is_equaliser x.kind) (comp_of g c) false) (silent-dead (view_of (standing plan heap g)) c (stands-still plan heap sound g).silent))
-      ∙ none-equalises g cs
+  none-remembers : (g : Graph) (ids : List ℕ) → filter (remembers (view_of (standing plan heap g))) ids ≡ []
+  none-remembers g [] = refl
+  none-remembers g (c ∷ cs) =
+      ap (λ (b : Bool). cond b (c ∷ filter (remembers (view_of (standing plan heap g))) cs) (filter (remembers (view_of (standing plan heap g))) cs))
+      (ap (λ (b : Bool). b && is_of g keeps_numbers c) (silent-dead (view_of (standing plan heap g)) c (stands-still plan heap sound g).silent))
+      ∙ none-remembers g cs
+
+  -- in a state in which nothing is Live another graph leaves no more than itself
+  pub graph-seen : (now then : Graph) (fresh : Option ℕ) → seen (view_of (standing plan heap then)) fresh (standing plan heap now) ≡ standing plan heap then
+  graph-seen now then fresh =
+      let v : View = view_of (standing plan heap then) in
+      λ i. record (standing plan heap then) {
+        rings = rings-empty v plan.graph.edges i;
+        histories = ap (map (history_seen (standing plan heap now) v fresh)) (none-remembers then (components then)) i;
+      }
 
   module _ (kept : Record) (now : Graph) (id : ℕ) (x : Comp) (there : comp_of now id ≡ Some x) (kind : x.kind ≡ kinds.Eq) (fits : id < 2 ^ 32) (blob : List ℕ) (is : is_blob blob ≡ true) where
     -- k parts are staged
@@ -85,7 +93,7 @@ module _ (plan : Plan) (sound : IsSound plan) (heap : ℕ) where
         let v : View = view_of (standing plan heap after_graph) in
         λ i. record (standing plan heap after_graph) {
           rings = rings-empty v plan.graph.edges i;
-          histories = ap (map (history_seen (stood k) v (Some id))) (none-equalises after_graph (components after_graph)) i;
+          histories = ap (map (history_seen (stood k) v (Some id))) (none-remembers after_graph (components after_graph)) i;
           staging = none-staged k i;
         }
 

@@ -13,12 +13,13 @@ use Rattle.stream_law.specs.declared.graph.Comp.{Comp}
 use Rattle.stream_law.specs.declared.graph.Graph.{Graph}
 use Rattle.stream_law.specs.State.{FwState}
 use Rattle.stream_law.specs.Placed.{Ascends}
-use Rattle.stream_law.specs.Ways.{comp_of}
+use Rattle.stream_law.specs.Ways.{comp_of, is_of}
+use Rattle.stream_law.specs.Seen.{seen, is_volume}
 use Rattle.stream_law.proofs.Waits.{eqb_turned}
 use Rattle.ipc3_model.specs.declared.message.Message.{Message}
 use Rattle.ipc3_model.specs.declared.message.Message.TheVariants.{SetValue}
 use Rattle.ipc3_model.specs.Messages.{IsMessage}
-use Rattle.mbox_link.specs.Step.{row, is_used, has_comp, has_edge, has_pipe, first_setting, new_setting, with_setting, with_comps, value_set, no_device}
+use Rattle.mbox_link.specs.Step.{row, is_used, has_comp, has_edge, has_pipe, first_setting, new_setting, with_setting, with_setting_at, with_comps, value_set, no_device}
 use Rattle.tplg_plan.specs.declared.plans.Plan.{Plan}
 use Rattle.tplg_plan.specs.declared.plans.WidgetPlan.{WidgetPlan}
 use Rattle.tplg_plan.specs.declared.plans.ControlPlan.{ControlPlan}
@@ -40,12 +41,12 @@ use Rattle.host_widgets.specs.Host.{AreControls}
 use Rattle.host_widgets.proofs.ControlLists.{Pair, comp_at, Takes, all-first, all-take, zip-ascends, any-zip}
 use Rattle.host_widgets.proofs.Stages.{made_comp, begun}
 use Rattle.host_widgets.proofs.SilentTicks.{at}
-use Rattle.host_widgets.proofs.Effects.{set_at, effect}
+use Rattle.host_widgets.proofs.Effects.{value_effect, effect}
 use Rattle.host_widgets.proofs.Making.{plainly_follows}
 use Rattle.host_widgets.proofs.LookedUp.{found-is, found-map, any-found, lost-any, map-all, map-twice, all-of, first-apart, rest-ascends, each-found}
 use Rattle.host_widgets.proofs.NamedIds.{component-found, each-comp, id-fits}
 use Rattle.host_widgets.proofs.OneAfterAnother.{Goes, goes-nowhere, goes-on, goes-both}
-use Rattle.host_widgets.proofs.PartsTaken.{parts-go}
+use Rattle.host_widgets.proofs.PartsTaken.{graph-seen, parts-go}
 use Rattle.host_widgets.proofs.Joined.{standing, joined_graph, all-joined}
 use Rattle.host_widgets.proofs.StandingStill.{stands-still}
 use Rattle.host_widgets.proofs.GreatestGains.{AreGains, gains-are, gains-pass, set-message}
@@ -56,7 +57,7 @@ abbrev pub setting_while : Plan → Record → List Pair → Comp → Setting
 setting_while plan kept todo c = cond (list_any (λ p. p.0.comp == c.id) todo) (first_setting (component_words c.kind (control_of plan c.id) (widget_words plan c.id))) (record_setting c.kind (control_at plan kept c.id))
 
 abbrev pub comp_while : Plan → Record → List Pair → Comp → Comp
-comp_while plan kept todo c = record { id = c.id; kind = c.kind; pipe = c.pipe; setting = setting_while plan kept todo c }
+comp_while plan kept todo c = record { id = c.id; kind = c.kind; pipe = c.pipe; setting = setting_while plan kept todo c; ramp = c.ramp }
 
 -- all is joined, and these controls are still to be set
 abbrev pub put_graph : Plan → Record → List Pair → Graph
@@ -74,13 +75,13 @@ puts-none plan sound kept are = λ i. record { comps = map-all (made_comp plan) 
     each : (c : Comp) → made_comp plan c ≡ comp_while plan kept (controls_of plan kept) c
     each c = by (list_any (λ (p : Pair). p.0.comp == c.id) (controls_of plan kept)) refl
       where
-        by : (h : Bool) → list_any (λ (p : Pair). p.0.comp == c.id) (controls_of plan kept) ≡ h → made_comp plan c ≡ record { id = c.id; kind = c.kind; pipe = c.pipe; setting = cond h (first_setting (component_words c.kind (control_of plan c.id) (widget_words plan c.id))) (record_setting c.kind (control_at plan kept c.id)) }
+        by : (h : Bool) → list_any (λ (p : Pair). p.0.comp == c.id) (controls_of plan kept) ≡ h → made_comp plan c ≡ record { id = c.id; kind = c.kind; pipe = c.pipe; setting = cond h (first_setting (component_words c.kind (control_of plan c.id) (widget_words plan c.id))) (record_setting c.kind (control_at plan kept c.id)); ramp = c.ramp }
         by true e = refl
         by false e =
             let none : control_of plan c.id ≡ None = lost-any (λ (k : ControlPlan). k.comp == c.id) plan.controls (sym (any-zip c.id plan.controls kept.controls are) ∙ e) in
             let unset : control_at plan kept c.id ≡ None = lost-any (λ (p : Pair). p.0.comp == c.id) (controls_of plan kept) e in
             let same : first_setting (component_words c.kind (control_of plan c.id) (widget_words plan c.id)) ≡ record_setting c.kind (control_at plan kept c.id) = ap (λ (o : Option ControlPlan). first_setting (component_words c.kind o (widget_words plan c.id))) none ∙ bare-setting c.kind (widget_words plan c.id) ∙ ap (record_setting c.kind) (sym unset) in
-            λ i. record { id = c.id; kind = c.kind; pipe = c.pipe; setting = same i }
+            λ i. record { id = c.id; kind = c.kind; pipe = c.pipe; setting = same i; ramp = c.ramp }
 
 -- ---- what a control sets
 
@@ -113,7 +114,7 @@ module _ (plan : Plan) (sound : IsSound plan) (kept : Record) (id : ℕ) (q : Co
     by-set same = ap (record_setting c.kind) (ap (control_at plan kept) same ∙ set) ∙ set-is id q r c.kind (kind-is same)
 
     abbrev comp_by : Setting → Comp
-    comp_by s = record { id = c.id; kind = c.kind; pipe = c.pipe; setting = s }
+    comp_by s = record { id = c.id; kind = c.kind; pipe = c.pipe; setting = s; ramp = c.ramp }
 
     put-comp : with_setting id (wanted q r) (comp_while plan kept ((with_kind id q, r) ∷ ks) c) ≡ comp_while plan kept ks c
     put-comp = ap (λ (h : Bool). cond (c.id == id) (comp_by (wanted q r)) (comp_by (cond (h || list_any (λ (p : Pair). p.0.comp == c.id) ks) (first c) (record_setting c.kind (control_at plan kept c.id))))) (eqb_turned id c.id) ∙ by (c.id == id) refl
@@ -176,11 +177,18 @@ module _ (plan : Plan) (sound : IsSound plan) (kept : Record) (id : ℕ) (q : Co
     set-row : (t : ℕ) → row (at (standing plan heap now) t) (SetValue id command values) ≡ Ok (effect (SetValue id command values) (at (standing plan heap now) t))
     set-row t = by (is_used now id) asked now-used asked-is
       where
-        by : (b : Bool) (o : Option Setting) → b ≡ true → o ≡ Some (wanted q r) → cond (not b) (Err no_device) (value_set (at (standing plan heap now) t) id o) ≡ Ok (record (at (standing plan heap now) t) { graph = set_at id o now })
+        by : (b : Bool) (o : Option Setting) → b ≡ true → o ≡ Some (wanted q r) → cond (not b) (Err no_device) (value_set (at (standing plan heap now) t) id o) ≡ Ok (value_effect id o (at (standing plan heap now) t))
         by b o used is = rw (used, is) refl
 
     set-effect : effect (SetValue id command values) (standing plan heap now) ≡ standing plan heap (put_graph plan kept ks)
-    set-effect = ap (λ (o : Option Setting). standing plan heap (set_at id o now)) asked-is ∙ ap (standing plan heap) put-graph
+    set-effect = ap (λ (o : Option Setting). value_effect id o (standing plan heap now)) asked-is ∙ by (is_of now is_volume id) ∙ ap (standing plan heap) put-graph
+      where
+        after_graph : Graph
+        after_graph = with_comps (map (with_setting id (wanted q r)) now.comps) now
+
+        by : (b : Bool) → cond b (seen (with_setting_at (standing plan heap now) id (wanted q r)) (Some id) (standing plan heap now)) (standing plan heap after_graph) ≡ standing plan heap after_graph
+        by true = graph-seen plan sound heap now after_graph (Some id)
+        by false = refl
 
     message-is : act_message plan (Put id sets) ≡ SetValue id command values
     message-is = ap (put_message id sets) there ∙ is

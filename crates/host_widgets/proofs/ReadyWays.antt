@@ -23,7 +23,7 @@ use Rattle.host_widgets.proofs.NamedIds.{buffer-found, each-comp, each-edge}
 -- ---- a graph with other settings
 
 abbrev pub set_by : (Comp → Setting) → Comp → Comp
-set_by setting c = record { id = c.id; kind = c.kind; pipe = c.pipe; setting = setting c }
+set_by setting c = record { id = c.id; kind = c.kind; pipe = c.pipe; setting = setting c; ramp = c.ramp }
 
 abbrev pub set_as : (Comp → Setting) → Graph → Graph
 set_as setting g = with_comps (map (set_by setting) g.comps) g

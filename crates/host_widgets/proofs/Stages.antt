@@ -16,7 +16,7 @@ use Rattle.host_widgets.specs.declared.kept.Power.TheVariants.{On}
 
 -- a component that was made, with what is set at a new one
 abbrev pub made_comp : Plan → Comp → Comp
-made_comp plan c = record { id = c.id; kind = c.kind; pipe = c.pipe; setting = first_setting (component_words c.kind (control_of plan c.id) (widget_words plan c.id)) }
+made_comp plan c = record { id = c.id; kind = c.kind; pipe = c.pipe; setting = first_setting (component_words c.kind (control_of plan c.id) (widget_words plan c.id)); ramp = c.ramp }
 
 -- a buffer that is joined to nothing
 abbrev pub loose : Edge → Edge

@@ -1,16 +1,13 @@
 -- Where a device and the endpoints stood, they stand some moments later: what inputs gave and outputs gained goes on with the past.
 use Rattle.std.proofs.Common.{◌≡◌, refl, sym, ap, ◌∙◌, subst, ℕ, zero, suc, List, [], ◌∷◌, ◌++◌, map, replicate, Bool, true, false, ◌&&◌, Option, Some, None}
 use Rattle.std.specs.Prelude.{if◌then◌else◌}
-use Rattle.std.specs.Option.{option_map_or}
 use Rattle.std.proofs.lemmas.Bool.{and_parts}
 use Rattle.std.proofs.lemmas.List.{append-nil, append_assoc}
 use Rattle.sof_base.specs.Ports.{Io, InputView, OutputView}
-use Rattle.stream_law.specs.declared.graph.Comp.{Comp}
 use Rattle.stream_law.specs.State.{FwState, RingView, View, view_of}
 use Rattle.stream_law.specs.Table.{list_of}
-use Rattle.stream_law.specs.Ways.{agree, channels_of, comp_of, live}
-use Rattle.stream_law.specs.Epochs.{history_of}
-use Rattle.stream_law.specs.Seen.{flows, equalises, goes_on, is_equaliser, blob_in, numbers_in}
+use Rattle.stream_law.specs.Ways.{agree, is_of, live}
+use Rattle.stream_law.specs.Seen.{flows, remembers, goes_on, keeps_numbers, numbers_in, marked}
 use Rattle.stream_law.specs.Past.{Moment, Boot, Cut, Now, Tick, Past, Leads, new_life, after_now}
 use Rattle.stream_law.specs.Move.{audio_after, state_after, io_after}
 use Rattle.stream_law.specs.Stands.{Stands, Reads, ring_frames}
@@ -140,11 +137,11 @@ same-now f whole inputs before stood =
             view = refl;
             buffers = stood.holds.buffers;
             rings = λ b. ring b (flows v b) refl;
-            equalisers = λ c there. stood.holds.equalisers c (ap (λ (w : View). equalises w c) (sym stood.holds.view) ∙ there);
-            histories = λ c there. sym (ap (λ (t : Bool). if t then numbers_in f c else history_of (blob_in v c) (channels_of v c) []) (goes c there));
+            remembered = λ c there. stood.holds.remembered c (ap (λ (w : View). remembers w c) (sym stood.holds.view) ∙ there);
+            histories = λ c there. sym (ap (λ (t : Bool). if t then numbers_in f c else marked v v c (numbers_in f c)) (goes c there));
           }
           (ap agree stood.holds.view ∙ stood.agrees)
-          record { room = λ b was now. refl; equaliser = λ c there goes. (there, refl, refl) },
+          record { room = λ b was now. refl; kinds = λ c there was. refl; on = λ c there goes. (refl, refl, refl) },
       (after_now v None stood.past, refl, refl),
     )
   where
@@ -153,9 +150,9 @@ same-now f whole inputs before stood =
     ring b true flow = refl
     ring b false flow = stood.holds.rings b ∙ lying-empty stood.past b stood.kept (ap (λ (w : View). flows w b) (sym stood.holds.view) ∙ flow)
 
-    goes : (c : ℕ) → equalises (view_of f) c ≡ true → goes_on (view_of f) (view_of f) None c ≡ true
+    goes : (c : ℕ) → remembers (view_of f) c ≡ true → goes_on (view_of f) (view_of f) None c ≡ true
     goes c there =
-        let is_live : live (view_of f) c ≡ true = (and_parts (live (view_of f) c) (option_map_or (λ (x : Comp). is_equaliser x.kind) (comp_of (view_of f).graph c) false) there).0 in
+        let is_live : live (view_of f) c ≡ true = (and_parts (live (view_of f) c) (is_of (view_of f).graph keeps_numbers c) there).0 in
         λ i. is_live i && is_live i && true
 
 -- a device that is cut then is off, and stands so

@@ -171,8 +171,8 @@ module _ {D : Type 0} (means : Meaning D) (plan : Plan) (heap : ℕ) (goes_on : 
         Behind act acts kept ms (lag_of m) f w mid v (performed plan act kept (lag_of m) o) (goes_past goes_on (performed plan act kept (lag_of m) o).outcome) →
         Left act acts kept ms (lag_of m) f w mid v (performed plan act kept (lag_of m) o) (goes_past goes_on (performed plan act kept (lag_of m) o).outcome)
     by_outcome v ms on_passed on_refused (Ok done) h more =
-        let first = held (λ g. AreReady plan goes_on acts g) (after plan act kept) (lag_of m ++ Now (record_view plan (after plan act kept)) (fresh_in act) ∷ []) h in
-        passed act acts kept ms (lag_of m) f w mid v (after plan act kept) (lag_of m ++ Now (record_view plan (after plan act kept)) (fresh_in act) ∷ []) first more (λ did. on_passed did first.state first.is_on first.record_now first.keeps_now h.so)
+        let first = held (λ g. AreReady plan goes_on acts g) (after plan act kept) (lag_of m ++ Now (record_view plan (after plan act kept)) (fresh_in plan act) ∷ []) h in
+        passed act acts kept ms (lag_of m) f w mid v (after plan act kept) (lag_of m ++ Now (record_view plan (after plan act kept)) (fresh_in plan act) ∷ []) first more (λ did. on_passed did first.state first.is_on first.record_now first.keeps_now h.so)
     by_outcome v ms on_passed on_refused (Err (Refused e)) h more =
         let first = held (λ g. goes_on ≡ true → AreReady plan goes_on acts g) kept (lag_of m) h in
         refused act acts kept ms (lag_of m) f w mid v e goes_on first more (λ goes did. on_refused goes did first.state first.is_on first.record_now first.keeps_now (h.so goes))

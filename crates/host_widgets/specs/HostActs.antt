@@ -1,6 +1,8 @@
 -- What the host does to a device: acts, each of which is one message, and what the record says after one that passed.
 use Rattle.std.specs.Prelude.{ℕ, List, Bool, true, false, Option, Some, None, if◌then◌else◌}
 use Rattle.sof_base.specs.declared.format.Params.{Params}
+use Rattle.stream_law.specs.Ways.{is_of}
+use Rattle.stream_law.specs.Seen.{is_volume}
 use Rattle.tplg_plan.specs.declared.plans.Plan.{Plan}
 use Rattle.host_widgets.specs.declared.kept.Found.{Found}
 use Rattle.host_widgets.specs.declared.kept.Found.TheVariants.{Prepared, Running, Paused}
@@ -55,11 +57,12 @@ after plan (Put comp values) kept = with_control plan comp (with_values values) 
 after plan (Part comp blob k) kept = if is_last blob k then with_control plan comp (with_blob blob) kept else kept
 after plan act kept = kept
 
--- the equaliser whose blob comes in force
+-- the equaliser whose blob comes in force, or the volume whose gains do
 abbrev pub fresh_by : ℕ → Bool → Option ℕ
 fresh_by comp true = Some comp
 fresh_by comp false = None
 
-abbrev pub fresh_in : Act → Option ℕ
-fresh_in (Part comp blob k) = fresh_by comp (is_last blob k)
-fresh_in act = None
+abbrev pub fresh_in : Plan → Act → Option ℕ
+fresh_in plan (Part comp blob k) = fresh_by comp (is_last blob k)
+fresh_in plan (Put comp values) = fresh_by comp (is_of plan.graph is_volume comp)
+fresh_in plan act = None

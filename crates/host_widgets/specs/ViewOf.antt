@@ -29,7 +29,7 @@ record_setting kinds.Eq None = settings.Blob []
 record_setting kind control = settings.Nothing
 
 abbrev pub set_comp : Plan → Record → Comp → Comp
-set_comp plan kept c = record { id = c.id; kind = c.kind; pipe = c.pipe; setting = record_setting c.kind (control_at plan kept c.id) }
+set_comp plan kept c = record { id = c.id; kind = c.kind; pipe = c.pipe; setting = record_setting c.kind (control_at plan kept c.id); ramp = c.ramp }
 
 -- the plan's graph with what the record sets at its components
 abbrev pub graph_by : Plan → Record → Graph

@@ -16,7 +16,7 @@ use Rattle.stream_law.specs.Past.{Moment, Boot, Cut, Now, Tick, Past, Leads, sta
 use Rattle.stream_law.specs.Stands.{Stands, SameView, ring_frames}
 use Rattle.stream_law.specs.Viewing.{StandsBuilding}
 use Rattle.stream_law.proofs.Standing.{Stands-boot, Stands-reads, Leads-push}
-use Rattle.stream_law.proofs.Building.{Stands-building, Stands-now_building, Stands-built, silent-flows, lying-empty, dead-equaliser, silent_ticks, silent_kept, position_kept, bytes_kept}
+use Rattle.stream_law.proofs.Building.{Stands-building, Stands-now_building, Stands-built, silent-flows, lying-empty, dead-remembers, silent_ticks, silent_kept, position_kept, bytes_kept}
 use Rattle.stream_law.proofs.Rounds.{counts_by, ticked_by}
 use Rattle.mbox_link.specs.Calls.{Meaning}
 use Rattle.mbox_link.specs.Step.{fresh}
@@ -98,8 +98,8 @@ module _ (heap : ℕ) where
           view = stood.holds.view;
           buffers = refl;
           rings = λ b. sym (lying-empty q b (silent_kept whole p stood.kept quiet) (silent-flows p.view b quiet));
-          equalisers = λ c there. absurd (dead-equaliser p.view c quiet there);
-          histories = λ c there. absurd (dead-equaliser p.view c quiet there);
+          remembered = λ c there. absurd (dead-remembers p.view c quiet there);
+          histories = λ c there. absurd (dead-remembers p.view c quiet there);
         };
         agrees = stood.agrees;
       }
@@ -121,8 +121,8 @@ module _ (heap : ℕ) where
             view = (subst (λ (x : View). IsTrue (is_silent x)) (sym rests.view) rests.silent, quiet);
             buffers = rests.buffers_are ∙ ap (λ (x : View). buffers x.graph) (sym rests.view);
             rings = λ b. rests.rings b ∙ sym (lying-empty p b stood.kept (silent-flows p.view b quiet));
-            equalisers = λ c there. absurd (dead-equaliser p.view c quiet there);
-            histories = λ c there. absurd (dead-equaliser p.view c quiet there);
+            remembered = λ c there. absurd (dead-remembers p.view c quiet there);
+            histories = λ c there. absurd (dead-remembers p.view c quiet there);
           };
           agrees = stood.agrees;
         },

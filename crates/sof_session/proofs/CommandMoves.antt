@@ -215,10 +215,10 @@ module _ (plan : Plan) (sound : IsSound plan) (heap : ℕ) (goes_on : Bool) (doi
       by : (o : Outcome) → IsPacedAct m.lag (performed plan act kept (lag_of m) o)
       by (Ok done) =
           let now = after-few plan act kept is few in
-          let one = ticks-append (lag_of m) (Now (record_view plan (after plan act kept)) (fresh_in act) ∷ []) in
+          let one = ticks-append (lag_of m) (Now (record_view plan (after plan act kept)) (fresh_in plan act) ∷ []) in
           record {
             few = now;
-            range = all-append (lag_of m) (Now (record_view plan (after plan act kept)) (fresh_in act) ∷ []) (lag-in-range m.lag) (record-in-range plan sound (after plan act kept) now, tt);
+            range = all-append (lag_of m) (Now (record_view plan (after plan act kept)) (fresh_in plan act) ∷ []) (lag-in-range m.lag) (record-in-range plan sound (after plan act kept) now, tt);
             ticks = omega (arith, one, ticks);
           }
       by (Err fault) = record { few = few; range = lag-in-range m.lag; ticks = omega (arith, ticks) }

@@ -91,7 +91,7 @@ module _ (plan : Plan) (sound : IsSound plan) (heap : ℕ) (goes_on : Bool) (doi
   act-ranks kept act m = by (outcome_by m.fate (own plan heap kept act))
     where
       by : (o : Outcome) → AllRanks (performed plan act kept (lag_of m) o).moments
-      by (Ok done) = all-append (lag_of m) (Now (record_view plan (after plan act kept)) (fresh_in act) ∷ []) (lag-ranks m.lag) (record-ranks plan sound (after plan act kept), tt)
+      by (Ok done) = all-append (lag_of m) (Now (record_view plan (after plan act kept)) (fresh_in plan act) ∷ []) (lag-ranks m.lag) (record-ranks plan sound (after plan act kept), tt)
       by (Err fault) = lag-ranks m.lag
 
   then-ranks : (act : Act) (a : Performed) (q : Queue) (b : Bool) (rest : Walked Queue) → AllRanks a.moments → AllRanks rest.moments → AllRanks (followed_by act a q b rest).moments

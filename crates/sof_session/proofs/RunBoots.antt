@@ -45,7 +45,7 @@ none-late zero = refl
 none-late (suc n) = none-late n
 
 none-came : (plan : Plan) (act : Act) (kept : Record) (ticks : List Moment) (outcome : Outcome) → NoBoot ticks → NoBoot (performed plan act kept ticks outcome).moments
-none-came plan act kept ticks (Ok done) none = none-more ticks (past.Now (record_view plan (after plan act kept)) (fresh_in act) ∷ []) none refl
+none-came plan act kept ticks (Ok done) none = none-more ticks (past.Now (record_view plan (after plan act kept)) (fresh_in plan act) ∷ []) none refl
 none-came plan act kept ticks (Err fault) none = none
 
 none-joined : {Q : Type 0} (act : Act) (a : Performed) (q : Q) (b : Bool) (rest : Walked Q) → NoBoot a.moments → NoBoot rest.moments → NoBoot (followed_by act a q b rest).moments

@@ -9,7 +9,9 @@ use Rattle.stream_law.specs.Table.{list_of, number_of, updated}
 use Rattle.stream_law.specs.Ways.{buffers, source_of}
 use Rattle.stream_law.specs.Order.{is_among}
 use Rattle.stream_law.specs.Moves.{fed}
-use Rattle.stream_law.specs.Made.{frames_made}
+use Rattle.stream_law.specs.Made.{frames_made, frames_for}
+use Rattle.stream_law.specs.Ramps.{ramped_frames}
+use Rattle.stream_law.specs.Seen.{ramp_length}
 use Rattle.stream_law.specs.Past.{Moment, Boot, Cut, Now, Tick, Past, Ticks, Follows, Leads, frames_now, frames_read, slices, equalised_after}
 use Rattle.stream_law.proofs.Among.{value_of-updated_among, value_of-updated_apart}
 use Rattle.stream_law.proofs.Filled.{filled, leads-filled}
@@ -27,7 +29,7 @@ SameBytes one two = (slot : ℕ) → list_of one slot ≡ list_of two slot
 module _ (one two : Whole) (same : SameBytes one two) where
   frames-same : (old new : Past) (n : List (ℕ × ℕ)) (c : ℕ) → frames_now one old n new.counts.put new.made c ≡ frames_now two old n new.counts.put new.made c
   frames-same old new n c =
-      ap (λ bytes. frames_made old.view c (number_of n c) (frames_read old.view c bytes (number_of old.positions c) (number_of n c)) (slices one old n new.counts.put new.made c) (equalised_after (list_of old.epochs c))) (same c)
+      ap (λ bytes. frames_made old.view c (number_of n c) (frames_read old.view c bytes (number_of old.positions c) (number_of n c)) (slices one old n new.counts.put new.made c) (equalised_after (list_of old.epochs c)) (ramped_frames (list_of old.from c) (ramp_length old.view c) (length (list_of old.epochs c)))) (same c)
 
   tick-same : (old new : Past) (n : List (ℕ × ℕ)) → Ticks one old n new → Ticks two old n new
   tick-same old new n ticks = record {
@@ -35,8 +37,9 @@ module _ (one two : Whole) (same : SameBytes one two) where
     view = ticks.view;
     clock = ticks.clock;
     counts = ticks.counts;
-    made = ticks.made ∙ ap (λ f. updated (buffers old.view.graph) f old.made) (λ i b. list_of old.made b ++ cond (fed old.view b) (option_map_or (λ c. frames-same old new n c i) (source_of old.view.graph b) []) []);
+    made = ticks.made ∙ ap (λ f. updated (buffers old.view.graph) f old.made) (λ i b. list_of old.made b ++ cond (fed old.view b) (option_map_or (λ c. frames_for old.view c b (frames-same old new n c i)) (source_of old.view.graph b) []) []);
     epochs = ticks.epochs;
+    from = ticks.from;
     positions = ticks.positions;
     bytes = ticks.bytes;
   }

@@ -5,3 +5,5 @@ pub mod StressOver
 pub mod FreshSlots
 pub mod StressRules
 pub mod WholeStress
+pub mod NameLaws
+pub mod SmallStress

@@ -1,5 +1,6 @@
 // The topology of a stress.
-ghost use Rattle.std.specs.Prelude.{◌≡◌, ◌+◌, ◌*◌, ◌<◌, ◌≤◌, ◌++◌, ◌∷◌, ℕ, [], codes, IfOk, OnOk};
+ghost use Rattle.std.specs.Prelude.{◌≡◌, ◌+◌, ◌*◌, ◌<◌, ◌≤◌, ◌++◌, ◌∷◌, ℕ, [], true, codes, IfOk, OnOk};
+ghost use Rattle.sof_base.specs.Slots.{is_name};
 ghost use Rattle.tplg_model.specs.File.{IsTopology};
 ghost use Rattle.sof_stress.specs.Draws.{host_name as host_of, numbered_name};
 ghost use Rattle.sof_stress.specs.StressGraph as law;
@@ -8,8 +9,8 @@ use crate::names::{digit, host_name, named, volume_name};
 use sof_base::{Items, Name44, NoMemory};
 use std::alloc::Global;
 use tplg_build::{
-    PcmLimits, SourceControl, SourcePcm, SourceRoute, SourceWidget, TopologySource, WidgetKind,
-    build,
+    BuildFault, PcmLimits, SourceControl, SourcePcm, SourceRoute, SourceWidget, TopologySource,
+    WidgetKind, build,
 };
 use tplg_model::Topology;
 use tplg_model::token_number::{BUFFER_SIZE, COMP_FORMAT, PROCESS_TYPE, SCHED_PERIOD};
@@ -17,22 +18,18 @@ use tplg_model::token_number::{BUFFER_SIZE, COMP_FORMAT, PROCESS_TYPE, SCHED_PER
 /// The pipeline of the mixer.
 const MIXED: u32 = 100;
 
-fn plain(
-    alloc: Global,
-    kind: WidgetKind,
-    name: Name44,
-    sname: &[u8],
-    index: u32,
-) -> Result<SourceWidget, NoMemory>
-    ensures { IfOk result (λ w. w ≡ law.plain_widget kind name sname.now index) }
+fn plain(alloc: Global, kind: WidgetKind, name: Name44, sname: &[u8], index: u32) -> SourceWidget
+    requires { is_name sname.now ≡ true }
+    ensures { result ≡ law.plain_widget kind name sname.now index }
 {
-    Ok(SourceWidget::new(alloc, kind, name, named(sname)?, index))
+    SourceWidget::new(alloc, kind, name, named(sname), index)
 }
 
+#[tactic(auto, unfolding(sof_base::specs::Slots::has_zero))]
 fn buffer(alloc: Global, name: Name44, bytes: u32, index: u32) -> Result<SourceWidget, NoMemory>
     ensures { IfOk result (λ w. w ≡ law.buffer name bytes index) }
 {
-    plain(alloc, WidgetKind::Buffer, name, b"", index)?.with_number(BUFFER_SIZE, bytes)
+    plain(alloc, WidgetKind::Buffer, name, b"", index).with_number(BUFFER_SIZE, bytes)
 }
 
 fn scheduler(
@@ -42,17 +39,19 @@ fn scheduler(
     period: u32,
     index: u32,
 ) -> Result<SourceWidget, NoMemory>
+    requires { is_name sched.now ≡ true }
     ensures { IfOk result (λ w. w ≡ law.scheduler name sched.now period index) }
 {
-    plain(alloc, WidgetKind::Scheduler, name, sched, index)?.with_number(SCHED_PERIOD, period)
+    plain(alloc, WidgetKind::Scheduler, name, sched, index).with_number(SCHED_PERIOD, period)
 }
 
 // A volume of two channels, from -64 dB to 0 dB in steps of 2 dB.
+#[tactic(auto, unfolding(sof_base::specs::Slots::has_zero))]
 fn volume(alloc: Global, name: Name44, index: u32) -> Result<SourceWidget, NoMemory>
     ensures { IfOk result (λ w. w ≡ law.volume name index) }
 {
     let control = SourceControl::Volume {
-        name: named(b"Master")?,
+        name: named(b"Master"),
         channels: 2,
         min: 0,
         max: 32,
@@ -60,33 +59,36 @@ fn volume(alloc: Global, name: Name44, index: u32) -> Result<SourceWidget, NoMem
         tlv_step: 200,
         tlv_mute: 1,
     };
-    plain(alloc, WidgetKind::Pga, name, b"", index)?.with_control(control)
+    plain(alloc, WidgetKind::Pga, name, b"", index).with_control(control)
 }
 
 // The equaliser, whose first blob is empty.
+#[tactic(auto, unfolding(sof_base::specs::Slots::has_zero))]
 fn equaliser(alloc: Global) -> Result<SourceWidget, NoMemory>
     ensures { IfOk result (λ w. w ≡ law.equaliser) }
 {
     let control = SourceControl::Blob {
-        name: named(b"Eq")?,
+        name: named(b"Eq"),
         max: 1024,
         blob: Items::new(alloc),
     };
-    plain(alloc, WidgetKind::Effect, named(b"EQ0")?, b"", MIXED)?
-        .with_text(PROCESS_TYPE, &named(b"EQIIR")?)?
+    plain(alloc, WidgetKind::Effect, named(b"EQ0"), b"", MIXED)
+        .with_text(PROCESS_TYPE, &named(b"EQIIR"))?
         .with_control(control)
 }
 
+#[tactic(auto, unfolding(sof_base::specs::Slots::has_zero))]
 fn dai(alloc: Global) -> Result<SourceWidget, NoMemory>
     ensures { IfOk result (λ w. w ≡ law.dai) }
 {
-    plain(alloc, WidgetKind::DaiOut, named(b"DAI0")?, b"", MIXED)?.with_text(
+    plain(alloc, WidgetKind::DaiOut, named(b"DAI0"), b"", MIXED).with_text(
         COMP_FORMAT,
-        &named(b"s32le")?,
+        &named(b"s32le"),
     )
 }
 
 // The widgets of a stream up to its volume.
+#[tactic(auto, using(crate::proofs::NameLaws::two_are_name))]
 fn put_up_to_volume(
     alloc: Global,
     i: u32,
@@ -97,8 +99,8 @@ fn put_up_to_volume(
 {
     let number = digit(i);
     let caps = [b'S', number];
-    let host = plain(alloc, WidgetKind::AifIn, host_name(i), &caps, i + 1)?;
-    let before = buffer(alloc, named(&[b'A', number])?, 1536, i + 1)?;
+    let host = plain(alloc, WidgetKind::AifIn, host_name(i), &caps, i + 1);
+    let before = buffer(alloc, named(&[b'A', number]), 1536, i + 1)?;
     let volume = volume(alloc, volume_name(i), i + 1)?;
     widgets.push(host)?;
     widgets.push(before)?;
@@ -106,17 +108,19 @@ fn put_up_to_volume(
 }
 
 // The pipeline of a stream.
+#[tactic(auto, using(crate::proofs::NameLaws::two_are_name, crate::proofs::NameLaws::pipeline_is_name))]
 fn pipeline(alloc: Global, i: u32) -> Result<SourceWidget, NoMemory>
     requires { i < 4 }
     ensures { IfOk result (λ w. w ≡ law.scheduler (numbered_name (codes "PIPE") i) (host_of i) (1000 * (i + 1)) (i + 1)) }
 {
     let number = digit(i);
-    let name = named(&[b'P', b'I', b'P', b'E', number])?;
+    let name = named(&[b'P', b'I', b'P', b'E', number]);
     let host = [b'H', number];
     scheduler(alloc, name, &host, 1000 * (i + 1), i + 1)
 }
 
 // Those behind it.
+#[tactic(auto, using(crate::proofs::NameLaws::two_are_name))]
 fn put_behind_volume(
     alloc: Global,
     i: u32,
@@ -125,7 +129,7 @@ fn put_behind_volume(
     requires { i < 4 }
     ensures { OnOk result (widgets.new ≡ widgets.old ++ law.behind_volume i) }
 {
-    let after = buffer(alloc, named(&[b'C', digit(i)])?, 1536, i + 1)?;
+    let after = buffer(alloc, named(&[b'C', digit(i)]), 1536, i + 1)?;
     let pipeline = pipeline(alloc, i)?;
     widgets.push(after)?;
     widgets.push(pipeline)
@@ -146,11 +150,12 @@ fn put_stream_widgets(
 }
 
 // What the streams are mixed into, up to the equaliser.
+#[tactic(auto, unfolding(sof_base::specs::Slots::has_zero))]
 fn put_up_to_equaliser(alloc: Global, widgets: &mut Items<SourceWidget>) -> Result<(), NoMemory>
     ensures { OnOk result (widgets.new ≡ widgets.old ++ law.up_to_equaliser) }
 {
-    let mixer = plain(alloc, WidgetKind::Mixer, named(b"MIX")?, b"", MIXED)?;
-    let buffer = buffer(alloc, named(b"D0")?, 768, MIXED)?;
+    let mixer = plain(alloc, WidgetKind::Mixer, named(b"MIX"), b"", MIXED);
+    let buffer = buffer(alloc, named(b"D0"), 768, MIXED)?;
     let equaliser = equaliser(alloc)?;
     widgets.push(mixer)?;
     widgets.push(buffer)?;
@@ -158,12 +163,13 @@ fn put_up_to_equaliser(alloc: Global, widgets: &mut Items<SourceWidget>) -> Resu
 }
 
 // What is behind it.
+#[tactic(auto, unfolding(sof_base::specs::Slots::has_zero))]
 fn put_behind_equaliser(alloc: Global, widgets: &mut Items<SourceWidget>) -> Result<(), NoMemory>
     ensures { OnOk result (widgets.new ≡ widgets.old ++ law.behind_equaliser) }
 {
-    let buffer = buffer(alloc, named(b"D1")?, 768, MIXED)?;
+    let buffer = buffer(alloc, named(b"D1"), 768, MIXED)?;
     let dai = dai(alloc)?;
-    let pipeline = scheduler(alloc, named(b"PIPEM")?, b"DAI0", 1000, MIXED)?;
+    let pipeline = scheduler(alloc, named(b"PIPEM"), b"DAI0", 1000, MIXED)?;
     widgets.push(buffer)?;
     widgets.push(dai)?;
     widgets.push(pipeline)
@@ -178,16 +184,19 @@ fn put_mixed_widgets(alloc: Global, widgets: &mut Items<SourceWidget>) -> Result
     Ok(())
 }
 
-fn route(source: &[u8], sink: &[u8]) -> Result<SourceRoute, NoMemory>
-    ensures { IfOk result (λ r. r ≡ law.source_route source.now sink.now) }
+fn route(source: &[u8], sink: &[u8]) -> SourceRoute
+    requires source { is_name source.now ≡ true }
+    requires sink { is_name sink.now ≡ true }
+    ensures { result ≡ law.source_route source.now sink.now }
 {
-    Ok(SourceRoute {
-        source: named(source)?,
-        sink: named(sink)?,
-    })
+    SourceRoute {
+        source: named(source),
+        sink: named(sink),
+    }
 }
 
 // The routes of a stream, up to the mixer.
+#[tactic(auto, using(crate::proofs::NameLaws::two_are_name), unfolding(sof_base::specs::Slots::has_zero))]
 fn put_stream_routes(i: u32, routes: &mut Items<SourceRoute>) -> Result<(), NoMemory>
     requires { i < 4 }
     ensures { OnOk result (routes.new ≡ routes.old ++ law.stream_routes i) }
@@ -197,26 +206,28 @@ fn put_stream_routes(i: u32, routes: &mut Items<SourceRoute>) -> Result<(), NoMe
     let before = [b'A', number];
     let volume = [b'V', number];
     let after = [b'C', number];
-    routes.push(route(&host, &before)?)?;
-    routes.push(route(&before, &volume)?)?;
-    routes.push(route(&volume, &after)?)?;
-    routes.push(route(&after, b"MIX")?)
+    routes.push(route(&host, &before))?;
+    routes.push(route(&before, &volume))?;
+    routes.push(route(&volume, &after))?;
+    routes.push(route(&after, b"MIX"))
 }
 
 // The routes from the mixer to the DAI.
+#[tactic(auto, unfolding(sof_base::specs::Slots::has_zero))]
 fn put_mixed_routes(routes: &mut Items<SourceRoute>) -> Result<(), NoMemory>
     ensures { OnOk result (routes.new ≡ routes.old ++ law.mixed_routes) }
 {
-    routes.push(route(b"MIX", b"D0")?)?;
-    routes.push(route(b"D0", b"EQ0")?)?;
-    routes.push(route(b"EQ0", b"D1")?)?;
-    routes.push(route(b"D1", b"DAI0")?)
+    routes.push(route(b"MIX", b"D0"))?;
+    routes.push(route(b"D0", b"EQ0"))?;
+    routes.push(route(b"EQ0", b"D1"))?;
+    routes.push(route(b"D1", b"DAI0"))
 }
 
 // What a stream can do.
-fn stream_pcm(i: u32) -> Result<SourcePcm, NoMemory>
+#[tactic(auto, using(crate::proofs::NameLaws::two_are_name, crate::proofs::NameLaws::pcm_is_name))]
+fn stream_pcm(i: u32) -> SourcePcm
     requires { i < 4 }
-    ensures { IfOk result (λ p. p ≡ law.stream_pcm i) }
+    ensures { result ≡ law.stream_pcm i }
 {
     let number = digit(i);
     let limits = PcmLimits {
@@ -226,13 +237,13 @@ fn stream_pcm(i: u32) -> Result<SourcePcm, NoMemory>
         channels_min: 1,
         channels_max: 8,
     };
-    Ok(SourcePcm {
-        name: named(&[b'P', b'C', b'M', number])?,
+    SourcePcm {
+        name: named(&[b'P', b'C', b'M', number]),
         id: i,
         limits,
-        playback: Some(named(&[b'S', number])?),
+        playback: Some(named(&[b'S', number])),
         capture: None,
-    })
+    }
 }
 
 // What a stress states of its topology.
@@ -244,7 +255,7 @@ fn source_of(alloc: Global, streams: u32) -> Result<TopologySource, NoMemory>
     for i in 0..streams {
         put_stream_widgets(alloc, i, &mut source.widgets)?;
         put_stream_routes(i, &mut source.routes)?;
-        source.pcms.push(stream_pcm(i)?)?;
+        source.pcms.push(stream_pcm(i))?;
     }
     put_mixed_widgets(alloc, &mut source.widgets)?;
     put_mixed_routes(&mut source.routes)?;
@@ -258,5 +269,9 @@ pub fn topology_of(alloc: Global, streams: u32) -> Result<Topology, NoMemory>
     ensures is { IfOk result IsTopology }
 {
     let source = source_of(alloc, streams)?;
-    build(alloc, &source)
+    match build(alloc, &source) {
+        Ok(topology) => Ok(topology),
+        Err(BuildFault::OutOfMemory) => Err(NoMemory),
+        Err(BuildFault::TooLarge) => unreachable!(),
+    }
 }

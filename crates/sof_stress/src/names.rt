@@ -1,16 +1,18 @@
 // The names of widgets.
-ghost use Rattle.std.specs.Prelude.{◌≡◌, ◌+◌, ◌<◌, ◌≤◌, ◌∷◌, [], IfOk};
+ghost use Rattle.std.specs.Prelude.{◌≡◌, ◌+◌, ◌<◌, ◌≤◌, ◌∷◌, [], true};
+ghost use Rattle.sof_base.specs.Slots.{is_name};
 ghost use Rattle.sof_stress.specs.Draws as law;
 
-use sof_base::{Name44, NoMemory};
+use sof_base::Name44;
 
 /// The name of these bytes.
-pub fn named(bytes: &[u8]) -> Result<Name44, NoMemory>
-    ensures { IfOk result (λ name. name ≡ bytes.now) }
+pub fn named(bytes: &[u8]) -> Name44
+    requires { is_name bytes.now ≡ true }
+    ensures { result ≡ bytes.now }
 {
     match Name44::new(bytes) {
-        Some(name) => Ok(name),
-        None => Err(NoMemory),
+        Some(name) => name,
+        None => unreachable!(),
     }
 }
 
@@ -28,10 +30,7 @@ fn numbered(letter: u8, i: u32) -> Name44
     requires stream { i < 4 }
     ensures { result ≡ law.numbered_name (letter ∷ []) i }
 {
-    match Name44::new(&[letter, digit(i)]) {
-        Some(name) => name,
-        None => unreachable!(),
-    }
+    named(&[letter, digit(i)])
 }
 
 /// The name of a stream's host.

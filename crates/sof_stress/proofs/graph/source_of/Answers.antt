@@ -9,5 +9,5 @@ loop-i-preserved c =
     record {
       widgets = c.in_ok-put_stream_widgets.ensures ∙ ap (λ xs. xs ++ stream_widgets n) c.loop-i.invariant.widgets ∙ flat-more stream_widgets [] n;
       routes = c.in_ok-put_stream_routes.ensures ∙ ap (λ xs. xs ++ stream_routes n) c.loop-i.invariant.routes ∙ flat-more stream_routes [] n;
-      pcms = c.in_ok-push.ensures.ok ∙ (λ k. c.loop-i.invariant.pcms k ++ c.in_ok-stream_pcm.ensures k ∷ []) ∙ map-next stream_pcm [] n;
+      pcms = c.in_ok-push.ensures.ok ∙ (λ k. c.loop-i.invariant.pcms k ++ c.stream_pcm.ensures k ∷ []) ∙ map-next stream_pcm [] n;
     }

@@ -9,7 +9,8 @@ use Rattle.sof_run.specs.Todo.{End, Stop, Free, Played, DeskPhase}
 use Rattle.sof_run.specs.Lines.{halt_line, halt_status}
 use Rattle.sof_run.specs.Play.{lines_todo}
 use Rattle.sof_run.specs.Halts.{HaltsAtCheck}
-use Rattle.sof_run.specs.Checking.{counts_of, checked}
+use Rattle.sof_run.specs.Checking.{counts_of}
+use Rattle.sof_run.specs.Prepared.{checked}
 use Rattle.sof_run.specs.CheckTodo.{checked_todo, check}
 use Rattle.sof_run.proofs.Steps.{ask_on, free_on, free_off}
 

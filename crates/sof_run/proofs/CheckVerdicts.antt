@@ -1,29 +1,27 @@
 -- What `check` ensures, from what it did.
-use Rattle.std.proofs.Common.{◌≡◌, ◌⊎◌, inl, inr, ℕ, ◌≤◌, ◌<◌, true, false, List, [], ◌∷◌, ◌++◌, length, map, Option, Some, None, Result, Ok, Err, refl, sym, ◌∙◌, ap, subst, codes, arith}
+use Rattle.std.proofs.Common.{◌≡◌, ◌⊎◌, inl, inr, ℕ, ◌≤◌, ◌<◌, true, false, List, [], ◌∷◌, ◌++◌, length, map, Some, Result, Ok, Err, refl, ◌∙◌, ap, subst, codes, arith}
 use Rattle.std.specs.List.{concat}
 use Rattle.std.proofs.lemmas.List.{append-nil}
 use Rattle.sof_desk.specs.declared.calls.LoadFault.TheVariants.{Failed, TooLong, OutOfMemory}
 use Rattle.sof_desk.specs.Desk.{DeskMeaning, DeskCall, Load, Did, Read, Heard, DeskLed, Loaded, Acted}
 use Rattle.mbox_link.specs.Calls.{Meaning}
 use Rattle.sof_session.specs.Lives.{Life, Turn, Turns}
-use Rattle.tplg_model.specs.declared.fault.TplgFault.{TplgFault}
 use Rattle.tplg_model.specs.declared.block.Topology.{Topology}
-use Rattle.tplg_model.specs.Reading.{topology_of}
-use Rattle.tplg_model.proofs.FileLaws.{topology_take, topology_again, topology_found}
-use Rattle.tplg_rules.specs.RuleTest.{ruling_of}
-use Rattle.tplg_rules.proofs.RuleTests.{whole_none, none_whole, some_breaks}
 use Rattle.sof_run.specs.declared.prepare.Halt.{Halt}
 use Rattle.sof_run.specs.declared.prepare.Halt.TheVariants as halts
 use Rattle.sof_run.specs.Todo.{End, Says, DoneBy, RanOn}
 use Rattle.sof_run.specs.Lines.{no_memory_line, with_newline, halt_line, halt_status}
 use Rattle.sof_run.specs.Play.{lines_todo}
-use Rattle.sof_run.specs.Checking.{check_of, counts_of, checked_rules, checked_file, checked}
+use Rattle.sof_run.specs.Checking.{check_of, counts_of}
+use Rattle.sof_run.specs.Prepared.{checked}
 use Rattle.sof_run.specs.CheckTodo.{checked_todo, check}
 use Rattle.sof_run.specs.Forms.{todo_for, todo_of}
-use Rattle.sof_run.specs.TopologyBytes.{AreBytes, IsFile, IsBroken}
+use Rattle.sof_run.specs.TopologyBytes.{AreBytes}
 use Rattle.sof_run.specs.Calls.{heard_in}
 use Rattle.sof_run.specs.Checks.{IsWrong, IsRight, saying, CheckVerdict, Spoke, IsFront, WroteText, Checks}
+use Rattle.sof_run.specs.Findings.{TopologyComesTo}
 use Rattle.sof_run.proofs.Requests.{check_asked}
+use Rattle.sof_run.proofs.Findings.{checked_found, checked_only}
 use Rattle.sof_run.proofs.Steps.{no_turns}
 use Rattle.sof_run.proofs.SaidLines.{said, front_behind, nothing, behind, put, took, Parted, line_failed, line_parted}
 
@@ -88,6 +86,14 @@ module _ (name bytes : List ℕ) where
 
   module _ (are : AreBytes bytes) (short : length bytes ≤ 1048576) (call : DeskCall) (loads : call ≡ Load name 1048576 (Ok bytes)) (turns : List Turn) (calls : List DeskCall) (status : ℕ) where
     -- why it is not right is told with status 2
+    two : (why : Halt) → IsWrong bytes why → halt_status why ≡ 2
+    two (halts.Broken fault) is = refl
+    two (halts.Rule rule item) is = refl
+    two (halts.Script line cause) is = absurd is
+    two (halts.Ticks sum) is = absurd is
+    two (halts.Binding line) is = absurd is
+    two halts.OutOfMemory is = absurd is
+
     wrong : (why : Halt) → halt_status why ≡ 2 → IsWrong bytes why → Says (halt_line why) (halt_status why) turns calls status → CheckVerdict name bytes (call ∷ calls) status
     wrong why two is says = want (said (halt_line why) (halt_status why) turns calls status says)
       where
@@ -102,19 +108,12 @@ module _ (name bytes : List ℕ) where
         want (inl three) = inl (inl three)
         want (inr done) = inr (inr (inr (done.0, short, (t, is, λ i. loads i ∷ done.1 i))))
 
-    by_rules : (t : Topology) (ruling : Option (ℕ × ℕ)) → IsFile bytes t → ruling_of t ≡ ruling → DoneBy (checked_todo (checked_rules t ruling)) turns calls status → CheckVerdict name bytes (call ∷ calls) status
-    by_rules t (Some (rule, item)) file is goes = wrong (halts.Rule rule item) refl (t, file, some_breaks t rule item is) goes
-    by_rules t None file is goes = right t (file, none_whole t is) goes
-
-    by_file : (r : Result Topology TplgFault) → topology_of bytes ≡ r → DoneBy (checked_todo (checked_file r)) turns calls status → CheckVerdict name bytes (call ∷ calls) status
-    by_file (Err fault) is goes = wrong (halts.Broken fault) refl (none, topology_found bytes fault are is) goes
-      where
-        none : IsBroken bytes
-        none t file = cc (sym is ∙ topology_again bytes t file.0 file.1)
-    by_file (Ok t) is goes = by_rules t (ruling_of t) (topology_take bytes t are is) refl goes
+    by_found : (r : Result Topology Halt) → TopologyComesTo bytes r → DoneBy (checked_todo r) turns calls status → CheckVerdict name bytes (call ∷ calls) status
+    by_found (Ok t) is goes = right t is goes
+    by_found (Err why) is goes = wrong why (two why is) is goes
 
     free : DoneBy (checked_todo (checked bytes)) turns calls status ⊎ Says no_memory_line 7 turns calls status → CheckVerdict name bytes (call ∷ calls) status
-    free (inl goes) = by_file (topology_of bytes) refl goes
+    free (inl goes) = by_found (checked bytes) (checked_found bytes are) goes
     free (inr says) = wanting turns calls (call ∷ calls) status says
 
   module _ {D : Type 0} (means : DeskMeaning D) where
@@ -233,9 +232,6 @@ module _ {D : Type 0} (means : DeskMeaning D) where
         loaded_told text n l (Err Failed) d led.0 e status led.1
         record { part = []; spoke = nothing means led.0 e (λ place. ap (λ x. means.wrote x place) last); is = inr (inl (goes.2.2, (text, refl))) }
 
-is_kept : (bytes : List ℕ) (t : Topology) → IsRight bytes t → checked bytes ≡ Ok t
-is_kept bytes t right = ap checked_file (topology_again bytes t right.0.0 right.0.1) ∙ ap (checked_rules t) (whole_none t right.1)
-
 module _ {D P : Type 0} (means : DeskMeaning D) (dsp : Meaning P) (words : List (List ℕ)) (old new : D) (room sent : ℕ) (p q : Life P) (status : ℕ) (ran : RanOn means dsp (todo_of room sent words) old p status new q) where
   -- what it did is that of a check
   goes_on : (name : List ℕ) → check_of words ≡ Some name → DoneBy (check name) ran.turns ran.played.calls status
@@ -253,5 +249,5 @@ module _ {D P : Type 0} (means : DeskMeaning D) (dsp : Meaning P) (words : List 
         alone = untouched;
         judged = λ name bytes is told are. judge name bytes means ran.turns ran.played.calls status old new told are (goes_on name is) ran.played.led;
         heard = λ name bytes is heard are. heard_judge name bytes means ran.turns ran.played.calls status old new heard are (goes_on name is) ran.played.led;
-        counted = λ name bytes t is told short right. check_told means name bytes t short (is_kept bytes t right) ran.turns ran.played.calls old new status told (goes_on name is) ran.played.led;
+        counted = λ name bytes t is told short right. check_told means name bytes t short (checked_only bytes (Ok t) right) ran.turns ran.played.calls old new status told (goes_on name is) ran.played.led;
       }

@@ -1,12 +1,13 @@
 -- What is to do, as one list: what was done is that list, or its front.
-use Rattle.std.proofs.Common.{◌≡◌, inl, inr, ℕ, Bool, true, false, List, [], ◌∷◌, ◌++◌, map, Option, Some, None, MatchOption, Result, Ok, Err, refl, sym, ◌∙◌, ap, subst, if◌then◌else◌, codes}
+use Rattle.std.proofs.Common.{◌≡◌, inl, inr, ℕ, true, false, List, [], ◌∷◌, ◌++◌, map, Option, Some, None, MatchOption, Result, Ok, Err, refl, sym, ◌∙◌, ap, subst, codes}
 use Rattle.sof_desk.specs.declared.calls.LoadFault.TheVariants.{Failed, TooLong, OutOfMemory}
-use Rattle.sof_desk.specs.Desk.{Create, Open, Heard, DeskCall, Load, Did, Read}
+use Rattle.sof_desk.specs.Desk.{Heard, DeskCall, Load, Did, Read}
 use Rattle.tplg_model.specs.declared.block.Topology.{Topology}
 use Rattle.tplg_plan.specs.declared.plans.Plan.{Plan}
 use Rattle.tplg_compile.specs.declared.source_fault.SourceFault.{SourceFault}
+use Rattle.tplg_graph.specs.PlanOf.{plan_of}
 use Rattle.tplg_compile.specs.InOrder.{compiled_of}
-use Rattle.sof_script.specs.Commands.{Bound}
+use Rattle.sof_script.specs.Commands.{Bound, Read as ReadScript}
 use Rattle.sof_session.specs.Written.{Out}
 use Rattle.sof_session.specs.Lives.{Task, Begin, Carry, Fill, Turn}
 use Rattle.sof_run.specs.declared.prepare.Halt.{Halt}
@@ -16,10 +17,10 @@ use Rattle.sof_run.specs.Calls.{reading}
 use Rattle.sof_run.specs.Bindings.{binding_act, bound_inputs, bound_slots}
 use Rattle.sof_run.specs.Rounds.{Round, rounds_of}
 use Rattle.sof_run.specs.Lines.{no_memory_line, with_newline, lines_after}
-use Rattle.sof_run.specs.Prepared.{Prepared, Ready, Halted, prepared}
-use Rattle.sof_run.specs.Play.{prepared_todo, lines_todo, rounds_todo, session_todo, bindings_todo, play}
+use Rattle.sof_run.specs.Prepared.{prepared, checked}
+use Rattle.sof_run.specs.Play.{prepared_todo, ready_todo, lines_todo, rounds_todo, session_todo, bindings_todo, play}
 use Rattle.sof_run.specs.Pieces.{Piece, pieces_of}
-use Rattle.sof_run.specs.Checking.{checked, counts_of}
+use Rattle.sof_run.specs.Checking.{counts_of}
 use Rattle.sof_run.specs.CheckTodo.{checked_todo}
 use Rattle.sof_run.specs.CompileTodo.{compiled_todo}
 use Rattle.sof_stress.specs.declared.counts.Counts.{Counts}
@@ -31,22 +32,29 @@ use Rattle.sof_run.specs.Stressing.{stress_lines}
 use Rattle.sof_run.specs.StressTodo.{counted_todo, told_todo, stress}
 use Rattle.sof_run.specs.Requests.{Request, Play, Check, Compile, Stress, request_of}
 use Rattle.sof_run.specs.Forms.{todo_for, todo_of}
-use Rattle.sof_run.specs.Calls.{Item, Calls, Turns, Memory, Course, before_course, saying, last_line, load_course, turning, filling_by, filling, putting, units, bindings, files, playing, counting, making, counting_turns, telling, stressing, heard_in, Wants, Made, FollowsCourse, course_for}
+use Rattle.sof_run.specs.Calls.{Item, Calls, Turns, Memory, Course, before_course, saying, last_line, load_course, turning, filling_by, filling, putting, units, bindings, files, playing, counting, making, counting_turns, telling, stressing, session, heard_in, Wants, Made, course_for, IsMade}
+use Rattle.sof_run.specs.Findings.{FollowsCourse}
 use Rattle.sof_run.proofs.WrittenPieces.{puts, puts_flush}
+use Rattle.sof_run.proofs.Findings.{run_of, as_prepared, prepared_same, run_heard, topology_heard, source_heard, findings_of, are_found}
 
 -- ---- what is to do, unrolled
+
+-- a load, and what comes behind it by the bytes
+abbrev loading : List ℕ → ℕ → List ℕ → List Heard → (List ℕ → List Heard → Course) → Course
+loading name limit line [] next = record { items = Calls (Load name limit (Err Failed)) ∷ []; status = 3 }
+loading name limit line (Ok bytes ∷ heard) next = before_course (Calls (Load name limit (Ok bytes)) ∷ []) (next bytes heard)
+loading name limit line (Err TooLong ∷ heard) next = before_course (Calls (Load name limit (Err TooLong)) ∷ []) (last_line line 5)
+loading name limit line (Err OutOfMemory ∷ heard) next = before_course (Calls (Load name limit (Err OutOfMemory)) ∷ []) (last_line no_memory_line 7)
+loading name limit line (Err Failed ∷ heard) next = record { items = Calls (Load name limit (Err Failed)) ∷ []; status = 3 }
 
 abbrev unrolled : Todo → List Heard → List Turn → Course
 unrolled End heard turns = record { items = []; status = 0 }
 unrolled (Stop line n) heard turns = last_line line n
-unrolled (Ask name limit line next) heard turns = load_course name limit line heard (λ bytes heard. unrolled (next bytes) heard turns)
+unrolled (Ask name limit line next) heard turns = loading name limit line heard (λ bytes heard. unrolled (next bytes) heard turns)
 unrolled (Do act next) heard turns = before_course (Calls (Did act true) ∷ []) (unrolled next heard turns)
 unrolled (Step task next) heard turns = turning task turns (λ out turns. unrolled (next out) heard turns)
 unrolled (Refill next) heard turns = filling turns (λ turns. unrolled next heard turns)
 unrolled (Free next) heard turns = before_course (Memory ∷ []) (unrolled next heard turns)
-
-abbrev IsMade : Course → List Turn → List DeskCall → ℕ → Type 0
-IsMade c turns calls status = Made c.items c.status turns calls status
 
 said : (line : List ℕ) (n : ℕ) (turns : List Turn) (calls : List DeskCall) (status : ℕ) → Says line n turns calls status → IsMade (last_line line n) turns calls status
 said line n turns [] status says = absurd says
@@ -125,12 +133,12 @@ made (Free next) turns calls status (inr says) = inr (wanted turns calls status 
 
 -- ---- the same, form by form
 
-loading-same : (name : List ℕ) (limit : ℕ) (line : List ℕ) (heard : List Heard) (f g : List ℕ → List Heard → Course) → ((bytes : List ℕ) (heard : List Heard) → f bytes heard ≡ g bytes heard) → load_course name limit line heard f ≡ load_course name limit line heard g
+loading-same : (name : List ℕ) (limit : ℕ) (line : List ℕ) (heard : List Heard) (f : List ℕ → List Heard → Course) (g : List Heard → Course) → ((bytes : List ℕ) (later : List Heard) → heard ≡ Ok bytes ∷ later → f bytes later ≡ g later) → loading name limit line heard f ≡ load_course name limit line heard g
 loading-same name limit line [] f g same = refl
-loading-same name limit line (Ok bytes ∷ heard) f g same = ap (before_course (Calls (Load name limit (Ok bytes)) ∷ [])) (same bytes heard)
-loading-same name limit line (Err TooLong ∷ heard) f g same = refl
-loading-same name limit line (Err OutOfMemory ∷ heard) f g same = refl
-loading-same name limit line (Err Failed ∷ heard) f g same = refl
+loading-same name limit line (Ok bytes ∷ later) f g same = ap (before_course (Calls (Load name limit (Ok bytes)) ∷ [])) (same bytes later refl)
+loading-same name limit line (Err TooLong ∷ later) f g same = refl
+loading-same name limit line (Err OutOfMemory ∷ later) f g same = refl
+loading-same name limit line (Err Failed ∷ later) f g same = refl
 
 turning-same : (task : Task) (turns : List Turn) (f g : Out → List Turn → Course) → ((out : Out) (turns : List Turn) → f out turns ≡ g out turns) → turning task turns f ≡ turning task turns g
 turning-same task [] f g same = refl
@@ -161,19 +169,30 @@ bindings-same : (plan : Plan) (bs : List Bound) (rest : Todo) (heard : List Hear
 bindings-same plan [] rest heard turns = refl
 bindings-same plan (b ∷ bs) rest heard turns = ap (before_course (Calls (Did (binding_act plan b) true) ∷ [])) (bindings-same plan bs rest heard turns)
 
-files-same : (heap : ℕ) (p : Prepared) (heard : List Heard) (turns : List Turn) → unrolled (prepared_todo heap p) heard turns ≡ files heap p turns
-files-same heap (Halted why) heard turns = refl
-files-same heap (Ready plan read) heard turns =
+session-same : (heap : ℕ) (plan : Plan) (read : ReadScript) (heard : List Heard) (turns : List Turn) → unrolled (ready_todo heap plan read) heard turns ≡ session heap plan read turns
+session-same heap plan read heard turns =
     let inputs = bound_inputs plan [] read.bindings in
     let slots = bound_slots plan read.bindings in
     bindings-same plan read.bindings (session_todo heap plan read.commands inputs slots) heard turns
     ∙ ap (bindings plan read.bindings) (turning-same (Begin plan heap inputs slots) turns _ _ (λ out turns. units-same (rounds_of read.commands) heard turns))
 
-playing-same : (form : Form) (heard : List Heard) (turns : List Turn) → unrolled (play form) heard turns ≡ playing form heard turns
+files-same : (heap : ℕ) (r : Result (Topology × ReadScript) Halt) (heard : List Heard) (turns : List Turn) → unrolled (prepared_todo heap (as_prepared r)) heard turns ≡ files heap r turns
+files-same heap (Err why) heard turns = refl
+files-same heap (Ok (t, read)) heard turns = session-same heap (plan_of t) read heard turns
+
+-- the files by the run that they make
+module _ (form : Form) (topology script : List ℕ) (heard last : List Heard) (turns : List Turn) (brought : heard ≡ Ok topology ∷ Ok script ∷ last) where
+  brought-same : unrolled (prepared_todo form.heap (prepared topology script)) last turns ≡ files form.heap (run_heard heard) turns
+  brought-same =
+      ap (λ p. unrolled (prepared_todo form.heap p) last turns) (prepared_same topology script)
+      ∙ files-same form.heap (run_of topology script) last turns
+      ∙ ap (λ r. files form.heap r turns) (sym (ap run_heard brought))
+
+playing-same : (form : Form) (heard : List Heard) (turns : List Turn) → unrolled (play form) heard turns ≡ playing form (run_heard heard) heard turns
 playing-same form heard turns =
-    loading-same form.topology 1048576 (codes "too long topology\n") heard _ _ (λ topology heard.
-    loading-same form.script 1048576 (codes "too long script\n") heard _ _ (λ script heard.
-    ap (before_course (Memory ∷ [])) (files-same form.heap (prepared topology script) heard turns)))
+    loading-same form.topology 1048576 (codes "too long topology\n") heard _ _ (λ topology later first.
+    loading-same form.script 1048576 (codes "too long script\n") later _ _ (λ script last second.
+    ap (before_course (Memory ∷ [])) (brought-same form topology script heard last turns (first ∙ ap (λ hs. Ok topology ∷ hs) second))))
 
 counting-same : (r : Result Topology Halt) (heard : List Heard) (turns : List Turn) → unrolled (checked_todo r) heard turns ≡ counting r
 counting-same (Ok t) heard turns = lines-same (counts_of t) heard turns
@@ -194,14 +213,22 @@ stressing-same room sent seed heard turns =
     counted-same (dai_slot (stream_count seed)) (stress_turns seed) no_counts (told_todo sent) (telling sent) heard turns
     (λ counts turns. lines-same (stress_lines (record counts { messages = sent })) heard turns)))
 
-request-same : (room sent : ℕ) (r : Option Request) (heard : List Heard) (turns : List Turn) → unrolled (todo_for room sent r) heard turns ≡ course_for room sent r heard turns
+request-same : (room sent : ℕ) (r : Option Request) (heard : List Heard) (turns : List Turn) → unrolled (todo_for room sent r) heard turns ≡ course_for room sent r (findings_of heard) heard turns
 request-same room sent (Some (Play form)) heard turns = playing-same form heard turns
-request-same room sent (Some (Check name)) heard turns = loading-same name 1048576 (codes "too long topology\n") heard _ _ (λ bytes heard. ap (before_course (Memory ∷ [])) (counting-same (checked bytes) heard turns))
-request-same room sent (Some (Compile names)) heard turns = loading-same names.source 1048576 (codes "too long source\n") heard _ _ (λ text heard. ap (before_course (Memory ∷ [])) (making-same names.out (compiled_of text) heard turns))
+request-same room sent (Some (Check name)) heard turns =
+    loading-same name 1048576 (codes "too long topology\n") heard _ _ (λ bytes later is.
+    ap (before_course (Memory ∷ [])) (counting-same (checked bytes) later turns ∙ ap counting (sym (ap topology_heard is))))
+request-same room sent (Some (Compile names)) heard turns =
+    loading-same names.source 1048576 (codes "too long source\n") heard _ _ (λ text later is.
+    ap (before_course (Memory ∷ [])) (making-same names.out (compiled_of text) later turns ∙ ap (making names.out) (sym (ap source_heard is))))
 request-same room sent (Some (Stress seed)) heard turns = stressing-same room sent seed heard turns
 request-same room sent None heard turns = refl
 
 -- what was done is the course of the words, or its front
 pub follows : (room sent : ℕ) (words : List (List ℕ)) (turns : List Turn) (calls : List DeskCall) (status : ℕ) → DoneBy (todo_of room sent words) turns calls status → FollowsCourse room sent words turns calls status
 follows room sent words turns calls status goes =
-    subst (λ (c : Course). IsMade c turns calls status) (request-same room sent (request_of room words) (heard_in calls) turns) (made (todo_of room sent words) turns calls status goes)
+    record {
+      found = findings_of (heard_in calls);
+      are = are_found (heard_in calls);
+      made = subst (λ (c : Course). IsMade c turns calls status) (request-same room sent (request_of room words) (heard_in calls) turns) (made (todo_of room sent words) turns calls status goes);
+    }

@@ -1,18 +1,15 @@
 -- All that `run` ensures, from what it did.
-use Rattle.std.proofs.Common.{◌≡◌, ◌⊎◌, inl, inr, ℕ, ◌≤◌, nat_lt, false, List, Option, Some, None, refl, sym, ap, ◌∙◌, subst, arith, codes}
-use Rattle.std.proofs.lemmas.Bool.Decides.{nat_tests}
+use Rattle.std.proofs.Common.{◌≡◌, ◌⊎◌, inl, inr, ℕ, List, Option, Some, None, Ok, refl, sym, ap, ◌∙◌, subst, arith, codes}
 use Rattle.sof_desk.specs.Desk.{DeskMeaning, DeskCall, CountRose}
 use Rattle.mbox_link.specs.Calls.{Meaning}
 use Rattle.tplg_model.specs.declared.block.Topology.{Topology}
-use Rattle.tplg_model.proofs.FileLaws.{topology_again}
 use Rattle.tplg_graph.specs.PlanOf.{plan_of}
-use Rattle.tplg_rules.proofs.RuleTests.{whole_none}
 use Rattle.sof_script.specs.Commands.{Read}
 use Rattle.sof_session.specs.Lives.{Bare, Turn, Turns}
 use Rattle.sof_run.specs.Todo.{Todo, Says, DoneBy}
 use Rattle.sof_run.specs.Throughout.{Throughout}
 use Rattle.sof_run.specs.Rounds.{rounds_of}
-use Rattle.sof_run.specs.Prepared.{Ready, ticks_of, prepared, prepared_script, prepared_ticks, prepared_topology, prepared_rules, prepared_bindings}
+use Rattle.sof_run.specs.Prepared.{Ready, prepared}
 use Rattle.sof_run.specs.Play.{play}
 use Rattle.sof_run.specs.CheckTodo.{check}
 use Rattle.sof_run.specs.CompileTodo.{compile}
@@ -25,13 +22,14 @@ use Rattle.sof_run.specs.Plays.{Plays, Unbegun, PlaysWhole, ground_in}
 use Rattle.sof_run.specs.HeardRuns.{PlaysHeard, PlaysWhatIsHeard}
 use Rattle.sof_run.specs.Todo.{Gave}
 use Rattle.sof_run.specs.Run.{Left}
-use Rattle.sof_run.specs.Calls.{FollowsCourse}
+use Rattle.sof_run.specs.Findings.{FollowsCourse}
 use Rattle.sof_run.proofs.Requests.{play_asked, nothing_asked, formless_asked}
 use Rattle.sof_run.proofs.SaidLines.{said}
 use Rattle.sof_run.proofs.Judging.{judge}
 use Rattle.sof_run.proofs.PlanWords.{sound_plan}
 use Rattle.sof_run.proofs.ScriptRanges.{script_sound}
 use Rattle.sof_run.proofs.OpenedFiles.{Next}
+use Rattle.sof_run.proofs.Findings.{as_prepared, prepared_same, files_only}
 use Rattle.sof_run.proofs.Courses.{follows}
 use Rattle.sof_run.proofs.PlayRuns.{play_goes, plays, before_begun}
 use Rattle.sof_run.proofs.HeardRuns.{play_heard, legs, over_is}
@@ -84,16 +82,8 @@ worded room sent words turns calls status goes =
 
 -- ---- the files
 
-not_over : (sum : ℕ) → sum ≤ 60000 → nat_lt 60000 sum ≡ false
-not_over sum few = grind (arith, nat_tests)
-
 files_ready : (topology script : List ℕ) (t : Topology) (read : Read) → MakeRun topology script t read → prepared topology script ≡ Ready (plan_of t) read
-files_ready topology script t read is =
-    ap (prepared_script topology) is.lines.0
-    ∙ ap (prepared_ticks topology read) (not_over (ticks_of read.commands) is.lines.1)
-    ∙ ap (prepared_topology read) (topology_again topology t is.file.0 is.file.1)
-    ∙ ap (prepared_rules t read) (whole_none t is.whole)
-    ∙ ap (prepared_bindings (plan_of t) read) is.right
+files_ready topology script t read is = prepared_same topology script ∙ ap as_prepared (files_only topology script (Ok (t, read)) is)
 
 -- ---- all
 

@@ -1,34 +1,23 @@
 -- The status by the bytes of the files.
-use Rattle.std.proofs.Common.{◌≡◌, ◌⊎◌, inl, inr, ℕ, ◌<◌, ◌≤◌, Bool, true, false, List, [], ◌∷◌, length, Option, Some, None, Result, Ok, Err, refl, sym, ◌∙◌, ap, subst, codes, arith, nat_lt}
-use Rattle.std.proofs.lemmas.Bool.Decides.{nat_tests}
+use Rattle.std.proofs.Common.{◌≡◌, ◌⊎◌, inl, inr, ℕ, ◌<◌, ◌≤◌, true, false, List, [], ◌∷◌, length, Some, Result, Ok, Err, ◌∙◌, ap, subst, codes}
 use Rattle.sof_desk.specs.declared.calls.LoadFault.TheVariants.{Failed, TooLong, OutOfMemory}
 use Rattle.sof_desk.specs.Desk.{DeskMeaning, Put, Spoken, DeskCall, Load, Did, Read as ReadCall, DeskLed, Loaded}
-use Rattle.tplg_model.specs.declared.fault.TplgFault.{TplgFault}
 use Rattle.tplg_model.specs.declared.block.Topology.{Topology}
-use Rattle.tplg_model.specs.Reading.{topology_of}
-use Rattle.tplg_model.proofs.FileLaws.{topology_take, topology_again, topology_found}
-use Rattle.tplg_rules.specs.WellFormed.{IsWellFormed}
-use Rattle.tplg_rules.specs.RuleTest.{ruling_of}
 use Rattle.tplg_graph.specs.PlanOf.{plan_of}
-use Rattle.tplg_rules.proofs.RuleTests.{none_whole, some_breaks}
-use Rattle.sof_script.specs.declared.reading.ScriptFault.{ScriptFault}
-use Rattle.sof_script.specs.declared.reading.ScriptFault.TheVariants.{Line}
-use Rattle.sof_script.specs.declared.reading.ScriptFault.TheVariants as wants
-use Rattle.sof_script.specs.Commands.{Read, script_of}
+use Rattle.sof_script.specs.Commands.{Read}
 use Rattle.sof_session.specs.Lives.{Turn}
 use Rattle.sof_run.specs.declared.prepare.Halt.{Halt}
-use Rattle.sof_run.specs.declared.prepare.Halt.TheVariants as halts
-use Rattle.sof_run.specs.Bindings.{wrong_binding}
 use Rattle.sof_run.specs.Words.{Form}
 use Rattle.sof_run.specs.Todo.{Todo, Ask, Free, Says, DoneBy}
 use Rattle.sof_run.specs.Lines.{no_memory_line, halt_line, halt_status}
-use Rattle.sof_run.specs.Prepared.{Prepared, ticks_of, prepared, prepared_script, prepared_ticks, prepared_topology, prepared_rules, prepared_bindings}
+use Rattle.sof_run.specs.Prepared.{prepared}
 use Rattle.sof_run.specs.Play.{prepared_todo, play}
-use Rattle.sof_run.specs.TopologyBytes.{AreBytes, IsLong, IsFile, IsBroken}
-use Rattle.sof_run.specs.Verdicts.{Fit, IsScript, MakeRun, IsHalt, last_call, Verdict}
+use Rattle.sof_run.specs.TopologyBytes.{AreBytes, IsLong}
+use Rattle.sof_run.specs.Verdicts.{Fit, MakeRun, IsHalt, last_call, Verdict}
+use Rattle.sof_run.specs.Findings.{FilesComeTo}
 use Rattle.sof_run.proofs.Statuses.{IsLate}
 use Rattle.sof_run.proofs.Throughout.{ready_ends}
-use Rattle.sof_run.proofs.ScriptReads.{never_wanting}
+use Rattle.sof_run.proofs.Findings.{run_of, as_prepared, prepared_same, files_found}
 
 -- a line that was said, with its status, or that was not
 said : (line : List ℕ) (n : ℕ) (turns : List Turn) (calls : List DeskCall) (status : ℕ) → Says line n turns calls status → (status ≡ 3) ⊎ ((status ≡ n) × (last_call calls ≡ Some (Did (Put Spoken line) true)))
@@ -42,12 +31,6 @@ said line n turns (Did act false ∷ calls) status says = inl says.3
 last_more : (call other : DeskCall) (calls : List DeskCall) → last_call calls ≡ Some other → last_call (call ∷ calls) ≡ Some other
 last_more call other [] is = absurd (cc is)
 last_more call other (first ∷ calls) is = is
-
-too_many : (sum : ℕ) → nat_lt 60000 sum ≡ true → 60000 < sum
-too_many sum over = grind (arith, nat_tests)
-
-few : (sum : ℕ) → nat_lt 60000 sum ≡ false → sum ≤ 60000
-few sum not = grind (arith, nat_tests)
 
 module _ (topology script : List ℕ) where
   -- one call more before
@@ -85,39 +68,14 @@ module _ (topology script : List ℕ) where
     runs t read calls status is (inl (inr three)) = inl (inl three)
     runs t read calls status is (inr seven) = inl (inr seven)
 
-    -- by what each step of preparing comes to
+    -- by what the files come to
     module _ (heap : ℕ) (turns : List Turn) (calls : List DeskCall) (status : ℕ) where
-      abbrev Judges : Prepared → Type 0
-      Judges files = DoneBy (prepared_todo heap files) turns calls status → Verdict topology script calls status
-
-      by_bindings : (t : Topology) (read : Read) (wrong : Option ℕ) → IsScript script read → IsFile topology t → IsWellFormed t → wrong_binding (plan_of t) read.bindings ≡ wrong → Judges (prepared_bindings (plan_of t) read wrong)
-      by_bindings t read (Some line) lines file whole is goes = stops (halts.Binding line) turns calls status (read, t, lines, file, whole, is) goes
-      by_bindings t read None lines file whole is goes =
-          runs t read calls status record { lines = lines; file = file; whole = whole; right = is }
-          (ready_ends heap (plan_of t) read turns calls status goes)
-
-      by_rules : (t : Topology) (read : Read) (ruling : Option (ℕ × ℕ)) → IsScript script read → IsFile topology t → ruling_of t ≡ ruling → Judges (prepared_rules t read ruling)
-      by_rules t read (Some (rule, item)) lines file is goes = stops (halts.Rule rule item) turns calls status (read, t, lines, file, some_breaks t rule item is) goes
-      by_rules t read None lines file is goes = by_bindings t read (wrong_binding (plan_of t) read.bindings) lines file (none_whole t is) refl goes
-
-      by_topology : (read : Read) (r : Result Topology TplgFault) → IsScript script read → topology_of topology ≡ r → Judges (prepared_topology read r)
-      by_topology read (Err fault) lines is goes = stops (halts.Broken fault) turns calls status ((read, lines), none, topology_found topology fault bytes is) goes
-        where
-          none : IsBroken topology
-          none t file = cc (sym is ∙ topology_again topology t file.0 file.1)
-      by_topology read (Ok t) lines is goes = by_rules t read (ruling_of t) lines (topology_take topology t bytes is) refl goes
-
-      by_ticks : (read : Read) (over : Bool) → script_of script ≡ Ok read → nat_lt 60000 (ticks_of read.commands) ≡ over → Judges (prepared_ticks topology read over)
-      by_ticks read true is over goes = stops (halts.Ticks (ticks_of read.commands)) turns calls status (read, is, refl, too_many (ticks_of read.commands) over) goes
-      by_ticks read false is over goes = by_topology read (topology_of topology) (is, few (ticks_of read.commands) over) refl goes
-
-      by_script : (r : Result Read ScriptFault) → script_of script ≡ r → Judges (prepared_script topology r)
-      by_script (Err (Line line cause)) is goes = stops (halts.Script line cause) turns calls status is goes
-      by_script (Err wants.OutOfMemory) is goes = absurd (never_wanting script is)
-      by_script (Ok read) is goes = by_ticks read (nat_lt 60000 (ticks_of read.commands)) is refl goes
+      by_found : (r : Result (Topology × Read) Halt) → FilesComeTo topology script r → DoneBy (prepared_todo heap (as_prepared r)) turns calls status → Verdict topology script calls status
+      by_found (Ok (t, read)) is goes = runs t read calls status is (ready_ends heap (plan_of t) read turns calls status goes)
+      by_found (Err why) is goes = stops why turns calls status is goes
 
       free : DoneBy (Free (prepared_todo heap (prepared topology script))) turns calls status → Verdict topology script calls status
-      free (inl goes) = by_script (script_of script) refl goes
+      free (inl goes) = by_found (run_of topology script) (files_found topology script bytes) (subst (λ files. DoneBy (prepared_todo heap files) turns calls status) (prepared_same topology script) goes)
       free (inr says) = wanting turns calls status says
 
   module _ {D : Type 0} (means : DeskMeaning D) where

@@ -11,6 +11,7 @@ pub mod Throughout
 pub mod Judging
 pub mod Finish
 pub mod ScriptReads
+pub mod Findings
 pub mod BindingLaws
 pub mod SaidLines
 pub mod CheckPhases

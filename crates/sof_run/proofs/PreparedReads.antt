@@ -11,7 +11,8 @@ use Rattle.sof_script.specs.declared.reading.ScriptFault.TheVariants.{Line, OutO
 use Rattle.sof_script.specs.Commands.{Read, script_of}
 use Rattle.std.specs.Prelude.{nat_lt}
 use Rattle.sof_run.specs.Bindings.{wrong_binding}
-use Rattle.sof_run.specs.Prepared.{Ready, ticks_of, prepared, prepared_script, prepared_ticks, prepared_topology, prepared_rules, prepared_bindings}
+use Rattle.sof_run.specs.Verdicts.{ticks_of}
+use Rattle.sof_run.specs.Prepared.{Ready, prepared, prepared_script, prepared_ticks, prepared_topology, prepared_rules, prepared_bindings}
 
 module _ (plan : Plan) (read : Read) where
   by_bindings : (p : Plan) (r : Read) (wrong : Option ℕ) → prepared_bindings p r wrong ≡ Ready plan read → r ≡ read

@@ -21,9 +21,9 @@ use Rattle.sof_run.specs.Bindings.{bound_inputs, bound_slots}
 use Rattle.sof_run.specs.Rounds.{Round, rounds_of}
 use Rattle.sof_run.specs.Todo.{Todo, End, Free, DoneBy}
 use Rattle.sof_run.specs.Lines.{lines_after, halt_status}
-use Rattle.sof_run.specs.Prepared.{Prepared, Ready, Halted, prepared}
+use Rattle.sof_run.specs.Prepared.{Prepared, Ready, Halted, prepared, checked_rules, checked_file, checked}
 use Rattle.sof_run.specs.Play.{prepared_todo, ready_todo, flush_todo, lines_todo, rounds_todo, session_todo, bindings_todo, play}
-use Rattle.sof_run.specs.Checking.{counts_of, checked_rules, checked_file, checked}
+use Rattle.sof_run.specs.Checking.{counts_of}
 use Rattle.sof_run.specs.CheckTodo.{checked_todo, check}
 use Rattle.sof_run.specs.Compiling.{CompileNames, source_status}
 use Rattle.sof_run.specs.CompileTodo.{compiled_todo, compile}

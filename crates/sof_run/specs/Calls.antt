@@ -1,4 +1,5 @@
--- The calls on the desk and the turns on the device, as one list, by what loads answered and by the turns that were made.
+-- The calls on the desk and the turns on the device, as one list, by what loads answered, by what the loaded bytes come to and by the
+-- turns that were made.
 use Rattle.std.specs.Prelude.{◌≡◌, ◌⊎◌, ℕ, true, false, List, [], ◌∷◌, ◌++◌, map, Option, Some, None, Result, Ok, Err, codes, if◌then◌else◌}
 use Rattle.sof_desk.specs.declared.calls.LoadFault.TheVariants.{Failed, TooLong, OutOfMemory}
 use Rattle.sof_desk.specs.Desk.{Create, Put, Slot, Spoken, Heard, DeskCall, Load, Did, Read}
@@ -6,8 +7,8 @@ use Rattle.tplg_model.specs.declared.block.Topology.{Topology}
 use Rattle.tplg_model.specs.File.{spelling}
 use Rattle.tplg_plan.specs.declared.plans.Plan.{Plan}
 use Rattle.tplg_compile.specs.declared.source_fault.SourceFault.{SourceFault}
-use Rattle.tplg_compile.specs.InOrder.{compiled_of}
-use Rattle.sof_script.specs.Commands.{Bound}
+use Rattle.tplg_graph.specs.PlanOf.{plan_of}
+use Rattle.sof_script.specs.Commands.{Bound, Read as ReadScript}
 use Rattle.sof_session.specs.Written.{Out}
 use Rattle.sof_session.specs.Lives.{Task, Begin, Carry, Fill, Turn}
 use Rattle.sof_run.specs.declared.prepare.Halt.{Halt}
@@ -15,9 +16,8 @@ use Rattle.sof_run.specs.Words.{Form}
 use Rattle.sof_run.specs.Bindings.{binding_act, bound_inputs, bound_slots}
 use Rattle.sof_run.specs.Rounds.{Round, rounds_of}
 use Rattle.sof_run.specs.Lines.{no_memory_line, halt_line, halt_status, with_newline}
-use Rattle.sof_run.specs.Prepared.{Prepared, Ready, Halted, prepared}
 use Rattle.sof_run.specs.Pieces.{Piece, pieces_of}
-use Rattle.sof_run.specs.Checking.{checked, counts_of}
+use Rattle.sof_run.specs.Checking.{counts_of}
 use Rattle.sof_stress.specs.declared.counts.Counts.{Counts}
 use Rattle.sof_stress.specs.Draws.{stream_count}
 use Rattle.sof_stress.specs.StressPorts.{dai_slot}
@@ -26,6 +26,15 @@ use Rattle.sof_stress.specs.StressRun.{stress_begins, stress_turns}
 use Rattle.sof_run.specs.Compiling.{CompileNames, source_line, source_status, wrote_line}
 use Rattle.sof_run.specs.Stressing.{stress_lines}
 use Rattle.sof_run.specs.Requests.{Request, Play, Check, Compile, Stress, request_of}
+
+-- ---- what the loaded bytes come to
+
+-- Each as a value: the run that a topology and a script make, or why they make none; the topology that keeps all rules, or why the
+-- bytes are no such; the topology of a source, or the source's fault.
+pub record Findings : Type 0 where
+  pub run : Result (Topology × ReadScript) Halt
+  pub topology : Result Topology Halt
+  pub source : Result Topology SourceFault
 
 -- ---- the list
 
@@ -50,10 +59,10 @@ saying line = Calls (Did (Put Spoken line) true)
 abbrev pub last_line : List ℕ → ℕ → Course
 last_line line status = record { items = saying line ∷ []; status = status }
 
--- a load, by what it answered first of all that loads answered: the bytes, with which it goes on, or why there are none
-abbrev pub load_course : List ℕ → ℕ → List ℕ → List Heard → (List ℕ → List Heard → Course) → Course
+-- a load, by what it answered first of all that loads answered: the bytes, behind which it goes on, or why there are none
+abbrev pub load_course : List ℕ → ℕ → List ℕ → List Heard → (List Heard → Course) → Course
 load_course name limit line [] next = record { items = Calls (Load name limit (Err Failed)) ∷ []; status = 3 }
-load_course name limit line (Ok bytes ∷ heard) next = before_course (Calls (Load name limit (Ok bytes)) ∷ []) (next bytes heard)
+load_course name limit line (Ok bytes ∷ heard) next = before_course (Calls (Load name limit (Ok bytes)) ∷ []) (next heard)
 load_course name limit line (Err TooLong ∷ heard) next = before_course (Calls (Load name limit (Err TooLong)) ∷ []) (last_line line 5)
 load_course name limit line (Err OutOfMemory ∷ heard) next = before_course (Calls (Load name limit (Err OutOfMemory)) ∷ []) (last_line no_memory_line 7)
 load_course name limit line (Err Failed ∷ heard) next = record { items = Calls (Load name limit (Err Failed)) ∷ []; status = 3 }
@@ -96,17 +105,20 @@ bindings plan [] next = next
 bindings plan (b ∷ bs) next = before_course (Calls (Did (binding_act plan b) true) ∷ []) (bindings plan bs next)
 
 -- and then a session over what they bind
-abbrev pub files : ℕ → Prepared → List Turn → Course
-files heap (Halted why) turns = last_line (halt_line why) (halt_status why)
-files heap (Ready plan read) turns =
+abbrev pub session : ℕ → Plan → ReadScript → List Turn → Course
+session heap plan read turns =
     bindings plan read.bindings
     (turning (Begin plan heap (bound_inputs plan [] read.bindings) (bound_slots plan read.bindings)) turns (λ out turns. units (rounds_of read.commands) turns))
 
-abbrev pub playing : Form → List Heard → List Turn → Course
-playing form heard turns =
-    load_course form.topology 1048576 (codes "too long topology\n") heard (λ topology heard.
-    load_course form.script 1048576 (codes "too long script\n") heard (λ script heard.
-    before_course (Memory ∷ []) (files form.heap (prepared topology script) turns)))
+abbrev pub files : ℕ → Result (Topology × ReadScript) Halt → List Turn → Course
+files heap (Ok (t, read)) turns = session heap (plan_of t) read turns
+files heap (Err why) turns = last_line (halt_line why) (halt_status why)
+
+abbrev pub playing : Form → Result (Topology × ReadScript) Halt → List Heard → List Turn → Course
+playing form run heard turns =
+    load_course form.topology 1048576 (codes "too long topology\n") heard (λ heard.
+    load_course form.script 1048576 (codes "too long script\n") heard (λ heard.
+    before_course (Memory ∷ []) (files form.heap run turns)))
 
 -- ---- `check` and `compile`
 
@@ -114,15 +126,15 @@ abbrev pub counting : Result Topology Halt → Course
 counting (Ok t) = record { items = map (λ line. saying (with_newline line)) (counts_of t); status = 0 }
 counting (Err why) = last_line (halt_line why) (halt_status why)
 
-abbrev pub checking : List ℕ → List Heard → Course
-checking name heard = load_course name 1048576 (codes "too long topology\n") heard (λ bytes heard. before_course (Memory ∷ []) (counting (checked bytes)))
+abbrev pub checking : List ℕ → Result Topology Halt → List Heard → Course
+checking name topology heard = load_course name 1048576 (codes "too long topology\n") heard (λ heard. before_course (Memory ∷ []) (counting topology))
 
 abbrev pub making : List ℕ → Result Topology SourceFault → Course
 making out (Ok t) = record { items = Calls (Did (Create 0 out) true) ∷ Calls (Did (Put (Slot 0) (spelling t)) true) ∷ saying (with_newline (wrote_line (spelling t))) ∷ []; status = 0 }
 making out (Err fault) = last_line (source_line fault) (source_status fault)
 
-abbrev pub compiling : CompileNames → List Heard → Course
-compiling names heard = load_course names.source 1048576 (codes "too long source\n") heard (λ text heard. before_course (Memory ∷ []) (making names.out (compiled_of text)))
+abbrev pub compiling : CompileNames → Result Topology SourceFault → List Heard → Course
+compiling names source heard = load_course names.source 1048576 (codes "too long source\n") heard (λ heard. before_course (Memory ∷ []) (making names.out source))
 
 -- ---- `stress`
 
@@ -142,16 +154,16 @@ stressing room sent seed turns =
 -- ---- all words
 
 -- the course where this is asked for, or nothing is
-abbrev pub course_for : ℕ → ℕ → Option Request → List Heard → List Turn → Course
-course_for room sent (Some (Play form)) heard turns = playing form heard turns
-course_for room sent (Some (Check name)) heard turns = checking name heard
-course_for room sent (Some (Compile names)) heard turns = compiling names heard
-course_for room sent (Some (Stress seed)) heard turns = stressing room sent seed turns
-course_for room sent None heard turns = last_line (codes "words\n") 1
+abbrev pub course_for : ℕ → ℕ → Option Request → Findings → List Heard → List Turn → Course
+course_for room sent (Some (Play form)) found heard turns = playing form found.run heard turns
+course_for room sent (Some (Check name)) found heard turns = checking name found.topology heard
+course_for room sent (Some (Compile names)) found heard turns = compiling names found.source heard
+course_for room sent (Some (Stress seed)) found heard turns = stressing room sent seed turns
+course_for room sent None found heard turns = last_line (codes "words\n") 1
 
 -- the course of these words, over a device of this room; a stress has sent so many messages at its end
-abbrev pub course : ℕ → ℕ → List (List ℕ) → List Heard → List Turn → Course
-course room sent words heard turns = course_for room sent (request_of room words) heard turns
+abbrev pub course : ℕ → ℕ → List (List ℕ) → Findings → List Heard → List Turn → Course
+course room sent words found heard turns = course_for room sent (request_of room words) found heard turns
 
 -- ---- what was made of it
 
@@ -183,7 +195,6 @@ Made (Calls (Did act done) ∷ items) end turns (made ∷ calls) status =
     ((made ≡ Did act true) × Made items end turns calls status)
     ⊎ ((made ≡ Did act false) × (turns ≡ []) × (calls ≡ []) × (status ≡ 3))
 
--- what these words ask for was done, by what loads answered and by the turns that were made
-abbrev pub FollowsCourse : ℕ → ℕ → List (List ℕ) → List Turn → List DeskCall → ℕ → Type 0
-FollowsCourse room sent words turns calls status =
-    let c = course room sent words (heard_in calls) turns in Made c.items c.status turns calls status
+-- a course was made, or a front of it
+abbrev pub IsMade : Course → List Turn → List DeskCall → ℕ → Type 0
+IsMade c turns calls status = Made c.items c.status turns calls status

@@ -5,7 +5,8 @@ use Rattle.sof_run.specs.declared.prepare.Halt.{Halt}
 use Rattle.sof_run.specs.Todo.{Todo, End, Stop, Ask, Free}
 use Rattle.sof_run.specs.Lines.{halt_line, halt_status}
 use Rattle.sof_run.specs.Play.{lines_todo}
-use Rattle.sof_run.specs.Checking.{counts_of, checked}
+use Rattle.sof_run.specs.Checking.{counts_of}
+use Rattle.sof_run.specs.Prepared.{checked}
 
 -- what is to do then
 abbrev pub checked_todo : Result Topology Halt → Todo

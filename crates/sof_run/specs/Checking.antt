@@ -1,15 +1,10 @@
--- The words of `check`, the lines that it says, and what the bytes of its file come to.
-use Rattle.std.specs.Prelude.{ℕ, ◌&&◌, List, [], ◌∷◌, ◌++◌, length, Option, Some, None, Result, Ok, Err, codes, decimal, if◌then◌else◌}
+-- The words of `check`, and the lines that it says.
+use Rattle.std.specs.Prelude.{ℕ, ◌&&◌, List, [], ◌∷◌, ◌++◌, length, Option, Some, None, codes, decimal, if◌then◌else◌}
 use Rattle.std.specs.Str.{bytes_eq}
-use Rattle.tplg_model.specs.declared.fault.TplgFault.{TplgFault}
 use Rattle.tplg_model.specs.declared.block.Topology.{Topology}
-use Rattle.tplg_model.specs.Reading.{topology_of}
 use Rattle.tplg_plan.specs.declared.plans.Plan.{Plan}
 use Rattle.tplg_graph.specs.TopologyNeed.{need_of}
 use Rattle.tplg_graph.specs.PlanOf.{plan_of}
-use Rattle.tplg_rules.specs.RuleTest.{ruling_of}
-use Rattle.sof_run.specs.declared.prepare.Halt.{Halt}
-use Rattle.sof_run.specs.declared.prepare.Halt.TheVariants as halts
 use Rattle.sof_run.specs.Words.{is_file_name}
 
 -- ---- the words
@@ -42,19 +37,3 @@ counts_on plan need =
 -- the lines of a topology
 abbrev pub counts_of : Topology → List (List ℕ)
 counts_of t = counts_on (plan_of t) (need_of t)
-
--- ---- the file
-
--- a topology is to break no rule
-abbrev pub checked_rules : Topology → Option (ℕ × ℕ) → Result Topology Halt
-checked_rules t (Some (rule, item)) = Err (halts.Rule rule item)
-checked_rules t None = Ok t
-
--- the first fault of the file comes before
-abbrev pub checked_file : Result Topology TplgFault → Result Topology Halt
-checked_file (Err fault) = Err (halts.Broken fault)
-checked_file (Ok t) = checked_rules t (ruling_of t)
-
--- what the bytes come to: a topology that keeps all rules, or why they make none
-abbrev pub checked : List ℕ → Result Topology Halt
-checked bytes = checked_file (topology_of bytes)

@@ -8,7 +8,6 @@ pub mod TopologyBytes
 pub mod Bindings
 pub mod Rounds
 pub mod Lines
-pub mod Prepared
 pub mod Pieces
 pub mod Calls
 pub mod Ends
@@ -17,6 +16,7 @@ pub mod Plays
 pub mod HeardRuns
 pub mod Checks
 pub mod Compiles
+pub mod Findings
 pub mod Stresses
 pub mod Run
 pub mod PlayLaws
@@ -27,6 +27,7 @@ pub mod CheckTodo
 pub mod CompileTodo
 pub mod StressTodo
 pub mod Forms
+pub mod Prepared
 pub mod Opening
 pub mod Refills
 pub mod Halts

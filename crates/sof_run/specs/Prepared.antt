@@ -1,20 +1,20 @@
--- What the bytes of a topology and of a script come to.
+-- What the bytes of files come to, step by step.
 use Rattle.std.specs.Prelude.{ℕ, Bool, true, false, nat_lt, List, Option, Some, None, Result, Ok, Err}
-use Rattle.std.specs.List.{sum_by}
 use Rattle.tplg_model.specs.declared.fault.TplgFault.{TplgFault}
 use Rattle.tplg_model.specs.declared.block.Topology.{Topology}
 use Rattle.tplg_model.specs.Reading.{topology_of}
 use Rattle.tplg_plan.specs.declared.plans.Plan.{Plan}
 use Rattle.tplg_rules.specs.RuleTest.{ruling_of}
 use Rattle.tplg_graph.specs.PlanOf.{plan_of}
-use Rattle.sof_script.specs.declared.script.Numbered.{Numbered}
 use Rattle.sof_script.specs.declared.reading.ScriptFault.{ScriptFault}
 use Rattle.sof_script.specs.declared.reading.ScriptFault.TheVariants as scripts
 use Rattle.sof_script.specs.Commands.{Read, script_of}
-use Rattle.sof_script.specs.Ticks.{line_ticks}
 use Rattle.sof_run.specs.declared.prepare.Halt.{Halt}
 use Rattle.sof_run.specs.declared.prepare.Halt.TheVariants as halts
 use Rattle.sof_run.specs.Bindings.{wrong_binding}
+use Rattle.sof_run.specs.Verdicts.{ticks_of}
+
+-- ---- a topology and a script
 
 -- what the two files come to: a plan with a script, or why they make no run
 pub data Prepared : Type 0 where
@@ -35,11 +35,7 @@ abbrev pub prepared_topology : Read → Result Topology TplgFault → Prepared
 prepared_topology read (Err fault) = Halted (halts.Broken fault)
 prepared_topology read (Ok topology) = prepared_rules topology read (ruling_of topology)
 
--- the sum of a script's ticks and lags
-abbrev pub ticks_of : List Numbered → ℕ
-ticks_of commands = sum_by line_ticks commands
-
--- it is to be at most 60000
+-- the sum of the script's ticks and lags is to be at most 60000
 abbrev pub prepared_ticks : List ℕ → Read → Bool → Prepared
 prepared_ticks topology read true = Halted (halts.Ticks (ticks_of read.commands))
 prepared_ticks topology read false = prepared_topology read (topology_of topology)
@@ -53,3 +49,19 @@ prepared_script topology (Ok read) = prepared_ticks topology read (nat_lt 60000 
 -- what the bytes of the topology and of the script come to
 abbrev pub prepared : List ℕ → List ℕ → Prepared
 prepared topology script = prepared_script topology (script_of script)
+
+-- ---- a topology alone
+
+-- a topology is to break no rule
+abbrev pub checked_rules : Topology → Option (ℕ × ℕ) → Result Topology Halt
+checked_rules t (Some (rule, item)) = Err (halts.Rule rule item)
+checked_rules t None = Ok t
+
+-- the first fault of the file comes before
+abbrev pub checked_file : Result Topology TplgFault → Result Topology Halt
+checked_file (Err fault) = Err (halts.Broken fault)
+checked_file (Ok t) = checked_rules t (ruling_of t)
+
+-- what the bytes come to: a topology that keeps all rules, or why they make none
+abbrev pub checked : List ℕ → Result Topology Halt
+checked bytes = checked_file (topology_of bytes)

@@ -4,7 +4,7 @@ use Rattle.sof_desk.specs.Desk.{DeskMeaning, DeskCall, DeskLed, CountRose}
 use Rattle.mbox_link.specs.Calls.{Meaning}
 use Rattle.sof_session.specs.Lives.{Life, Bare, Turn, Turns, device_of, Exit}
 use Rattle.sof_stress.specs.StressRun.{sent_in}
-use Rattle.sof_run.specs.Calls.{FollowsCourse}
+use Rattle.sof_run.specs.Findings.{FollowsCourse}
 use Rattle.sof_run.specs.Ends.{AreOpening, IsEarly, Worded}
 use Rattle.sof_run.specs.Verdicts.{Judged}
 use Rattle.sof_run.specs.Plays.{PlaysWhole}

@@ -1,23 +1,29 @@
 -- The status of `play` by the bytes of its files.
 use Rattle.std.specs.Prelude.{◌≡◌, ◌⊎◌, ℕ, ◌<◌, ◌≤◌, List, [], ◌∷◌, length, Option, Some, None, Ok, Err, true}
+use Rattle.std.specs.List.{sum_by}
 use Rattle.sof_desk.specs.Desk.{DeskMeaning, Put, Spoken, DeskCall, Did}
 use Rattle.tplg_model.specs.declared.block.Topology.{Topology}
 use Rattle.tplg_model.specs.File.{IsFileFault}
 use Rattle.tplg_rules.specs.WellFormed.{IsWellFormed, Breaks}
 use Rattle.tplg_graph.specs.PlanOf.{plan_of}
 use Rattle.sof_script.specs.declared.reading.ScriptFault.TheVariants.{Line}
+use Rattle.sof_script.specs.declared.script.Numbered.{Numbered}
 use Rattle.sof_script.specs.Commands.{Read, script_of}
+use Rattle.sof_script.specs.Ticks.{line_ticks}
 use Rattle.sof_run.specs.declared.prepare.Halt.{Halt}
 use Rattle.sof_run.specs.declared.prepare.Halt.TheVariants as halts
 use Rattle.sof_run.specs.Words.{Form, play_of}
 use Rattle.sof_run.specs.TopologyBytes.{AreBytes, IsLong, IsFile, IsBroken}
 use Rattle.sof_run.specs.Bindings.{wrong_binding}
 use Rattle.sof_run.specs.Lines.{halt_line, halt_status}
-use Rattle.sof_run.specs.Prepared.{ticks_of}
 
 -- neither file is longer than its limit
 abbrev pub Fit : List ℕ → List ℕ → Type 0
 Fit topology script = (length topology ≤ 1048576) × (length script ≤ 1048576)
+
+-- the sum of a script's ticks and lags
+abbrev pub ticks_of : List Numbered → ℕ
+ticks_of commands = sum_by line_ticks commands
 
 -- the script has no line at fault and not too many ticks
 abbrev pub IsScript : List ℕ → Read → Type 0

@@ -1,12 +1,12 @@
 // All of `check`.
-ghost use Rattle.std.specs.Prelude.{◌≡◌, ◌≤◌, ◌++◌, [], ◌∷◌, length, decimal, is_ok, Ok, MatchResult};
+ghost use Rattle.std.specs.Prelude.{◌≡◌, ◌<◌, ◌≤◌, ◌^◌, ◌++◌, [], ◌∷◌, length, decimal, is_ok, Ok, MatchResult};
 ghost use Rattle.tplg_model.specs.declared.block.Topology.{Topology};
 ghost use Rattle.tplg_plan.specs.HeapNeed.{IsSmall, need_on};
 ghost use Rattle.sof_run.specs.Todo.{DeskPhase, Played};
 ghost use Rattle.sof_run.specs.Lines.{with_newline};
 ghost use Rattle.sof_run.specs.Play.{lines_todo};
 ghost use Rattle.sof_run.specs.Halts.{HaltsAtCheck};
-ghost use Rattle.sof_run.specs.Checking as law;
+ghost use Rattle.sof_run.specs.Prepared as law;
 ghost use Rattle.sof_run.specs.Checking.{count_line, counts_of, counts_on};
 ghost use Rattle.sof_run.specs.CheckTodo.{check};
 
@@ -20,6 +20,7 @@ use tplg_graph::{Plan, need};
 
 // The plan of the topology of these bytes.
 fn checked(alloc: Global, bytes: &[u8]) -> Result<Plan, Halt>
+    requires { length bytes.now < 2 ^ 32 }
     ensures { MatchResult result
         (λ p. IsSmall p.graph × ((t : Topology) × (law.checked bytes.now ≡ Ok t) × (counts_on p (need_on p.graph) ≡ counts_of t)))
         (λ halt. HaltsAtCheck halt (law.checked bytes.now)) }

@@ -1,6 +1,8 @@
 // What the files of a run come to.
 ghost use Rattle.std.specs.Prelude.{◌≡◌, ◌<◌, ◌-◌, ◌^◌, length, None, Ok, IfOk, MatchResult};
 ghost use Rattle.tplg_model.specs.Reading.{topology_of};
+ghost use Rattle.tplg_widgets.specs.Entries.{entries_of};
+ghost use Rattle.tplg_widgets.specs.Ends.{ends_in};
 ghost use Rattle.tplg_rules.specs.RuleTest.{ruling_of};
 ghost use Rattle.tplg_plan.specs.HeapNeed.{IsSmall, need_on};
 ghost use Rattle.tplg_plan.specs.Sound.{IsSound};
@@ -57,9 +59,12 @@ fn halt_of(fault: TplgFault) -> Halt
 
 /// The topology of a file.
 pub fn topology_in(alloc: Global, bytes: &[u8]) -> Result<Topology, Halt>
-    ensures { MatchResult result
+    requires { length bytes.now < 2 ^ 32 }
+    ensures topology { MatchResult result
         (λ topology. topology_of bytes.now ≡ Ok topology)
         (λ halt. HaltsAtTopology halt (topology_of bytes.now)) }
+    ensures widgets { IfOk result (λ t. length (entries_of t) < 2 ^ 32) }
+    ensures routes { IfOk result (λ t. length (ends_in t) < 2 ^ 32) }
 {
     match read(alloc, bytes) {
         Ok(topology) => Ok(topology),
@@ -70,6 +75,8 @@ pub fn topology_in(alloc: Global, bytes: &[u8]) -> Result<Topology, Halt>
 /// The plan of a topology that is well-formed.
 #[tactic(auto, using(tplg_rules::proofs::RuleTests::whole_none, tplg_rules::proofs::RuleTests::breaks_some))]
 pub fn ruled_plan(alloc: Global, topology: &Topology) -> Result<Plan, Halt>
+    requires widgets { length (entries_of topology.now) < 2 ^ 32 }
+    requires routes { length (ends_in topology.now) < 2 ^ 32 }
     ensures plan { MatchResult result
         (λ p. (ruling_of topology.now ≡ None) × (p ≡ plan_of topology.now))
         (λ halt. HaltsAtRules halt (ruling_of topology.now)) }
@@ -99,6 +106,8 @@ fn ready_for(plan: Plan, script: Script) -> Result<Ready, Halt>
 
 // A script over a topology, whose rules come first.
 fn prepare_rules(alloc: Global, topology: &Topology, script: Script) -> Result<Ready, Halt>
+    requires widgets { length (entries_of topology.now) < 2 ^ 32 }
+    requires routes { length (ends_in topology.now) < 2 ^ 32 }
     ensures { MatchResult result
         (λ ready. (prepared_rules topology.now (script_read script) (ruling_of topology.now) ≡ IsReady ready.plan (script_read ready.script)) × IsCarriable ready.plan (script_read ready.script))
         (λ halt. Halts halt (prepared_rules topology.now (script_read script) (ruling_of topology.now))) }
@@ -109,7 +118,8 @@ fn prepare_rules(alloc: Global, topology: &Topology, script: Script) -> Result<R
 
 // A script of which neither line is at fault, over a topology's bytes.
 fn prepare_script(alloc: Global, topology: &[u8], script: Script) -> Result<Ready, Halt>
-    requires { length script.commands < 2 ^ 32 }
+    requires topology { length topology.now < 2 ^ 32 }
+    requires script { length script.commands < 2 ^ 32 }
     ensures { MatchResult result
         (λ ready. (prepared_script topology.now (Ok (script_read script)) ≡ IsReady ready.plan (script_read ready.script)) × IsCarriable ready.plan (script_read ready.script))
         (λ halt. Halts halt (prepared_script topology.now (Ok (script_read script)))) }
@@ -125,7 +135,8 @@ fn prepare_script(alloc: Global, topology: &[u8], script: Script) -> Result<Read
 /// What the bytes of a topology and of a script come to. The script's lines are looked at first, then its ticks, then the
 /// topology and its rules, and last the bindings.
 pub fn prepare(alloc: Global, topology: &[u8], script: &[u8]) -> Result<Ready, Halt>
-    requires { length script.now < 2 ^ 32 - 1 }
+    requires topology { length topology.now < 2 ^ 32 }
+    requires script { length script.now < 2 ^ 32 - 1 }
     ensures { MatchResult result
         (λ ready. (prepared topology.now script.now ≡ IsReady ready.plan (script_read ready.script)) × IsCarriable ready.plan (script_read ready.script))
         (λ halt. Halts halt (prepared topology.now script.now)) }

@@ -1,5 +1,5 @@
 use Rattle.std.proofs.Common.{map, string_bytes, subst}
-use Rattle.sof_run.specs.Calls.{FollowsCourse}
+use Rattle.sof_run.specs.Findings.{FollowsCourse}
 use Rattle.sof_run.proofs.Finish.{course_made, count_rose, left, words_end, judged, plays_whole, plays_heard}
 use Rattle.sof_run.proofs.CheckVerdicts.{checks}
 use Rattle.sof_run.proofs.CompileVerdicts.{compiles}

@@ -1,0 +1,143 @@
+// Runs over a device that fails of its own accord: a firmware behind a link of its own, which refuses a message or loses it.
+ghost use Rattle.std.specs.Prelude.{◌≡◌, None, IfOk};
+ghost use Rattle.fw_core.specs.Device.{firmware};
+ghost use Rattle.mbox_link.specs.Link.{link as linked_by};
+
+use crate::same::same;
+use crate::thin::thin;
+use fw_core::Firmware;
+use mbox_link::{Dsp, Fate, FaultLink};
+use sof_desk::MemDesk;
+use sof_run::run;
+use std::alloc::Global;
+use std::process::Abort;
+use std::test::Fail;
+
+/// The greatest heap of the firmware, in bytes; it is small, since many runs are made.
+const ROOM: u32 = 4096;
+
+/// The message that its link refuses with -5, drops or loses the reply of.
+#[derive(Clone, Copy, Debug)]
+enum Failing {
+    RefusesFirst,
+    DropsFirst,
+    LosesSeventh,
+    RefusesEighth,
+    DropsNinth,
+    DropsTenth,
+}
+
+// A firmware behind a link that has a fate for one message.
+fn fated(alloc: Global, failing: Failing) -> Result<FaultLink<Firmware>, Fail>
+    ensures off { IfOk result (λ l. (linked_by firmware).on l ≡ None) }
+    ensures pending { IfOk result (λ l. (linked_by firmware).pending l ≡ 0) }
+{
+    let mut link = FaultLink::new(Firmware::new(alloc, ROOM)?);
+    let planned = match failing {
+        Failing::RefusesFirst => link.plan(1, Fate::Refuse(-5)),
+        Failing::DropsFirst => link.plan(1, Fate::Drop),
+        Failing::LosesSeventh => link.plan(7, Fate::Lose),
+        Failing::RefusesEighth => link.plan(8, Fate::Refuse(-5)),
+        Failing::DropsNinth => link.plan(9, Fate::Drop),
+        Failing::DropsTenth => link.plan(10, Fate::Drop),
+    };
+    match planned {
+        Ok(()) => Ok(link),
+        Err(_) => return Err("no room for a plan")?,
+    }
+}
+
+/// What a run came to: its status, whether the device is on, what its link still holds, and what was said.
+#[derive(Debug, Drop)]
+struct Outcome {
+    status: u8,
+    on: bool,
+    held: u32,
+    said: Vec<u8>,
+}
+
+const SCRIPT: &[u8] = b"load
+open PCM0P
+params PCM0P 48000 2 s16
+start PCM0P
+";
+
+// A run of the script over the thin graph and this device.
+fn played_over(alloc: Global, failing: Failing) -> Result<Outcome, Fail> {
+    let topology = thin(alloc)?;
+    let mut desk = MemDesk::new(alloc, 4096)?;
+    desk.put_file("a.tplg", &topology)?;
+    desk.put_file("s.txt", SCRIPT)?;
+    let mut words = Vec::new(alloc);
+    for word in ["play", "992", "a.tplg", "s.txt"] {
+        words.push(String::from_str(alloc, word)?)?;
+    }
+    let dsp = fated(alloc, failing)?;
+    let ended = run(alloc, &words, &mut desk, dsp);
+    let said = Vec::from_slice(alloc, desk.said())?;
+    Ok(Outcome {
+        status: ended.status,
+        on: ended.dsp.on(),
+        held: ended.dsp.held(),
+        said,
+    })
+}
+
+// Plays the script over such a device: the run ends with 0, the device is on or off, and its link holds so many plans.
+fn expect(
+    rt: &impl Abort,
+    alloc: Global,
+    failing: Failing,
+    on: bool,
+    held: u32,
+    said: &[u8],
+) -> Result<(), Fail> {
+    let outcome = played_over(alloc, failing)?;
+    same(rt, &"a status", &outcome.status, &0);
+    same(rt, &"the power", &outcome.on, &on);
+    same(rt, &"what is planned", &outcome.held, &held);
+    same(rt, &"what is said", &outcome.said.as_slice(), &said);
+    Ok(())
+}
+
+// The script alone plans nothing: a refusal and a link down are the device's own. A load of the thin graph has seven messages;
+// parameters are the eighth and a start the ninth.
+#[test]
+fn a_device_refuses_and_loses_messages(rt: HostRuntime) -> Result<(), Fail> {
+    let alloc = rt.alloc();
+    let down = b"1 link down\n2 not loaded\n3 not loaded\n4 not loaded\n".as_slice();
+    expect(
+        &rt,
+        alloc,
+        Failing::RefusesFirst,
+        false,
+        0,
+        b"1 refused -5\n2 not loaded\n3 not loaded\n4 not loaded\n".as_slice(),
+    )?;
+    expect(&rt, alloc, Failing::DropsFirst, false, 0, down)?;
+    expect(&rt, alloc, Failing::LosesSeventh, false, 0, down)?;
+    expect(
+        &rt,
+        alloc,
+        Failing::RefusesEighth,
+        true,
+        0,
+        b"1 ok\n2 ok\n3 refused -5\n4 state open\n",
+    )?;
+    expect(
+        &rt,
+        alloc,
+        Failing::DropsNinth,
+        false,
+        0,
+        b"1 ok\n2 ok\n3 ok\n4 link down\n",
+    )?;
+    expect(
+        &rt,
+        alloc,
+        Failing::DropsTenth,
+        true,
+        1,
+        b"1 ok\n2 ok\n3 ok\n4 ok\n",
+    )
+}

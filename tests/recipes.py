@@ -11,6 +11,10 @@ A line that begins with '#' is a remark. Several lines of one FILE are joined.
   section FILE CHANNELS FIRST COUNT NUMBER ..
                          the frames of 16-bit samples of FILE from FIRST on, as 32-bit ones that pass an equaliser's section of these
                          numbers: a2, a1, b2, b1, b0, shift and gain
+  faded SAMPLE LENGTH FROM TO FIRST COUNT
+                         a 16-bit sample as 32-bit ones, whose gain goes FROM one TO another in LENGTH frames: COUNT frames, from
+                         number FIRST on, of which 0 is the first after the values were set; FROM and TO are the gains of the
+                         channels, with commas between them
   changed FILE AT HEX    FILE with these bytes at a place
   front COUNT FILE       the first COUNT bytes of FILE
   graph NAME             tests/graphs/NAME.tplg
@@ -64,6 +68,13 @@ def section(data, channels, first, count, *numbers):
     return struct.pack(f"<{len(wide)}i", *wide)
 
 
+def faded(sample, length, old, new, first, count):
+    ends = [(int(x), int(y)) for x, y in zip(old.split(","), new.split(","), strict=True)]
+    gains = (x + (y - x) * (j + 1) // length if j < length else y for j in range(first, first + count) for x, y in ends)
+    wide = [clipped((sample * 65536 * gain + 2**15) // 2**16) for gain in gains]
+    return struct.pack(f"<{len(wide)}i", *wide)
+
+
 def changed(data, at, new):
     return data[:at] + new + data[at + len(new) :]
 
@@ -88,6 +99,9 @@ def bytes_of(recipe, rest, files):
     if recipe == "section":
         file, *words = rest.split()
         return section(files[file], *(int(word) for word in words))
+    if recipe == "faded":
+        sample, length, old, new, first, count = rest.split()
+        return faded(int(sample), int(length), old, new, int(first), int(count))
     if recipe == "widened":
         size, name = rest.split()
         return widened(int(size), files[name])

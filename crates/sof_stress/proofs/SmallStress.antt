@@ -1,4 +1,4 @@
--- A topology file has room for what a stress states.
+-- What a stress states is within the limits of the builder.
 use Rattle.std.proofs.Common.{◌≡◌, ℕ, zero, suc, ◌<◌, ◌≤◌, ◌^◌, length, true, refl, lit<, arith}
 use Rattle.tplg_build.specs.SmallSource.{is_small_widget, is_small_source}
 use Rattle.tplg_widgets.specs.Entries.{entries_of}

@@ -1,4 +1,4 @@
--- Which sources a topology file has room for: the bytes of each block fit their word.
+-- Which sources are within the limits of the builder: the bytes of each of their blocks fit their word.
 use Rattle.std.specs.Prelude.{Bool, true, ◌&&◌, nat_le, length}
 use Rattle.std.specs.List.{list_all}
 use Rattle.tplg_build.specs.declared.source.SourceControl.{SourceControl}

@@ -7,7 +7,7 @@ use sof_base::NoMemory;
 /// Why a topology is not built.
 #[derive(Clone, Copy, Debug, PartialEq, Eq)]
 pub enum BuildFault {
-    /// A topology file has no room for what the source states.
+    /// The source is beyond the limits of the builder.
     TooLarge,
     OutOfMemory,
 }

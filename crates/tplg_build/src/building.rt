@@ -75,7 +75,7 @@ pub fn build(alloc: Global, source: &TopologySource) -> Result<Topology, BuildFa
     ensures value { IfOk result (λ t. t ≡ form.topology_stated source.now) }
     // It can be written, and what is written is its file.
     ensures is { IfOk result IsTopology }
-    // What no file has room for is too large, and nothing else is.
+    // What is beyond the limits is too large, and nothing else is.
     ensures large { is_small_source source.now ≡ false → result ≡ Err BuildFault.TooLarge }
     ensures small { is_small_source source.now ≡ true → IfErr result (λ f. f ≡ BuildFault.OutOfMemory) }
 {

@@ -1,4 +1,4 @@
-// What a topology file has room for.
+// The limits of the builder, within which the bytes of each block fit their word.
 ghost use Rattle.std.specs.Prelude.{◌≡◌};
 ghost use Rattle.std.specs.List.{list_all};
 ghost use Rattle.tplg_build.specs.SmallSource as law;
@@ -49,7 +49,7 @@ fn are_small_widgets(widgets: &[SourceWidget]) -> bool
     widgets.iter().all(|widget| is_small_widget(widget))
 }
 
-/// Whether a topology file has room for what a source states.
+/// Whether a source is within the limits of the builder.
 #[tactic(auto, unfolding(crate::specs::SmallSource::is_small_source))]
 pub fn is_small(source: &TopologySource) -> bool
     ensures { result ≡ law.is_small_source source.now }

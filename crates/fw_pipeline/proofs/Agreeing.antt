@@ -1,10 +1,10 @@
 -- Streams that would agree once one of them has other parameters, by the components of a registry.
 use Rattle.std.proofs.Common.{◌≡◌, refl, sym, ap, ◌∙◌, ℕ, List, [], ◌∷◌, Bool, true, false, cond, not, map, ◌==◌, ◌&&◌, ◌||◌, Option, Some, None}
-use Rattle.std.specs.List.{list_any, list_all}
+use Rattle.std.specs.List.{list_all}
 use Rattle.sof_base.specs.declared.format.Params.{Params}
 use Rattle.stream_law.specs.declared.stream.Phase.TheVariants.{Prepared}
 use Rattle.stream_law.specs.declared.stream.StreamView.{StreamView}
-use Rattle.stream_law.specs.Ways.{on_way, touch, same_shape, agree}
+use Rattle.stream_law.specs.Ways.{touch, same_shape, agree}
 use Rattle.mbox_link.specs.Step.{set_stream}
 use Rattle.fw_units.specs.declared.component.Component.{Component}
 use Rattle.fw_units.specs.declared.component.Unit as units
@@ -12,7 +12,6 @@ use Rattle.fw_units.specs.declared.component.Unit.TheVariants.{Host, Buffer}
 use Rattle.fw_units.specs.Units.{streams_by, with_stream_by}
 use Rattle.fw_components.specs.Tables.{Tables, graph_of, streams_of}
 use Rattle.fw_units.specs.Changes.{set_at, set_unit}
-use Rattle.fw_components.specs.Tables.{ids_of}
 use Rattle.fw_pipeline.specs.Preparing.{shape_in, shape_by, suits}
 use Rattle.fw_pipeline.proofs.ReadyWays.{all-map, all-each}
 
@@ -52,29 +51,26 @@ module _ (t : Tables) (host : ℕ) (p : Params) where
   set-one q id pipe channels true unit = refl
   set-one q id pipe channels false unit = refl
 
-  abbrev pair : ℕ → ℕ → Bool
-  pair a b = list_any (λ x. on_way (graph_of t) a x && on_way (graph_of t) b x) (ids_of t)
-
-  other : (s : StreamView) (id : ℕ) (h : Bool) (unit : units.Unit) → every (λ r. not (touch (graph_of t) s r) || same_shape s.params r.params) id (cond h (set_unit Prepared (Some p) unit) unit) ≡ (same_shape s.params (shape_in h p unit) || not (pair s.host id))
-  other s id true (Host capture phase params piece) = turned (pair s.host id) (same_shape s.params (Some p))
-  other s id false (Host capture phase params piece) = turned (pair s.host id) (same_shape s.params params)
-  other s id true u = sym (ap (λ h. h || not (pair s.host id)) (one-way s.params))
-  other s id false u = sym (ap (λ h. h || not (pair s.host id)) (one-way s.params))
+  other : (s : StreamView) (id : ℕ) (h : Bool) (unit : units.Unit) → every (λ r. not (touch (graph_of t) s.host r.host) || same_shape s.params r.params) id (cond h (set_unit Prepared (Some p) unit) unit) ≡ (same_shape s.params (shape_in h p unit) || not (touch (graph_of t) s.host id))
+  other s id true (Host capture phase params piece) = turned (touch (graph_of t) s.host id) (same_shape s.params (Some p))
+  other s id false (Host capture phase params piece) = turned (touch (graph_of t) s.host id) (same_shape s.params params)
+  other s id true u = sym (ap (λ h. h || not (touch (graph_of t) s.host id)) (one-way s.params))
+  other s id false u = sym (ap (λ h. h || not (touch (graph_of t) s.host id)) (one-way s.params))
 
   set-of : (q : StreamView → Bool) (c : Component) → every q (to c).id (to c).unit ≡ every q c.id (cond (c.id == host) (set_unit Prepared (Some p) c.unit) c.unit)
   set-of q c = set-one q c.id c.pipe c.channels (c.id == host) c.unit
 
   -- the streams of all others suit one
-  others : (s : StreamView) → list_all (λ r. not (touch (graph_of t) s r) || same_shape s.params r.params) (streams_by (map to t.comps)) ≡ list_all (λ d. same_shape s.params (shape_by host p d) || not (pair s.host d.id)) t.comps
+  others : (s : StreamView) → list_all (λ r. not (touch (graph_of t) s.host r.host) || same_shape s.params r.params) (streams_by (map to t.comps)) ≡ list_all (λ d. same_shape s.params (shape_by host p d) || not (touch (graph_of t) s.host d.id)) t.comps
   others s =
-      all-streams (λ r. not (touch (graph_of t) s r) || same_shape s.params r.params) (map to t.comps)
-      ∙ all-map (λ (d : Component). every (λ r. not (touch (graph_of t) s r) || same_shape s.params r.params) d.id d.unit) to t.comps
-      ∙ all-each _ (λ (d : Component). same_shape s.params (shape_by host p d) || not (pair s.host d.id)) t.comps (λ d there. set-of (λ r. not (touch (graph_of t) s r) || same_shape s.params r.params) d ∙ other s d.id (d.id == host) d.unit)
+      all-streams (λ r. not (touch (graph_of t) s.host r.host) || same_shape s.params r.params) (map to t.comps)
+      ∙ all-map (λ (d : Component). every (λ r. not (touch (graph_of t) s.host r.host) || same_shape s.params r.params) d.id d.unit) to t.comps
+      ∙ all-each _ (λ (d : Component). same_shape s.params (shape_by host p d) || not (touch (graph_of t) s.host d.id)) t.comps (λ d there. set-of (λ r. not (touch (graph_of t) s.host r.host) || same_shape s.params r.params) d ∙ other s d.id (d.id == host) d.unit)
 
   abbrev body : StreamView → Bool
-  body s = list_all (λ r. not (touch (graph_of t) s r) || same_shape s.params r.params) (streams_by (map to t.comps))
+  body s = list_all (λ r. not (touch (graph_of t) s.host r.host) || same_shape s.params r.params) (streams_by (map to t.comps))
 
-  one : (id : ℕ) (h : Bool) (unit : units.Unit) → every body id (cond h (set_unit Prepared (Some p) unit) unit) ≡ list_all (λ d. same_shape (shape_in h p unit) (shape_by host p d) || not (pair id d.id)) t.comps
+  one : (id : ℕ) (h : Bool) (unit : units.Unit) → every body id (cond h (set_unit Prepared (Some p) unit) unit) ≡ list_all (λ d. same_shape (shape_in h p unit) (shape_by host p d) || not (touch (graph_of t) id d.id)) t.comps
   one id true (Host capture phase params piece) = others (record { host = id; phase = Prepared; params = Some p })
   one id false (Host capture phase params piece) = others (record { host = id; phase = phase; params = params })
   one id true u = sym (all-true t.comps)
@@ -88,4 +84,4 @@ module _ (t : Tables) (host : ℕ) (p : Params) where
       ∙ all-map (λ (c : Component). every body c.id c.unit) to t.comps
       ∙ all-each _ (λ (c : Component). list_all (λ d. suits t host p c d) t.comps) t.comps (λ c there. set-of body c ∙ one c.id (c.id == host) c.unit)
       )
-      ∙ ap (λ (ss : List StreamView). list_all (λ s. list_all (λ r. not (touch (graph_of t) s r) || same_shape s.params r.params) ss) ss) law
+      ∙ ap (λ (ss : List StreamView). list_all (λ s. list_all (λ r. not (touch (graph_of t) s.host r.host) || same_shape s.params r.params) ss) ss) law

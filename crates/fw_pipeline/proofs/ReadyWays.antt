@@ -6,7 +6,7 @@ use Rattle.std.specs.Prelude.{is_some}
 use Rattle.sof_base.specs.declared.format.Params.{Params}
 use Rattle.stream_law.specs.declared.graph.Comp.{Comp}
 use Rattle.stream_law.specs.declared.graph.Edge.{Edge}
-use Rattle.stream_law.specs.Ways.{on_way, same_shape}
+use Rattle.stream_law.specs.Ways.{on_way, touch, same_shape}
 use Rattle.stream_law.proofs.Members.{IsIn, in-any}
 use Rattle.stream_law.specs.Order.{is_among}
 use Rattle.mbox_link.specs.Step.{is_ready_comp, is_ready_edge}
@@ -52,7 +52,7 @@ none-suits t host p c none = by (shape_by host p c) refl none
     all is [] = refl
     all is (d ∷ ds) =
         all is ds
-        ∙ sym (ap (λ (o : Option Params). (same_shape o (shape_by host p d) || not (list_any (λ x. on_way (graph_of t) c.id x && on_way (graph_of t) d.id x) (ids_of t))) && list_all (λ e. suits t host p c e) ds) is)
+        ∙ sym (ap (λ (o : Option Params). (same_shape o (shape_by host p d) || not (touch (graph_of t) c.id d.id)) && list_all (λ e. suits t host p c e) ds) is)
 
     by : (o : Option Params) → shape_by host p c ≡ o → is_some o ≡ false → (ds : List Component) → true ≡ list_all (λ d. suits t host p c d) ds
     by None is e = all is

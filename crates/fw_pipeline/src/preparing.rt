@@ -2,7 +2,7 @@
 ghost use Rattle.std.specs.Prelude.{◌≡◌, ◌≤◌, ◌&&◌, ◌||◌, ℕ, OnErr, OnOk, not, map, true, Some, length};
 ghost use Rattle.std.specs.List.{list_any, list_all};
 ghost use Rattle.stream_law.specs.declared.stream.Phase.TheVariants as phases;
-ghost use Rattle.stream_law.specs.Ways.{on_way, agree, is_capture, same_shape as alike};
+ghost use Rattle.stream_law.specs.Ways.{on_way, touch, agree, is_capture, same_shape as alike};
 ghost use Rattle.stream_law.specs.State.{FwState};
 ghost use Rattle.stream_law.specs.Seen.{ring_seen};
 ghost use Rattle.stream_law.specs.Order.{is_among};
@@ -231,7 +231,7 @@ fn suits_all(
         .all(|other| suits_one(registry, places, host, p, one, other))
 }
 
-// Whether two streams have one shape, or their ways share nothing.
+// Whether two streams have one shape, or do not touch.
 fn suits_one(
     registry: &Registry,
     places: &Places,
@@ -276,10 +276,10 @@ fn has_shape(one: Option<Params>, other: Option<Params>) -> bool
     }
 }
 
-// Whether the ways of two hosts share something.
+// Whether the streams of two hosts touch.
 fn touches(registry: &Registry, places: &Places, one: u32, other: u32) -> bool
     requires { IsChartOf (graph_of registry.now) places.now }
-    ensures { result ≡ list_any (λ x. on_way (graph_of registry.now) one x && on_way (graph_of registry.now) other x) (ids_of registry.now) }
+    ensures { result ≡ touch (graph_of registry.now) one other }
 {
     let first = way(registry, places, one);
     let second = way(registry, places, other);

@@ -49,8 +49,8 @@ module _ (g : Graph) (setting : Comp → Setting) where
   comps-set (c ∷ cs) = ap (λ (ids : List ℕ). c.id ∷ ids) (comps-set cs)
 
   -- and so streams touch where they did
-  pub touch-set : (s t : StreamView) → touch set s t ≡ touch g s t
-  touch-set s t = λ i. list_any (λ x. way-set s.host x i && way-set t.host x i) (comps-set g.comps i ++ buffers g)
+  pub touch-set : (a b : ℕ) → touch set a b ≡ touch g a b
+  touch-set a b = λ i. list_any (λ x. way-set a x i && way-set b x i) (comps-set g.comps i ++ buffers g)
 
 -- ---- hosts
 

@@ -6,7 +6,7 @@ use Rattle.std.proofs.lemmas.Bool.{and_parts}
 use Rattle.sof_base.specs.declared.format.Params.{Params}
 use Rattle.stream_law.specs.declared.graph.Graph.{Graph}
 use Rattle.stream_law.specs.declared.stream.StreamView.{StreamView}
-use Rattle.stream_law.specs.Ways.{components, buffers, on_way, same_shape, agree, is_live_phase, is_silent}
+use Rattle.stream_law.specs.Ways.{touch, same_shape, agree, is_live_phase, is_silent}
 use Rattle.mbox_link.specs.Calls.{Meaning}
 use Rattle.tplg_plan.specs.declared.plans.Plan.{Plan}
 use Rattle.tplg_plan.specs.declared.plans.StreamPlan.{StreamPlan}
@@ -40,11 +40,8 @@ all-same f g [] same = refl
 all-same f g (x ∷ xs) same = λ i. same x i && all-same f g xs same i
 
 module _ (g : Graph) where
-  abbrev touches : ℕ → ℕ → Bool
-  touches a b = list_any (λ x. on_way g a x && on_way g b x) (components g ++ buffers g)
-
   abbrev fair : Shape → Shape → Bool
-  fair p q = not (touches p.0 q.0) || same_shape p.1 q.1
+  fair p q = not (touch g p.0 q.0) || same_shape p.1 q.1
 
   abbrev all_fair : List Shape → Bool
   all_fair ps = list_all (λ p. list_all (fair p) ps) ps
@@ -60,9 +57,9 @@ module _ (g : Graph) where
   or-true false = refl
 
   -- streams without parameters agree
-  idle-fair : (a : ℕ) (ss : List StreamView) → list_all (λ (t : StreamView). not (touches a t.host) || same_shape None t.params) ss ≡ true
+  idle-fair : (a : ℕ) (ss : List StreamView) → list_all (λ (t : StreamView). not (touch g a t.host) || same_shape None t.params) ss ≡ true
   idle-fair a [] = refl
-  idle-fair a (s ∷ ss) = rw (or-true (not (touches a s.host))) (idle-fair a ss)
+  idle-fair a (s ∷ ss) = rw (or-true (not (touch g a s.host))) (idle-fair a ss)
 
 abbrev closed_pairs : List StreamPlan → List (StreamPlan × StreamRec)
 closed_pairs ps = zip ps (map (λ (s : StreamPlan). closed) ps)
@@ -70,7 +67,7 @@ closed_pairs ps = zip ps (map (λ (s : StreamPlan). closed) ps)
 abbrev closed_views : List StreamPlan → List StreamView
 closed_views ps = map stream_view (closed_pairs ps)
 
-closed-agree : (g : Graph) (ps : List StreamPlan) (ss : List StreamView) → list_all (λ (s : StreamView). list_all (λ (t : StreamView). not (touches g s.host t.host) || same_shape s.params t.params) ss) (closed_views ps) ≡ true
+closed-agree : (g : Graph) (ps : List StreamPlan) (ss : List StreamView) → list_all (λ (s : StreamView). list_all (λ (t : StreamView). not (touch g s.host t.host) || same_shape s.params t.params) ss) (closed_views ps) ≡ true
 closed-agree g [] ss = refl
 closed-agree g (p ∷ ps) ss = rw (idle-fair g p.host ss) (closed-agree g ps ss)
 

@@ -62,7 +62,7 @@ AllLess (t ∷ ts) [] = ⊥
 AllLess (t ∷ ts) (s ∷ ss) = LessView t s × AllLess ts ss
 
 abbrev fits : Graph → StreamView → StreamView → Bool
-fits g s t = not (touch g s t) || same_shape s.params t.params
+fits g s t = not (touch g s.host t.host) || same_shape s.params t.params
 
 or_true : (x : Bool) → (x || true) ≡ true
 or_true true = refl
@@ -78,10 +78,10 @@ none-right (Some p) = refl
 
 module _ (g : Graph) where
   pair-less : (s' s t' t : StreamView) → LessView s' s → LessView t' t → fits g s t ≡ true → fits g s' t' ≡ true
-  pair-less s' s t' t (hs, inr none) lt is = ap (λ (x : Bool). not (touch g s' t') || x) (ap (λ (p : Option Params). same_shape p t'.params) none ∙ none-left t'.params) ∙ or_true (not (touch g s' t'))
-  pair-less s' s t' t (hs, inl ps) (ht, inr none) is = ap (λ (x : Bool). not (touch g s' t') || x) (ap (λ (p : Option Params). same_shape s'.params p) none ∙ none-right s'.params) ∙ or_true (not (touch g s' t'))
+  pair-less s' s t' t (hs, inr none) lt is = ap (λ (x : Bool). not (touch g s'.host t'.host) || x) (ap (λ (p : Option Params). same_shape p t'.params) none ∙ none-left t'.params) ∙ or_true (not (touch g s'.host t'.host))
+  pair-less s' s t' t (hs, inl ps) (ht, inr none) is = ap (λ (x : Bool). not (touch g s'.host t'.host) || x) (ap (λ (p : Option Params). same_shape s'.params p) none ∙ none-right s'.params) ∙ or_true (not (touch g s'.host t'.host))
   pair-less s' s t' t (hs, inl ps) (ht, inl pt) is =
-      (λ i. not (touch g (record { host = hs i; phase = s'.phase; params = s'.params }) (record { host = ht i; phase = t'.phase; params = t'.params })) || same_shape (ps i) (pt i)) ∙ is
+      (λ i. not (touch g (hs i) (ht i)) || same_shape (ps i) (pt i)) ∙ is
 
   row-less : (s' s : StreamView) → LessView s' s → (ts' ts : List StreamView) → AllLess ts' ts → list_all (fits g s) ts ≡ true → list_all (fits g s') ts' ≡ true
   row-less s' s ls [] [] lts all = refl

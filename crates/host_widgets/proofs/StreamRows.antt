@@ -64,7 +64,7 @@ conflicts-shown plan host p (s ∷ ss) (r ∷ rs) = ap (λ (b : Bool). conflicts
 -- streams agree by the plan's ways
 agree-set : (g : Graph) (setting : Comp → Setting) (streams : List StreamView) → agree (record { graph = set_as setting g; streams = streams }) ≡ agree (record { graph = g; streams = streams })
 unfolding agree
-agree-set g setting streams = λ i. list_all (λ s. list_all (λ t. not (touch-set g setting s t i) || same_shape s.params t.params) streams) streams
+agree-set g setting streams = λ i. list_all (λ s. list_all (λ t. not (touch-set g setting s.host t.host i) || same_shape s.params t.params) streams) streams
 
 not-not : (b : Bool) → not (not b) ≡ b
 not-not true = refl

@@ -66,10 +66,10 @@ verdict (Some bytes) = judged (decoded_reply bytes)
 abbrev pub idle_view : ℕ → StreamView
 idle_view host = record { host = host; phase = Idle; params = None }
 
--- a stream that is not this host's, has parameters, shares something with its way, and has another rate or number of channels
+-- a stream that is not this host's, has parameters, touches this one, and has another rate or number of channels
 abbrev pub conflicts : Plan → ℕ → Params → StreamPlan × StreamRec → Bool
 conflicts plan host p (s, r) =
-    not (s.host == host) && touch plan.graph (idle_view s.host) (idle_view host) && is_some r.params && not (same_shape r.params (Some p))
+    not (s.host == host) && touch plan.graph s.host host && is_some r.params && not (same_shape r.params (Some p))
 
 -- ---- what a device has that was brought up
 

@@ -185,7 +185,7 @@ module _ (g : Graph) (c : Comp) (gone : is_node g c.id ≡ false) (wired : IsWir
   new-kind : kind_at wider c.id ≡ Some c.kind
   new-kind = ap (λ (o : Option Comp). option_map (λ (x : Comp). x.kind) o) (find-placed_there (λ x. x.id == c.id) (λ x. x.id) c g.comps (eq-eqb c.id c.id refl) no-comp)
 
-  touch-wider : (s t : StreamView) → (s.host == c.id) ≡ false → (t.host == c.id) ≡ false → touch wider s t ≡ touch g s t
+  touch-wider : (s t : StreamView) → (s.host == c.id) ≡ false → (t.host == c.id) ≡ false → touch wider s.host t.host ≡ touch g s.host t.host
   touch-wider s t s-far t-far =
       any-ids (λ x. on_way wider s.host x && on_way wider t.host x) (placed (λ x. x.id) c g.comps) g.edges
       ∙ ap (λ (p : Bool × Bool). p.0 || p.1) (λ i. (comp-part i, any-same (λ e. on_way wider s.host e.buffer && on_way wider t.host e.buffer) (λ e. on_way g s.host e.buffer && on_way g t.host e.buffer) g.edges (each-edge g.edges) i))
@@ -212,29 +212,29 @@ module _ (g : Graph) (c : Comp) (gone : is_node g c.id ≡ false) (wired : IsWir
   none-right None = refl
   none-right (Some p) = refl
 
-  cells : (s : StreamView) → (s.host == c.id) ≡ false → (ts : List StreamView) → AllByRecursion (λ t. (t.host == c.id) ≡ false) ts → list_all (λ t. not (touch g s t) || same_shape s.params t.params) ts ≡ true → list_all (λ t. not (touch wider s t) || same_shape s.params t.params) ts ≡ true
+  cells : (s : StreamView) → (s.host == c.id) ≡ false → (ts : List StreamView) → AllByRecursion (λ t. (t.host == c.id) ≡ false) ts → list_all (λ t. not (touch g s.host t.host) || same_shape s.params t.params) ts ≡ true → list_all (λ t. not (touch wider s.host t.host) || same_shape s.params t.params) ts ≡ true
   cells s s-far [] apart is = refl
   cells s s-far (t ∷ ts) apart is =
-      let parts = and_parts (not (touch g s t) || same_shape s.params t.params) (list_all (λ t. not (touch g s t) || same_shape s.params t.params) ts) is in
+      let parts = and_parts (not (touch g s.host t.host) || same_shape s.params t.params) (list_all (λ t. not (touch g s.host t.host) || same_shape s.params t.params) ts) is in
       and_from _ _ (ap (λ h. not h || same_shape s.params t.params) (touch-wider s t s-far apart.0) ∙ parts.0) (cells s s-far ts apart.1 parts.1)
 
-  rows : (xs : List StreamView) → AllByRecursion (λ s. (s.host == c.id) ≡ false) xs → list_all (λ s. list_all (λ t. not (touch g s t) || same_shape s.params t.params) ss) xs ≡ true → list_all (λ s. list_all (λ t. not (touch wider s t) || same_shape s.params t.params) ss) xs ≡ true
+  rows : (xs : List StreamView) → AllByRecursion (λ s. (s.host == c.id) ≡ false) xs → list_all (λ s. list_all (λ t. not (touch g s.host t.host) || same_shape s.params t.params) ss) xs ≡ true → list_all (λ s. list_all (λ t. not (touch wider s.host t.host) || same_shape s.params t.params) ss) xs ≡ true
   rows [] apart is = refl
   rows (s ∷ xs) apart is =
-      let parts = and_parts (list_all (λ t. not (touch g s t) || same_shape s.params t.params) ss) (list_all (λ s. list_all (λ t. not (touch g s t) || same_shape s.params t.params) ss) xs) is in
+      let parts = and_parts (list_all (λ t. not (touch g s.host t.host) || same_shape s.params t.params) ss) (list_all (λ s. list_all (λ t. not (touch g s.host t.host) || same_shape s.params t.params) ss) xs) is in
       and_from _ _ (cells s apart.0 ss far parts.0) (rows xs apart.1 parts.1)
 
-  rows-more : (xs : List StreamView) → list_all (λ s. list_all (λ t. not (touch wider s t) || same_shape s.params t.params) ss) xs ≡ true → list_all (λ s. list_all (λ t. not (touch wider s t) || same_shape s.params t.params) (placed (λ s. s.host) (fresh_stream c.id) ss)) xs ≡ true
+  rows-more : (xs : List StreamView) → list_all (λ s. list_all (λ t. not (touch wider s.host t.host) || same_shape s.params t.params) ss) xs ≡ true → list_all (λ s. list_all (λ t. not (touch wider s.host t.host) || same_shape s.params t.params) (placed (λ s. s.host) (fresh_stream c.id) ss)) xs ≡ true
   rows-more [] is = refl
   rows-more (s ∷ xs) is =
-      let parts = and_parts (list_all (λ t. not (touch wider s t) || same_shape s.params t.params) ss) (list_all (λ s. list_all (λ t. not (touch wider s t) || same_shape s.params t.params) ss) xs) is in
+      let parts = and_parts (list_all (λ t. not (touch wider s.host t.host) || same_shape s.params t.params) ss) (list_all (λ s. list_all (λ t. not (touch wider s.host t.host) || same_shape s.params t.params) ss) xs) is in
       and_from _ _
-      (list_all-placed (λ t. not (touch wider s t) || same_shape s.params t.params) (λ s. s.host) (fresh_stream c.id) ss ∙ and_from _ _ (or_right (not (touch wider s (fresh_stream c.id))) _ (none-right s.params)) parts.0)
+      (list_all-placed (λ t. not (touch wider s.host t.host) || same_shape s.params t.params) (λ s. s.host) (fresh_stream c.id) ss ∙ and_from _ _ (or_right (not (touch wider s.host c.id)) _ (none-right s.params)) parts.0)
       (rows-more xs parts.1)
 
-  row-fresh : (ts : List StreamView) → list_all (λ t. not (touch wider (fresh_stream c.id) t) || same_shape None t.params) ts ≡ true
+  row-fresh : (ts : List StreamView) → list_all (λ t. not (touch wider c.id t.host) || same_shape None t.params) ts ≡ true
   row-fresh [] = refl
-  row-fresh (t ∷ ts) = and_from _ _ (or_right (not (touch wider (fresh_stream c.id) t)) _ (none-left t.params)) (row-fresh ts)
+  row-fresh (t ∷ ts) = and_from _ _ (or_right (not (touch wider c.id t.host)) _ (none-left t.params)) (row-fresh ts)
     where
       none-left : (o : Option Params) → same_shape None o ≡ true
       none-left None = refl
@@ -244,8 +244,8 @@ module _ (g : Graph) (c : Comp) (gone : is_node g c.id ≡ false) (wired : IsWir
   unfolding agree
   agree-wider =
       let plain = rows ss far played.agreed in
-      brought (λ xs. list_all (λ s. list_all (λ t. not (touch wider s t) || same_shape s.params t.params) xs) xs ≡ true) c.id c.kind ss plain
-      (λ host. list_all-placed (λ s. list_all (λ t. not (touch wider s t) || same_shape s.params t.params) (placed (λ s. s.host) (fresh_stream c.id) ss)) (λ s. s.host) (fresh_stream c.id) ss
+      brought (λ xs. list_all (λ s. list_all (λ t. not (touch wider s.host t.host) || same_shape s.params t.params) xs) xs ≡ true) c.id c.kind ss plain
+      (λ host. list_all-placed (λ s. list_all (λ t. not (touch wider s.host t.host) || same_shape s.params t.params) (placed (λ s. s.host) (fresh_stream c.id) ss)) (λ s. s.host) (fresh_stream c.id) ss
       ∙ and_from _ _ (row-fresh (placed (λ s. s.host) (fresh_stream c.id) ss)) (rows-more ss plain))
 
   pub played-wider : AreStreamsPlayable new

@@ -370,33 +370,33 @@ module _ (g : Graph) (j : Join) (wired : IsWired g) (free : is_joined g j.source
 
   -- ---- streams agree
 
-  touch-less : (s t : StreamView) → Holds s → Holds t → is_some s.params ≡ true → is_some t.params ≡ true → touch g s t ≡ false → touch wired_on s t ≡ false
+  touch-less : (s t : StreamView) → Holds s → Holds t → is_some s.params ≡ true → is_some t.params ≡ true → touch g s.host t.host ≡ false → touch wired_on s.host t.host ≡ false
   touch-less s t hold_s hold_t has_s has_t apart =
       ap (λ (ids : List ℕ). list_any (λ x. on_way wired_on s.host x && on_way wired_on t.host x) (components g ++ ids)) (buffers-joined j g.edges)
       ∙ any-less (λ x. on_way wired_on s.host x && on_way wired_on t.host x) (λ x. on_way g s.host x && on_way g t.host x) nodes nodes
       (λ x there e. sym (ap (λ (p : Bool × Bool). p.0 && p.1) (λ i. (hold_s has_s x there i, hold_t has_t x there i))) ∙ e)
       (λ x there. there) apart
 
-  cells : (s : StreamView) → Holds s → (ts : List StreamView) → AllByRecursion Holds ts → list_all (λ t. not (touch g s t) || same_shape s.params t.params) ts ≡ true → list_all (λ t. not (touch wired_on s t) || same_shape s.params t.params) ts ≡ true
+  cells : (s : StreamView) → Holds s → (ts : List StreamView) → AllByRecursion Holds ts → list_all (λ t. not (touch g s.host t.host) || same_shape s.params t.params) ts ≡ true → list_all (λ t. not (touch wired_on s.host t.host) || same_shape s.params t.params) ts ≡ true
   cells s hold_s [] hold is = refl
   cells s hold_s (t ∷ ts) hold is =
-      let parts = and_parts (not (touch g s t) || same_shape s.params t.params) (list_all (λ t. not (touch g s t) || same_shape s.params t.params) ts) is in
+      let parts = and_parts (not (touch g s.host t.host) || same_shape s.params t.params) (list_all (λ t. not (touch g s.host t.host) || same_shape s.params t.params) ts) is in
       and_from _ _ (by (same_shape s.params t.params) refl parts.0) (cells s hold_s ts hold.1 parts.1)
     where
       at : (h : Bool) → (not h || false) ≡ true → h ≡ false
       at true e = absurd (false≢true e)
       at false e = refl
 
-      by : (h : Bool) → same_shape s.params t.params ≡ h → (not (touch g s t) || h) ≡ true → (not (touch wired_on s t) || h) ≡ true
-      by true e is = or_right (not (touch wired_on s t)) true refl
+      by : (h : Bool) → same_shape s.params t.params ≡ h → (not (touch g s.host t.host) || h) ≡ true → (not (touch wired_on s.host t.host) || h) ≡ true
+      by true e is = or_right (not (touch wired_on s.host t.host)) true refl
       by false e is =
           let has = both-some s.params t.params e in
-          ap (λ h. not h || false) (touch-less s t hold_s hold.0 has.0 has.1 (at (touch g s t) is))
+          ap (λ h. not h || false) (touch-less s t hold_s hold.0 has.0 has.1 (at (touch g s.host t.host) is))
 
-  rows : (xs : List StreamView) → AllByRecursion Holds xs → list_all (λ s. list_all (λ t. not (touch g s t) || same_shape s.params t.params) ss) xs ≡ true → list_all (λ s. list_all (λ t. not (touch wired_on s t) || same_shape s.params t.params) ss) xs ≡ true
+  rows : (xs : List StreamView) → AllByRecursion Holds xs → list_all (λ s. list_all (λ t. not (touch g s.host t.host) || same_shape s.params t.params) ss) xs ≡ true → list_all (λ s. list_all (λ t. not (touch wired_on s.host t.host) || same_shape s.params t.params) ss) xs ≡ true
   rows [] hold is = refl
   rows (s ∷ xs) hold is =
-      let parts = and_parts (list_all (λ t. not (touch g s t) || same_shape s.params t.params) ss) (list_all (λ s. list_all (λ t. not (touch g s t) || same_shape s.params t.params) ss) xs) is in
+      let parts = and_parts (list_all (λ t. not (touch g s.host t.host) || same_shape s.params t.params) ss) (list_all (λ s. list_all (λ t. not (touch g s.host t.host) || same_shape s.params t.params) ss) xs) is in
       and_from _ _ (cells s hold.0 ss ways parts.0) (rows xs hold.1 parts.1)
 
   agree-joined : agree new ≡ true

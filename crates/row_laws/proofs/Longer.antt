@@ -139,7 +139,7 @@ module _ (g : Graph) (id pipe size : ℕ) (gone : is_node g id ≡ false) (wired
   sets-longer [] apart sets = tt
   sets-longer (s ∷ xs) apart sets = (set-longer s.host (is_idle s.phase) s.params apart.0 sets.0, sets-longer xs apart.1 sets.1)
 
-  touch-longer : (s t : StreamView) → (s.host == id) ≡ false → touch longer s t ≡ touch g s t
+  touch-longer : (s t : StreamView) → (s.host == id) ≡ false → touch longer s.host t.host ≡ touch g s.host t.host
   touch-longer s t s-far =
       any-ids (λ x. on_way longer s.host x && on_way longer t.host x) g.comps (placed (λ e. e.buffer) fresh g.edges)
       ∙ ap (λ (p : Bool × Bool). p.0 || p.1) (λ i. (any-same (λ x. on_way longer s.host x.id && on_way longer t.host x.id) (λ x. on_way g s.host x.id && on_way g t.host x.id) g.comps (each-comp g.comps) i, edge-part i))
@@ -162,17 +162,17 @@ module _ (g : Graph) (id pipe size : ℕ) (gone : is_node g id ≡ false) (wired
           ∙ ap (λ h. (h && on_way longer t.host id) || list_any (λ e. on_way longer s.host e.buffer && on_way longer t.host e.buffer) g.edges) (way-same s.host id ∙ off-way g s.host id s-far clear)
           ∙ any-same (λ e. on_way longer s.host e.buffer && on_way longer t.host e.buffer) (λ e. on_way g s.host e.buffer && on_way g t.host e.buffer) g.edges (each-edge g.edges)
 
-  cells : (s : StreamView) → (s.host == id) ≡ false → (ts : List StreamView) → AllByRecursion (λ t. (not (touch longer s t) || same_shape s.params t.params) ≡ (not (touch g s t) || same_shape s.params t.params)) ts
+  cells : (s : StreamView) → (s.host == id) ≡ false → (ts : List StreamView) → AllByRecursion (λ t. (not (touch longer s.host t.host) || same_shape s.params t.params) ≡ (not (touch g s.host t.host) || same_shape s.params t.params)) ts
   cells s s-far [] = tt
   cells s s-far (t ∷ ts) = (ap (λ h. not h || same_shape s.params t.params) (touch-longer s t s-far), cells s s-far ts)
 
-  rows : (xs : List StreamView) → AllByRecursion (λ s. (s.host == id) ≡ false) xs → AllByRecursion (λ s. list_all (λ t. not (touch longer s t) || same_shape s.params t.params) ss ≡ list_all (λ t. not (touch g s t) || same_shape s.params t.params) ss) xs
+  rows : (xs : List StreamView) → AllByRecursion (λ s. (s.host == id) ≡ false) xs → AllByRecursion (λ s. list_all (λ t. not (touch longer s.host t.host) || same_shape s.params t.params) ss ≡ list_all (λ t. not (touch g s.host t.host) || same_shape s.params t.params) ss) xs
   rows [] apart = tt
-  rows (s ∷ xs) apart = (all-same (λ t. not (touch longer s t) || same_shape s.params t.params) (λ t. not (touch g s t) || same_shape s.params t.params) ss (cells s apart.0 ss), rows xs apart.1)
+  rows (s ∷ xs) apart = (all-same (λ t. not (touch longer s.host t.host) || same_shape s.params t.params) (λ t. not (touch g s.host t.host) || same_shape s.params t.params) ss (cells s apart.0 ss), rows xs apart.1)
 
   agree-longer : agree new ≡ true
   unfolding agree
-  agree-longer = all-same (λ s. list_all (λ t. not (touch longer s t) || same_shape s.params t.params) ss) (λ s. list_all (λ t. not (touch g s t) || same_shape s.params t.params) ss) ss (rows ss far) ∙ played.agreed
+  agree-longer = all-same (λ s. list_all (λ t. not (touch longer s.host t.host) || same_shape s.params t.params) ss) (λ s. list_all (λ t. not (touch g s.host t.host) || same_shape s.params t.params) ss) ss (rows ss far) ∙ played.agreed
 
   pub played-longer : AreStreamsPlayable new
   played-longer = record {

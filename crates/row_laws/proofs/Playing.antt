@@ -183,7 +183,7 @@ module _ (v : View) (wired : IsWired v.graph) (linked : HasJoinedSides v.graph) 
   channels-by : (s : StreamView) → IsOf s v.streams → is_live_phase s.phase ≡ true → (p : Params) → s.params ≡ Some p → (x : ℕ) → is_among (components v.graph ++ buffers v.graph) x ≡ true → on_way v.graph s.host x ≡ true → channels_of v x ≡ p.channels
   channels-by s among lives p has x there on =
       let b = heard v x played (live-by s among lives x on) in
-      let touches : touch v.graph s b.stream ≡ true =
+      let touches : touch v.graph s.host b.stream.host ≡ true =
       list_any-at (λ y. on_way v.graph s.host y && on_way v.graph b.stream.host y) (components v.graph ++ buffers v.graph) x there
       (and_from (on_way v.graph s.host x) (on_way v.graph b.stream.host x) on b.way) in
       b.channels ∙ sym (one-shape p b.params s.params b.stream.params has b.has (touching v played.agreed s b.stream among b.among touches))

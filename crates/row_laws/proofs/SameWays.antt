@@ -116,21 +116,21 @@ module _ (g g' : Graph) (keep : StreamView → Bool) (ss : List StreamView) (pla
   shape-none_right o (Some p) e = absurd (true≢false e)
 
   module _ (nodes : (x : ℕ) → is_among (components g' ++ buffers g') x ≡ true → is_among (components g ++ buffers g) x ≡ true) where
-    touches : (s t : StreamView) → ((x : ℕ) → on_way g' s.host x ≡ on_way g s.host x) → ((x : ℕ) → on_way g' t.host x ≡ on_way g t.host x) → touch g' s t ≡ true → touch g s t ≡ true
+    touches : (s t : StreamView) → ((x : ℕ) → on_way g' s.host x ≡ on_way g s.host x) → ((x : ℕ) → on_way g' t.host x ≡ on_way g t.host x) → touch g' s.host t.host ≡ true → touch g s.host t.host ≡ true
     touches s t s-way t-way e =
         let x = some-among (λ x. on_way g' s.host x && on_way g' t.host x) (components g' ++ buffers g') e in
         list_any-at (λ x. on_way g s.host x && on_way g t.host x) (components g ++ buffers g) x.0 (nodes x.0 x.1)
         (sym (ap (λ (p : Bool × Bool). p.0 && p.1) (λ i. (s-way x.0 i, t-way x.0 i))) ∙ x.2)
 
-    cell : (s t : StreamView) → IsOf s (filter keep ss) → IsOf t (filter keep ss) → (not (touch g' s t) || same_shape s.params t.params) ≡ true
+    cell : (s t : StreamView) → IsOf s (filter keep ss) → IsOf t (filter keep ss) → (not (touch g' s.host t.host) || same_shape s.params t.params) ≡ true
     cell s t in_s in_t =
         let a = of-kept keep ss s in_s in
         let b = of-kept keep ss t in_t in
         let s-holds : Holds s = all-of Holds ss s ways a.1 in
         let t-holds : Holds t = all-of Holds ss t ways b.1 in
-        by (is_some s.params) refl (is_some t.params) refl (touch g' s t) refl (s-holds a.0) (t-holds b.0) a.1 b.1
+        by (is_some s.params) refl (is_some t.params) refl (touch g' s.host t.host) refl (s-holds a.0) (t-holds b.0) a.1 b.1
       where
-        by : (p : Bool) → is_some s.params ≡ p → (q : Bool) → is_some t.params ≡ q → (h : Bool) → touch g' s t ≡ h → (is_some s.params ≡ true → (x : ℕ) → on_way g' s.host x ≡ on_way g s.host x) → (is_some t.params ≡ true → (x : ℕ) → on_way g' t.host x ≡ on_way g t.host x) → IsOf s ss → IsOf t ss → (not h || same_shape s.params t.params) ≡ true
+        by : (p : Bool) → is_some s.params ≡ p → (q : Bool) → is_some t.params ≡ q → (h : Bool) → touch g' s.host t.host ≡ h → (is_some s.params ≡ true → (x : ℕ) → on_way g' s.host x ≡ on_way g s.host x) → (is_some t.params ≡ true → (x : ℕ) → on_way g' t.host x ≡ on_way g t.host x) → IsOf s ss → IsOf t ss → (not h || same_shape s.params t.params) ≡ true
         by p p-is q q-is false e s-way t-way s-of t-of = refl
         by false p-is q q-is true e s-way t-way s-of t-of = shape-none s.params t.params p-is
         by true p-is false q-is true e s-way t-way s-of t-of = shape-none_right s.params t.params q-is
@@ -138,7 +138,7 @@ module _ (g g' : Graph) (keep : StreamView → Bool) (ss : List StreamView) (pla
 
     agree-same : agree new ≡ true
     unfolding agree
-    agree-same = each-of (λ s. list_all (λ t. not (touch g' s t) || same_shape s.params t.params) (filter keep ss)) (filter keep ss) (λ s in_s. each-of (λ t. not (touch g' s t) || same_shape s.params t.params) (filter keep ss) (λ t in_t. cell s t in_s in_t))
+    agree-same = each-of (λ s. list_all (λ t. not (touch g' s.host t.host) || same_shape s.params t.params) (filter keep ss)) (filter keep ss) (λ s in_s. each-of (λ t. not (touch g' s.host t.host) || same_shape s.params t.params) (filter keep ss) (λ t in_t. cell s t in_s in_t))
 
     set-same : (s : StreamView) → (is_some s.params ≡ true → is_way_ready g' s.host ≡ true) → IsStreamSet g s → IsStreamSet g' s
     set-same s ready is_set = by (is_idle s.phase) s.params ready is_set

@@ -60,11 +60,11 @@ list_any-at p (i ∷ ids) x there h = by_place (or_cases (i == x) (is_among ids 
     by_place (inr e) rest = or_right (p i) (list_any p ids) (rest e h)
 
 -- streams that touch have one number of channels
-pub touching : (v : View) → agree v ≡ true → (s t : StreamView) → IsOf s v.streams → IsOf t v.streams → touch v.graph s t ≡ true → same_shape s.params t.params ≡ true
+pub touching : (v : View) → agree v ≡ true → (s t : StreamView) → IsOf s v.streams → IsOf t v.streams → touch v.graph s.host t.host ≡ true → same_shape s.params t.params ≡ true
 unfolding agree
 touching v agrees s t in_s in_t touches =
-    let row = list_all-of (λ s. list_all (λ t. not (touch v.graph s t) || same_shape s.params t.params) v.streams) v.streams s agrees in_s in
-    let cell = list_all-of (λ t. not (touch v.graph s t) || same_shape s.params t.params) v.streams t row in_t in
+    let row = list_all-of (λ s. list_all (λ t. not (touch v.graph s.host t.host) || same_shape s.params t.params) v.streams) v.streams s agrees in_s in
+    let cell = list_all-of (λ t. not (touch v.graph s.host t.host) || same_shape s.params t.params) v.streams t row in_t in
     sym (ap (λ h. not h || same_shape s.params t.params) touches) ∙ cell
 
 pub live-idle : (phase : Phase) → is_live_phase phase ≡ true → is_idle phase ≡ false
@@ -146,7 +146,7 @@ shape-stays g streams to keeps was played x there before after =
     let a = heard old x was before in
     let b = heard new x played after in
     let stay = all-of (λ s. ((to s).host ≡ s.host) × (is_live_phase s.phase ≡ true → (to s).params ≡ s.params)) streams a.stream keeps a.among in
-    let touches : touch g (to a.stream) b.stream ≡ true =
+    let touches : touch g (to a.stream).host b.stream.host ≡ true =
     list_any-at (λ y. on_way g (to a.stream).host y && on_way g b.stream.host y) (components g ++ buffers g) x there
     (and_from (on_way g (to a.stream).host x) (on_way g b.stream.host x) (ap (λ host. on_way g host x) stay.0 ∙ a.way) b.way) in
     let shape = touching new played.agreed (to a.stream) b.stream (IsOf-map to a.stream streams a.among) b.among touches in

@@ -25,18 +25,18 @@ host-set_stream host phase params s = by (s.host == host)
     by false = refl
 
 -- the tests over the streams that were, by the parameters that they have then
-pub agree-changed : (g : Graph) (to : StreamView → StreamView) (pick : StreamView → Option Params) (streams : List StreamView) → ((s : StreamView) → (to s).host ≡ s.host) → ((s : StreamView) → (to s).params ≡ pick s) → agree (record { graph = g; streams = map to streams }) ≡ list_all (λ s. list_all (λ t. not (touch g s t) || same_shape (pick s) (pick t)) streams) streams
+pub agree-changed : (g : Graph) (to : StreamView → StreamView) (pick : StreamView → Option Params) (streams : List StreamView) → ((s : StreamView) → (to s).host ≡ s.host) → ((s : StreamView) → (to s).params ≡ pick s) → agree (record { graph = g; streams = map to streams }) ≡ list_all (λ s. list_all (λ t. not (touch g s.host t.host) || same_shape (pick s) (pick t)) streams) streams
 unfolding agree
 agree-changed g to pick streams same has =
-    list_all-map (λ s. list_all (λ t. not (touch g s t) || same_shape s.params t.params) (map to streams)) to streams
+    list_all-map (λ s. list_all (λ t. not (touch g s.host t.host) || same_shape s.params t.params) (map to streams)) to streams
     ∙ each streams
   where
-    row : (s : StreamView) (ts : List StreamView) → list_all (λ t. not (touch g (to s) t) || same_shape (to s).params t.params) (map to ts) ≡ list_all (λ t. not (touch g s t) || same_shape (pick s) (pick t)) ts
+    row : (s : StreamView) (ts : List StreamView) → list_all (λ t. not (touch g (to s).host t.host) || same_shape (to s).params t.params) (map to ts) ≡ list_all (λ t. not (touch g s.host t.host) || same_shape (pick s) (pick t)) ts
     row s [] = refl
     row s (t ∷ ts) =
-        ap (λ (p : ℕ × ℕ × Option Params × Option Params × Bool). (not (touch g (record { host = p.0; phase = s.phase; params = s.params }) (record { host = p.1; phase = t.phase; params = t.params })) || same_shape p.2 p.3) && p.4) (λ i. (same s i, same t i, has s i, has t i, row s ts i))
+        ap (λ (p : ℕ × ℕ × Option Params × Option Params × Bool). (not (touch g p.0 p.1) || same_shape p.2 p.3) && p.4) (λ i. (same s i, same t i, has s i, has t i, row s ts i))
 
-    each : (ss : List StreamView) → list_all (λ s. list_all (λ t. not (touch g (to s) t) || same_shape (to s).params t.params) (map to streams)) ss ≡ list_all (λ s. list_all (λ t. not (touch g s t) || same_shape (pick s) (pick t)) streams) ss
+    each : (ss : List StreamView) → list_all (λ s. list_all (λ t. not (touch g (to s).host t.host) || same_shape (to s).params t.params) (map to streams)) ss ≡ list_all (λ s. list_all (λ t. not (touch g s.host t.host) || same_shape (pick s) (pick t)) streams) ss
     each [] = refl
     each (s ∷ ss) = ap (λ (p : Bool × Bool). p.0 && p.1) (λ i. (row s streams i, each ss i))
 
@@ -191,16 +191,16 @@ agree-fewer g to ss same shapes agrees =
     cell s t true true e is = shapes s t e
     cell s t false true e is = absurd (false≢true is)
 
-    row : (s : StreamView) (ts : List StreamView) → list_all (λ t. not (touch g s t) || same_shape s.params t.params) ts ≡ true → list_all (λ t. not (touch g s t) || same_shape (to s).params (to t).params) ts ≡ true
+    row : (s : StreamView) (ts : List StreamView) → list_all (λ t. not (touch g s.host t.host) || same_shape s.params t.params) ts ≡ true → list_all (λ t. not (touch g s.host t.host) || same_shape (to s).params (to t).params) ts ≡ true
     row s [] is = refl
     row s (t ∷ ts) is =
-        let parts = and_parts (not (touch g s t) || same_shape s.params t.params) (list_all (λ t. not (touch g s t) || same_shape s.params t.params) ts) is in
-        and_from _ _ (cell s t (same_shape s.params t.params) (touch g s t) refl parts.0) (row s ts parts.1)
+        let parts = and_parts (not (touch g s.host t.host) || same_shape s.params t.params) (list_all (λ t. not (touch g s.host t.host) || same_shape s.params t.params) ts) is in
+        and_from _ _ (cell s t (same_shape s.params t.params) (touch g s.host t.host) refl parts.0) (row s ts parts.1)
 
-    rows : (xs : List StreamView) → list_all (λ s. list_all (λ t. not (touch g s t) || same_shape s.params t.params) ss) xs ≡ true → list_all (λ s. list_all (λ t. not (touch g s t) || same_shape (to s).params (to t).params) ss) xs ≡ true
+    rows : (xs : List StreamView) → list_all (λ s. list_all (λ t. not (touch g s.host t.host) || same_shape s.params t.params) ss) xs ≡ true → list_all (λ s. list_all (λ t. not (touch g s.host t.host) || same_shape (to s).params (to t).params) ss) xs ≡ true
     rows [] is = refl
     rows (s ∷ xs) is =
-        let parts = and_parts (list_all (λ t. not (touch g s t) || same_shape s.params t.params) ss) (list_all (λ s. list_all (λ t. not (touch g s t) || same_shape s.params t.params) ss) xs) is in
+        let parts = and_parts (list_all (λ t. not (touch g s.host t.host) || same_shape s.params t.params) ss) (list_all (λ s. list_all (λ t. not (touch g s.host t.host) || same_shape s.params t.params) ss) xs) is in
         and_from _ _ (row s ss parts.0) (rows xs parts.1)
 
 pub played-free : (g : Graph) (host : ℕ) (ss : List StreamView) → AreStreamsPlayable (record { graph = g; streams = ss }) → AreStreamsPlayable (record { graph = g; streams = map (set_stream host Idle None) ss })

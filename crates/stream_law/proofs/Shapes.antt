@@ -80,11 +80,11 @@ list_any-at p (i ∷ ids) x there h = by_place (or_cases (i == x) (is_among ids 
     by_place (inr e) rest = or_right (p i) (list_any p ids) (rest e h)
 
 -- streams that touch have one number of channels
-touching : (v : View) → agree v ≡ true → (s t : StreamView) → Contains v.streams s → Contains v.streams t → touch v.graph s t ≡ true → same_shape s.params t.params ≡ true
+touching : (v : View) → agree v ≡ true → (s t : StreamView) → Contains v.streams s → Contains v.streams t → touch v.graph s.host t.host ≡ true → same_shape s.params t.params ≡ true
 unfolding agree
 touching v agrees s t in_s in_t touches =
-    let row = list_all-of (λ s. list_all (λ t. not (touch v.graph s t) || same_shape s.params t.params) v.streams) v.streams s agrees in_s in
-    let cell = list_all-of (λ t. not (touch v.graph s t) || same_shape s.params t.params) v.streams t row in_t in
+    let row = list_all-of (λ s. list_all (λ t. not (touch v.graph s.host t.host) || same_shape s.params t.params) v.streams) v.streams s agrees in_s in
+    let cell = list_all-of (λ t. not (touch v.graph s.host t.host) || same_shape s.params t.params) v.streams t row in_t in
     sym (ap (λ h. not h || same_shape s.params t.params) touches) ∙ cell
 
 -- what is there has a value
@@ -142,7 +142,7 @@ module _ (old new : View) (keeps : KeepsWays old new) (x : ℕ) (there : is_amon
       kept : (t : StreamView) × Contains new.streams t × (t.host ≡ s.host) × (t.params ≡ s.params)
       kept = keeps.params s of_old.1 lives.0
 
-      touches : touch new.graph kept.0 u ≡ true
+      touches : touch new.graph kept.0.host u.host ≡ true
       touches = list_any-at (λ y. on_way new.graph kept.0.host y && on_way new.graph u.host y) (components new.graph ++ buffers new.graph) x there
           (and_from (on_way new.graph kept.0.host x) (on_way new.graph u.host x) (ap (λ host. on_way new.graph host x) kept.2 ∙ sym (on_way_same old.graph new.graph keeps.ways s.host x) ∙ lives.1) lives_new.1)
 

@@ -1,5 +1,5 @@
 -- Values as they are viewed, from a place on.
-use Rattle.std.proofs.Common.{◌≡◌, ℕ, ◌+◌, ◌<◌, ◌≤◌, List, [], ◌∷◌, length, get_or, drop, refl, ap}
+use Rattle.std.proofs.Common.{◌≡◌, ℕ, ◌+◌, ◌<◌, ◌≤◌, List, [], ◌∷◌, length, get_or, drop, refl, ap, arith}
 use Rattle.std.specs.Borrow.{Bor}
 use Rattle.std.proofs.lemmas.List.{drop_more, drop_all}
 use Rattle.toml.specs.View.{view, items_view}
@@ -11,6 +11,10 @@ use Rattle.tplg_compile.specs.KeyTables.{keyed, keyed_by}
 pub list_of-items : (vs : List Value) → item_list (items_view vs) ≡ viewed vs
 list_of-items [] = refl
 list_of-items (v ∷ vs) = ap (λ ds. view v ∷ ds) (list_of-items vs)
+
+pub seen-count : (vs : List Value) → length (viewed vs) ≡ length vs
+seen-count [] = refl
+seen-count (v ∷ vs) = omega (arith, seen-count vs)
 
 pub seen-drop : (vs : List Value) (i : ℕ) (d : Value) → i < length vs → viewed (drop i vs) ≡ view (get_or vs i d) ∷ viewed (drop (i + 1) vs)
 seen-drop vs i d h = ap viewed (drop_more vs i d h)

@@ -1,12 +1,9 @@
 -- A topology has the widgets and the routes that its source states.
-use Rattle.std.proofs.Common.{◌≡◌, ◌∙◌, ◌⊎◌, ap, sym, ◌+◌, ◌<◌, ◌^◌, List, [], ◌∷◌, ◌++◌, length, length-append, map, Bool, true, false, Result, Ok, Err, inl, inr, refl, arith}
+use Rattle.std.proofs.Common.{◌≡◌, ◌∙◌, ap, ◌+◌, ◌<◌, ◌^◌, List, [], ◌∷◌, ◌++◌, length, length-append, map, true, refl, arith}
 use Rattle.std.specs.List.{flat_map}
-use Rattle.std.proofs.lemmas.Bool.{cases_Bool}
 use Rattle.std.proofs.lemmas.List.{length-map}
 use Rattle.tplg_model.specs.declared.block.Block.{Block}
 use Rattle.tplg_model.specs.declared.block.Topology.{Topology}
-use Rattle.tplg_build.specs.declared.build_fault.BuildFault.{BuildFault}
-use Rattle.tplg_build.specs.declared.build_fault.BuildFault.TheVariants.{TooLarge}
 use Rattle.tplg_build.specs.declared.source.TopologySource.{TopologySource}
 use Rattle.tplg_build.specs.declared.source.SourceWidget.{SourceWidget}
 use Rattle.tplg_build.specs.declared.source.SourceRoute.{SourceRoute}
@@ -62,23 +59,16 @@ routes-stated s =
     let es = entries_of (topology_stated s) in
     omega (arith, ends-of-widgets es s.widgets (route_blocks s.routes ++ map pcm_block s.pcms), ends-of-routes es s.routes (map pcm_block s.pcms), no-ends-of-pcms es s.pcms)
 
--- ---- what was built is small
+-- ---- what is built of a small source is small
 
-built-small : (s : TopologySource) (t : Topology) (r : Result Topology BuildFault) → r ≡ Ok t → (is_small_source s ≡ false → r ≡ Err TooLarge) → is_small_source s ≡ true
-built-small s t r ok large = by (cases_Bool (is_small_source s))
-  where
-    by : (is_small_source s ≡ true) ⊎ (is_small_source s ≡ false) → is_small_source s ≡ true
-    by (inl small) = small
-    by (inr not_small) = let never = sym ok ∙ large not_small in cc
-
-pub few-widgets-built : (s : TopologySource) (t : Topology) (r : Result Topology BuildFault) → r ≡ Ok t → (is_small_source s ≡ false → r ≡ Err TooLarge) → t ≡ topology_stated s → length (entries_of t) < 2 ^ 32
-few-widgets-built s t r ok large is =
-    let small = small-source s (built-small s t r ok large) in
+pub few-widgets-built : (s : TopologySource) (t : Topology) → is_small_source s ≡ true → t ≡ topology_stated s → length (entries_of t) < 2 ^ 32
+few-widgets-built s t is_small is =
+    let small = small-source s is_small in
     let same = ap (λ x. length (entries_of x)) is ∙ widgets-stated s in
     omega (arith, same, small.widgets)
 
-pub few-routes-built : (s : TopologySource) (t : Topology) (r : Result Topology BuildFault) → r ≡ Ok t → (is_small_source s ≡ false → r ≡ Err TooLarge) → t ≡ topology_stated s → length (ends_in t) < 2 ^ 32
-few-routes-built s t r ok large is =
-    let small = small-source s (built-small s t r ok large) in
+pub few-routes-built : (s : TopologySource) (t : Topology) → is_small_source s ≡ true → t ≡ topology_stated s → length (ends_in t) < 2 ^ 32
+few-routes-built s t is_small is =
+    let small = small-source s is_small in
     let same = ap (λ x. length (ends_in x)) is ∙ routes-stated s in
     omega (arith, same, small.routes)

@@ -1,5 +1,5 @@
 -- The three lists of a document: widgets, routes and PCMs.
-use Rattle.std.specs.Prelude.{Bool, true, ◌&&◌, if◌then◌else◌, is_some, List, [], ◌∷◌, codes, ℕ, Option, Some, None}
+use Rattle.std.specs.Prelude.{◌≡◌, ◌<◌, ◌^◌, Bool, true, ◌&&◌, if◌then◌else◌, is_some, List, [], ◌∷◌, length, codes, ℕ, Option, Some, None}
 use Rattle.toml.specs.Data.{Data, Members, get_member, as_array, as_table}
 use Rattle.tplg_compile.specs.Outcomes.{◌>>=◌}
 use Rattle.tplg_compile.specs.ValueForm.{item_list, only}
@@ -37,3 +37,13 @@ lists_of table = do
   routes ← entries_at (codes "route") table
   pcms ← entries_at (codes "pcm") table
   Some (record { widgets = widgets; routes = routes; pcms = pcms })
+
+-- a word numbers the entries of each list
+pub record AreNumbered (lists : Lists) : Type 0 where
+  pub widgets : length lists.widgets < 2 ^ 32
+  pub routes : length lists.routes < 2 ^ 32
+  pub pcms : length lists.pcms < 2 ^ 32
+
+-- those of a document's lists, where it has them
+abbrev pub HasNumberedEntries : Members → Type 0
+HasNumberedEntries table = (lists : Lists) → lists_of table ≡ Some lists → AreNumbered lists

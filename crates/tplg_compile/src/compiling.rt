@@ -1,8 +1,10 @@
 // From a text to a topology.
-ghost use Rattle.std.specs.Prelude.{◌≡◌, ◌<◌, ◌≤◌, ◌^◌, ◌⊎◌, length, IfOk, IfErr, OnOk, Ok, Err};
+ghost use Rattle.std.specs.Prelude.{◌≡◌, ◌<◌, ◌≤◌, ◌^◌, ◌⊎◌, true, length, IfOk, IfErr, OnOk, Ok, Err};
 ghost use Rattle.toml.specs.View.{table_view};
 ghost use Rattle.tplg_model.specs.File.{IsTopology};
 ghost use Rattle.tplg_model.specs.declared.block.Topology.{Topology as TopologyValue};
+ghost use Rattle.tplg_build.specs.SmallSource.{is_small_source};
+ghost use Rattle.tplg_build.specs.TopologyForm.{topology_stated};
 ghost use Rattle.tplg_widgets.specs.Entries.{entries_of};
 ghost use Rattle.tplg_widgets.specs.Ends.{ends_in};
 ghost use Rattle.tplg_compile.specs.declared.source_fault.SourceFault.{SourceFault as Fault};
@@ -14,7 +16,7 @@ use crate::document::stated;
 use crate::source_fault::SourceFault;
 use std::alloc::Global;
 use toml::Table;
-use tplg_build::build;
+use tplg_build::{BuildFault, TopologySource, build};
 use tplg_model::Topology;
 use tplg_rules::{PlanFault, check_topology};
 
@@ -45,6 +47,20 @@ fn told(fault: PlanFault) -> SourceFault
     }
 }
 
+// The topology of a source within the limits of the builder.
+fn built(alloc: Global, source: &TopologySource) -> Result<Topology, SourceFault>
+    requires { is_small_source source.now ≡ true }
+    ensures value { IfOk result (λ t. t ≡ topology_stated source.now) }
+    ensures sound { IfOk result IsTopology }
+    ensures err { IfErr result (λ f. f ≡ SourceFault.OutOfMemory) }
+{
+    match build(alloc, source) {
+        Ok(topology) => Ok(topology),
+        Err(BuildFault::OutOfMemory) => Err(SourceFault::OutOfMemory),
+        Err(BuildFault::TooLarge) => unreachable!(),
+    }
+}
+
 // Whether a topology keeps all rules.
 fn check_rules(alloc: Global, topology: &Topology) -> Result<(), SourceFault>
     requires widgets { length (entries_of topology.now) < 2 ^ 32 }
@@ -59,13 +75,14 @@ fn check_rules(alloc: Global, topology: &Topology) -> Result<(), SourceFault>
 }
 
 fn compiled(alloc: Global, text: &[u8]) -> Result<Topology, SourceFault>
+    requires { length text.now ≤ 1048576 }
     ensures found { IfOk result (IsCompiled text.now) }
     ensures sound { IfOk result IsTopology }
     ensures fault { IfErr result (λ f. (f ≡ SourceFault.OutOfMemory) ⊎ IsCompileFault text.now f) }
 {
     let table = parsed(alloc, text)?;
     let source = stated(alloc, &table)?;
-    let topology = build(alloc, &source)?;
+    let topology = built(alloc, &source)?;
     check_rules(alloc, &topology)?;
     Ok(topology)
 }

@@ -1,5 +1,5 @@
 // A document: its lists, and what their entries state.
-ghost use Rattle.std.specs.Prelude.{◌≡◌, Option};
+ghost use Rattle.std.specs.Prelude.{◌≡◌, ◌<◌, ◌^◌, length, Option};
 ghost use Rattle.toml.specs.Data.{Members};
 ghost use Rattle.tplg_compile.specs.declared.source_fault.List.{List as ListName};
 ghost use Rattle.tplg_compile.specs.declared.source_fault.List.TheVariants as list_name;
@@ -174,16 +174,11 @@ fn told(fault: EntryFault, list: List, entry: u32) -> SourceFault
     }
 }
 
-// The most entries of a list. More do not come of a source's text.
-const MOST: usize = 0xffff_ffff;
-
 // What the entries of a list state, up to the first at fault.
 fn records<L: EntryList>(alloc: Global, entries: &[Value]) -> Result<Vec<L::Record>, SourceFault>
+    requires { length entries.now < 2 ^ 32 }
     ensures { AnswerIs (λ x. x.items) result (source.entries_read L.list (in_table L.read) 0 (viewed entries.now)) }
 {
-    if entries.len() > MOST {
-        return Err(SourceFault::OutOfMemory);
-    }
     let mut records = Vec::new(alloc);
     for (place, entry) in entries.iter().enumerate() {
         match record::<L>(alloc, entry) {
@@ -197,6 +192,7 @@ fn records<L: EntryList>(alloc: Global, entries: &[Value]) -> Result<Vec<L::Reco
 /// What a document states, or its first fault.
 #[tactic(auto, unfolding(crate::specs::InOrder::source_of))]
 pub fn stated(alloc: Global, table: &Table) -> Result<TopologySource, SourceFault>
+    requires { lists.HasNumberedEntries (table_view table.now) }
     ensures { AnswerIs (λ x. x) result (source.source_of (table_view table.now)) }
 {
     let entries = match entries_of(table) {

@@ -1,11 +1,12 @@
 // What holds of every table.
-ghost use Rattle.std.specs.Prelude.{◌≡◌, ◌⊎◌, ◌↔◌, ℕ, List, Ok, Err};
+ghost use Rattle.std.specs.Prelude.{◌≡◌, ◌≤◌, ◌⊎◌, ◌↔◌, ℕ, true, List, length, Ok, Err};
 ghost use Rattle.toml.specs.Data.{Members};
 ghost use Rattle.tplg_model.specs.declared.block.Topology.{Topology};
+ghost use Rattle.tplg_build.specs.SmallSource.{is_small_source};
 ghost use Rattle.tplg_compile.specs.declared.source_fault.List.{List as ListName};
 ghost use Rattle.tplg_compile.specs.declared.source_fault.SourceFault.{SourceFault as Fault};
 ghost use Rattle.tplg_compile.specs.InOrder.{compiled_of};
-ghost use Rattle.tplg_compile.specs.Compiled.{IsCompiled, IsCompileFault};
+ghost use Rattle.tplg_compile.specs.Compiled.{IsDocument, IsCompiled, IsCompileFault};
 ghost use Rattle.tplg_compile.specs.Source.{IsSourceOf, IsShapeFault};
 
 /// A table is the source of one topology, or it has one first entry at fault.
@@ -21,4 +22,9 @@ pub fn sources_have_one_form()
     // Compiling as a function of a text gives what the text is the source of, and else what is wrong with it.
     ensures carried { (text : List ℕ) (t : Topology) → (compiled_of text ≡ Ok t) ↔ IsCompiled text t }
     ensures faults { (text : List ℕ) (f : Fault) → (compiled_of text ≡ Err f) ↔ IsCompileFault text f }
+{}
+
+/// What a text of at most 1048576 bytes states is within the limits of the builder.
+pub fn sources_are_small()
+    ensures { (text : List ℕ) (table : Members) (t : Topology) → length text ≤ 1048576 → IsDocument text table → (of : IsSourceOf table t) → is_small_source of.source ≡ true }
 {}

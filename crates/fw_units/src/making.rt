@@ -3,7 +3,7 @@ ghost use Rattle.std.specs.Prelude.{◌≡◌, ◌+◌, ◌*◌, ◌/◌, ◌%�
 ghost use Rattle.std.specs.List.{AllByRecursion};
 ghost use Rattle.sof_base.specs.FrameLists.{frames_of};
 ghost use Rattle.stream_law.specs.Placed.{Ascends};
-ghost use Rattle.fw_gain.specs.Kernels.{summed, held};
+ghost use Rattle.fw_gain.specs.Kernels.{all_amplified, summed, held};
 ghost use Rattle.fw_gain.specs.RampKernels.{all_ramped};
 ghost use Rattle.fw_units.specs.Units.{numbers_by};
 ghost use Rattle.fw_units.specs.Changes.{has_id};
@@ -14,8 +14,8 @@ ghost use Rattle.fw_units.specs.Moving.{samples_in, all_summed, IsWhole, looked_
 use crate::component::{Component, Unit};
 use crate::frames::copy_both;
 use crate::hints::Hints;
-use fw_gain::{mix_add, mix_begin, mix_end, mix_first, select, volume_ramp};
-use sof_base::Sample;
+use fw_gain::{mix_add, mix_begin, mix_end, mix_first, select, volume, volume_ramp};
+use sof_base::{Bounded, Sample};
 use stream_law::Join;
 
 impl Component {
@@ -61,7 +61,6 @@ impl Component {
                 length,
                 ..
             } => {
-                let starts = from.items();
                 let ends = gains.items();
                 amplify(
                     looked[0],
@@ -69,7 +68,7 @@ impl Component {
                     hints,
                     buffers,
                     self.channels,
-                    starts,
+                    from,
                     ends,
                     *done,
                     *length,
@@ -168,6 +167,68 @@ fn done_after(count: u32, done: u32, n: u32) -> u32
 // Writes the samples of the first `n` frames of a buffer, each by the gain of its channel at its frame, of a ramp of which so many are
 // done.
 fn amplify(
+    inlet: u32,
+    n: u32,
+    hints: &Hints,
+    buffers: &[Component],
+    channels: u8,
+    from: &Bounded<u32, 8>,
+    to: &[u32],
+    done: u32,
+    count: u32,
+    samples: &mut [Sample],
+)
+    requires ascends { Ascends (λ c. c.id) buffers.now }
+    requires there { has_id buffers.now inlet ≡ true }
+    requires held { n ≤ length (buffer_frames buffers.now inlet) }
+    requires shape { channels_in buffers.now inlet ≡ channels }
+    requires channels { (1 ≤ channels) × (channels ≤ 8) }
+    requires size { length samples.old ≡ n * channels }
+    requires gains { length from.now ≡ length to.now }
+    ensures samples { samples.new ≡ all_ramped channels from.now to.now count done (samples_in buffers.now n inlet) }
+    ensures frames { IsWhole buffers.now inlet }
+{
+    // most volumes are past their ramp
+    if count <= done {
+        amplify_all(inlet, n, hints, buffers, channels, to, samples);
+    } else {
+        let starts = from.items();
+        amplify_along(
+            inlet, n, hints, buffers, channels, starts, to, done, count, samples,
+        );
+    }
+}
+
+// Writes the samples of the first `n` frames of a buffer, each by the gain of its channel.
+fn amplify_all(
+    inlet: u32,
+    n: u32,
+    hints: &Hints,
+    buffers: &[Component],
+    channels: u8,
+    gains: &[u32],
+    samples: &mut [Sample],
+)
+    requires ascends { Ascends (λ c. c.id) buffers.now }
+    requires there { has_id buffers.now inlet ≡ true }
+    requires held { n ≤ length (buffer_frames buffers.now inlet) }
+    requires shape { channels_in buffers.now inlet ≡ channels }
+    requires channels { (1 ≤ channels) × (channels ≤ 8) }
+    requires size { length samples.old ≡ n * channels }
+    ensures samples { samples.new ≡ all_amplified channels gains.now (samples_in buffers.now n inlet) }
+    ensures frames { IsWhole buffers.now inlet }
+{
+    let (front, back) = spans(hints, buffers, inlet, n);
+    let (near, far) = samples.split_at_mut(front.len());
+    volume(front, near, channels, gains);
+    if !back.is_empty() {
+        volume(back, far, channels, gains);
+    }
+}
+
+// Writes the samples of the first `n` frames of a buffer by the gains of a ramp that goes on.
+#[inline(never)]
+fn amplify_along(
     inlet: u32,
     n: u32,
     hints: &Hints,

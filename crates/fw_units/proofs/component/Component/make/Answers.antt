@@ -38,7 +38,7 @@ returns-in-Volume-clause-frames c =
     let from : List ℕ = c.in-Volume.from in let to : List ℕ = c.in-Volume.gains in let over : ℕ = c.in-Volume.length in let done : ℕ = c.in-Volume.done in
     let level : length from ≡ length to = subst IsLevel c.in-Volume.is c.requires.level in
     ap (frames_of channels n) c.amplify.ensures.samples
-    ∙ (λ i. frames_of channels n (all_ramped channels (c.items-starts.ensures.value i) (c.items-ends.ensures.value i) over done (samples_in cs n (get_or looked 0 0))))
+    ∙ (λ i. frames_of channels n (all_ramped channels from (c.items-ends.ensures.value i) over done (samples_in cs n (get_or looked 0 0))))
     ∙ made-ramped cs channels n from to looked over done c.requires.channels.0 level one (all-at (IsInlet cs channels n) looked 0 0 some c.requires.inlets) c.amplify.ensures.frames
     ∙ ap (λ (u : units.Unit). made_frames u channels n c.args.chosen slices) (sym c.in-Volume.is)
 

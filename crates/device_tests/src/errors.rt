@@ -251,10 +251,11 @@ fn parameters_of_a_way_that_is_not_ready(rt: HostRuntime) -> Result<(), Fail> {
         (Message::PipeComplete { id: 3 }, DONE),
         (params(0, 1, 48000), INVALID),
         (params(0, 0, 7000), INVALID),
-        (params(0, 0, 44100), INVALID),
+        (params(0, 0, 44101), INVALID),
         (params(0, 0, 193000), INVALID),
         (params(0, 0, 48000), DONE),
         (params(0, 0, 8000), DONE),
+        (params(0, 0, 44100), DONE),
         (params(0, 0, 192000), DONE),
     ];
     answered(&rt, rt.alloc(), 4096, &parts(), &rows)

@@ -78,9 +78,6 @@ module _ (t : Tables) (kept : IsKept t) (id : ℕ) where
 
 -- ---- a rate and ramps are within their limits
 
-pub rate-low : (rate : ℕ) → is_rate rate ≡ true → rate ≤ 192000
-rate-low rate is = leb-true rate 192000 (and_parts (nat_le 8000 rate) (nat_le rate 192000) (and_parts (nat_le 8000 rate && nat_le rate 192000) _ is).0).1
-
 sound-ramp : (u : units.Unit) → IsUnitSound u → ramp_by u ≤ 10000
 sound-ramp (Volume gains ramp from done frames piece) e = e.3
 sound-ramp u e = omega arith

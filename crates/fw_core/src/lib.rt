@@ -10,6 +10,8 @@ mod join_rows;
 mod messages;
 mod new_rows;
 mod stream_rows;
+#[cfg(test)]
+mod tests;
 mod units;
 mod value_rows;
 

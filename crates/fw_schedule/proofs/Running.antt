@@ -1,13 +1,15 @@
 -- When a component runs, and how many frames it may move then.
-use Rattle.std.proofs.Common.{◌≡◌, refl, sym, ap, ◌∙◌, subst, ℕ, ◌*◌, ◌/◌, ◌%◌, ◌≤◌, List, [], ◌∷◌, Bool, true, false, cond, ◌==◌, ◌&&◌, Option, Some, None, option_map, arith}
-use Rattle.std.proofs.lemmas.Bool.{true≢false, and_parts, leb-true, eqb-true}
+use Rattle.std.proofs.Common.{◌≡◌, refl, sym, ap, ◌∙◌, subst, ℕ, ◌+◌, ◌*◌, ◌/◌, ◌%◌, ◌≤◌, List, [], ◌∷◌, Bool, true, false, cond, ◌==◌, ◌&&◌, Option, Some, None, option_map, arith}
+use Rattle.std.proofs.lemmas.Bool.{true≢false, and_parts, leb-true, eqb-true, le-ltb}
 use Rattle.std.proofs.Math.Nat.{mul-le-mul_right}
-use Rattle.std.specs.Prelude.{find, option_and_then, nat_le}
+use Rattle.std.proofs.lemmas.Nat.{mul-mod}
+use Rattle.std.specs.Prelude.{find, option_and_then, nat_le, nat_lt}
 use Rattle.std.specs.Option.{option_map_or}
 use Rattle.std.specs.List.{AllByRecursion}
 use Rattle.sof_base.specs.declared.format.Format.{Format}
 use Rattle.sof_base.specs.declared.format.Params.{Params}
 use Rattle.sof_base.specs.Samples.{width}
+use Rattle.sof_base.proofs.RateLaws.{rate-most}
 use Rattle.row_laws.specs.Wired.{IsWired, HasJoinedSides}
 use Rattle.fw_schedule.proofs.Parts.{width-most}
 use Rattle.stream_law.specs.declared.graph.Kind.{Kind}
@@ -19,6 +21,7 @@ use Rattle.stream_law.specs.State.{View}
 use Rattle.stream_law.specs.Ways.{comp_of, pipe_of, live, active, live_params, channels_of, rate_of, on_way, is_live_phase}
 use Rattle.stream_law.specs.Moves.{period, runs, quota}
 use Rattle.stream_law.proofs.Members.{find-in}
+use Rattle.stream_law.proofs.Quotas.{quota-few as few, quota-parts}
 use Rattle.row_laws.specs.Played.{AreStreamsPlayable, IsStreamSet, IsSetBy, is_idle}
 use Rattle.row_laws.proofs.Stays.{all-of, find-some, find-any, live-idle}
 use Rattle.row_laws.proofs.Playing.{active-period}
@@ -41,7 +44,7 @@ module _ (v : View) (played : AreStreamsPlayable v) where
     record {
       some = is.1.0;
       few = is.1.1;
-      rate = leb-true p.rate 192000 (and_parts (nat_le 8000 p.rate) (nat_le p.rate 192000) (and_parts (nat_le 8000 p.rate && nat_le p.rate 192000) _ is.2).0).1;
+      rate = rate-most p.rate is.2;
     },
   )
 
@@ -85,16 +88,22 @@ period-most g c periods = by (comp_of g c)
     by None = omega arith
     by (Some x) = let most = pipe x.pipe g.pipes periods in omega (arith, most)
 
-pub run-most : (a b : ℕ) → a ≤ 10 → b ≤ 192000 → a * b ≤ 1920000
-run-most a b p r =
-    let first : a * b ≤ 10 * b = mul-le-mul_right b p in
-    omega (arith, first, r)
+-- the quota, by where in its second a clock is: what a run leaves over is a frame more at the runs that complete one
+module _ (v : View) (t c p r : ℕ) (short : p ≤ 10) (ticks : p ≡ period v c) (rate : r ≡ rate_of v c) where
+  pub quota-over : (h : Bool) → nat_lt (t % 1000 * (r % 1000) % 1000) (p * r % 1000) ≡ h → p * r / 1000 + cond h 1 0 ≡ quota v t c
+  quota-over h is =
+      ap (λ h. p * r / 1000 + cond h 1 0) (sym is ∙ ap (λ n. nat_lt n (p * r % 1000)) (sym (mul-mod t r 1000)))
+      ∙ (λ i. ticks i * rate i / 1000 + cond (nat_lt (t * rate i % 1000) (ticks i * rate i % 1000)) 1 0)
+      ∙ sym (quota-parts v t c (subst (λ n. n ≤ 1000) ticks (omega (arith, short))))
+
+  -- one that leaves nothing over
+  pub quota-even : p * r % 1000 ≡ 0 → p * r / 1000 ≡ quota v t c
+  quota-even is =
+      let none : p * r / 1000 ≡ p * r / 1000 + 0 = omega arith in
+      none ∙ quota-over false (le-ltb (t % 1000 * (r % 1000) % 1000) (p * r % 1000) (omega (arith, is)))
 
 pub quota-few : (v : View) → IsWired v.graph → AreStreamsPlayable v → (clock x : ℕ) → live v x ≡ true → quota v clock x ≤ 1920
-unfolding quota
-quota-few v wired played clock x now =
-    let most = run-most (period v x) (rate_of v x) (period-most v.graph x wired.periods) (rate-few v played x now) in
-    omega (arith, most)
+quota-few v wired played clock x now = few v clock x (period-most v.graph x wired.periods) (rate-few v played x now)
 
 -- the bytes of so many frames
 pub bytes-most : (q channels : ℕ) (format : Format) → q ≤ 1920 → channels ≤ 8 → q * (channels * width format) ≤ 61440

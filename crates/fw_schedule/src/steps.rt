@@ -34,12 +34,24 @@ impl Step {
         self.active && (self.period == 1 || clock % self.period == 0)
     }
 
-    /// The most frames that it moves at this clock, by its period and its rate.
-    pub(crate) fn quota(&self, _clock: u32) -> u32
+    /// The most frames that it moves at this clock: those that a stream of its rate has up to this tick, and had not up to the run
+    /// before it.
+    pub(crate) fn quota(&self, clock: u32) -> u32
         requires { (self.now.period ≤ 10) × (self.now.rate ≤ 192000) }
-        ensures { (v : View) → self.now.period ≡ period_of v self.now.id → self.now.rate ≡ rate_of v self.now.id → result ≡ quota v _clock self.now.id }
+        ensures { (v : View) → self.now.period ≡ period_of v self.now.id → self.now.rate ≡ rate_of v self.now.id → result ≡ quota v clock self.now.id }
     {
-        self.period * self.rate / 1000
+        let all = self.period * self.rate;
+        let over = all % 1000;
+        // a rate that is a multiple of 1000 leaves nothing over, and takes no more than this
+        if over == 0 {
+            return all / 1000;
+        }
+        let part = (clock % 1000) * (self.rate % 1000) % 1000;
+        if part < over {
+            all / 1000 + 1
+        } else {
+            all / 1000
+        }
     }
 
     /// Its inlets, of those of all.

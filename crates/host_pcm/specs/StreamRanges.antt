@@ -13,7 +13,7 @@ use Rattle.host_widgets.specs.declared.answers.HostFault.TheVariants.{Range}
 abbrev pub is_within : ℕ → ℕ → ℕ → Bool
 is_within least most n = nat_le least n && nat_le n most
 
--- frames a second: a multiple of 1000 from 8000 to 192000 that the PCM can do
+-- frames a second: a rate of a stream that the PCM can do
 abbrev pub has_rate : Caps → ℕ → Bool
 has_rate caps rate = is_rate rate && is_within caps.rate_min caps.rate_max rate
 

@@ -84,7 +84,7 @@ pub fn open<P: Dsp>(
 
 /// A stream that is open or prepared has these parameters, and is prepared.
 ///
-/// `Off`: the power is off. `Range(n)`: the rate is no multiple of 1000 from 8000 to 192000 or outside the PCM's caps; or
+/// `Off`: the power is off. `Range(n)`: the rate is none of a stream ([`sof_base::is_rate`]) or outside the PCM's caps; or
 /// else the channels are not 1 to 8 or outside the caps; or else the caps lack the format, and n is ALSA's number of it.
 pub fn params<P: Dsp>(
     plan: &Plan,

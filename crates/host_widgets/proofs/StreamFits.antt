@@ -7,6 +7,7 @@ use Rattle.sof_base.specs.declared.format.Format.TheVariants.{S16, S24, S32}
 use Rattle.sof_base.specs.declared.format.Params.{Params}
 use Rattle.sof_base.specs.Samples.{frame_format}
 use Rattle.sof_base.specs.Slots.{AreSlots, IsSlot}
+use Rattle.sof_base.proofs.RateLaws.{rate-most}
 use Rattle.stream_law.specs.declared.graph.Comp.{Comp}
 use Rattle.stream_law.specs.Ways.{is_capture, comp_of}
 use Rattle.ipc3_model.specs.Allowed.{is_direction}
@@ -64,8 +65,7 @@ module _ (plan : Plan) (sound : IsSound plan) (host : ℕ) (some : has_host plan
   unfolding AreSlots IsSlot
   params-fit p range =
       let parts = and_parts (is_rate p.rate) (nat_le 1 p.channels && nat_le p.channels 8) range in
-      let rate = and_parts (nat_le 8000 p.rate && nat_le p.rate 192000) (p.rate % 1000 == 0) parts.0 in
-      let most : p.rate ≤ 192000 = leb-true p.rate 192000 (and_parts (nat_le 8000 p.rate) (nat_le p.rate 192000) rate.0).1 in
+      let most : p.rate ≤ 192000 = rate-most p.rate parts.0 in
       let few : p.channels ≤ 8 = leb-true p.channels 8 (and_parts (nat_le 1 p.channels) (nat_le p.channels 8) parts.1).1 in
       let side : direction_of plan host ≤ 1 = direction-fits (comp_of plan.graph host) in
       ((tt, (omega arith, (host-fits, (tt, (tt, (tt, (tt, (tt, (tt, (tt, (tt, (tt, (tt, (tt, (omega (arith, side), (format-fits p.format, (tt, (omega (arith, most), (tt, (omega (arith, few), (tt, (tt, (tt, (tt, (tt, (tt, (tt, (tt, (tt, (tt, (tt, (tt, (tt, tt))))))))))))))))))))))))))))))))), (direction-known (comp_of plan.graph host), parts.1))

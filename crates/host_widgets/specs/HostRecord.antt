@@ -8,7 +8,7 @@ use Rattle.host_widgets.specs.declared.kept.Found.{Found}
 use Rattle.host_widgets.specs.declared.kept.Found.TheVariants.{Closed, Open, Prepared, Running, Paused}
 use Rattle.host_widgets.specs.declared.kept.StreamRec.{StreamRec}
 
--- frames a second and samples a frame that a stream may have: a multiple of 1000 from 8000 to 192000, and 1 to 8
+-- frames a second and samples a frame that a stream may have: a rate of a stream, and 1 to 8
 abbrev pub are_in_range : Params → Bool
 are_in_range p = is_rate p.rate && (nat_le 1 p.channels && nat_le p.channels 8)
 

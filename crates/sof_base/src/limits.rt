@@ -18,11 +18,16 @@ pub const MIN_RATE: u32 = 8000;
 /// The most frames a second that a stream may have.
 pub const MAX_RATE: u32 = 192_000;
 
-/// Whether a stream may have so many frames a second: a multiple of 1000 from [`MIN_RATE`] to [`MAX_RATE`].
+/// Whether a stream may have so many frames a second: a multiple of 1000 from [`MIN_RATE`] to [`MAX_RATE`], or a rate of the family
+/// of 44100.
 pub fn is_rate(rate: u32) -> bool
     ensures { result ≡ rates.is_rate rate }
 {
-    MIN_RATE <= rate && rate <= MAX_RATE && rate % 1000 == 0
+    (MIN_RATE <= rate && rate <= MAX_RATE && rate % 1000 == 0)
+        || rate == 11025
+        || rate == 22050
+        || rate == 44100
+        || rate == 88200
 }
 
 /// The limits, written out; nothing runs here. Definitions name these constants, and this law says what they are.

@@ -5,6 +5,7 @@ use Rattle.std.specs.Option.{option_map_or}
 use Rattle.std.specs.List.{AllByRecursion, flat_map, list_all}
 use Rattle.std.proofs.lemmas.Bool.{cases_Bool, and_parts, leb-true}
 use Rattle.sof_base.specs.declared.format.Params.{Params}
+use Rattle.sof_base.proofs.RateLaws.{rate-most as is_rate-most}
 use Rattle.stream_law.specs.declared.graph.Comp.{Comp}
 use Rattle.stream_law.specs.declared.graph.Pipe.{Pipe}
 use Rattle.stream_law.specs.declared.stream.StreamView.{StreamView}
@@ -72,8 +73,7 @@ AllFew rs = AllByRecursion (λ (r : StreamRec). AreFew r.params) rs
 few-params : (p : Params) → are_in_range p ≡ true → AreFew (Some p)
 few-params p is =
     let both = and_parts _ (nat_le 1 p.channels && nat_le p.channels 8) is in
-    let rate = (and_parts (nat_le 8000 p.rate && nat_le p.rate 192000) _ both.0).0 in
-    (leb-true p.rate 192000 (and_parts (nat_le 8000 p.rate) (nat_le p.rate 192000) rate).1, leb-true p.channels 8 (and_parts (nat_le 1 p.channels) (nat_le p.channels 8) both.1).1)
+    (is_rate-most p.rate both.0, leb-true p.channels 8 (and_parts (nat_le 1 p.channels) (nat_le p.channels 8) both.1).1)
 
 few-may : (found : Found) (params : Option Params) → may_have found params ≡ true → AreFew params
 few-may found None is = tt

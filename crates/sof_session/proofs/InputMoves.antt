@@ -13,6 +13,7 @@ use Rattle.stream_law.specs.Counts.{frames_held, frames_free}
 use Rattle.stream_law.specs.Endpoints.{format_of, reads, bytes_of_frames}
 use Rattle.stream_law.specs.Past.{Moment, Boot, Cut, Now, Tick, Past, Ticks, Leads, empty_view, position_after}
 use Rattle.stream_law.proofs.Among.{value_of-table_among, value_of-table_apart, value_of-updated_among, value_of-updated_apart}
+use Rattle.stream_law.proofs.Quotas.{quota-few}
 
 -- ---- a view in range
 
@@ -32,11 +33,7 @@ width-most S24 = omega arith
 width-most S32 = omega arith
 
 quota-most : (v : View) (t c : ℕ) → IsInRange v → quota v t c ≤ 1920
-unfolding quota
-quota-most v t c is =
-    let first : period v c * rate_of v c ≤ 10 * rate_of v c = mul-le-mul_right (rate_of v c) (is.periods c) in
-    let all : period v c * rate_of v c ≤ 1920000 = omega (arith, first, is.rates c) in
-    omega (arith, all)
+quota-most v t c is = quota-few v t c (is.periods c) (is.rates c)
 
 bytes-most : (n channels : ℕ) (format : Format) → n ≤ 1920 → channels ≤ 8 → n * (channels * width format) ≤ 61440
 bytes-most n channels format few narrow =

@@ -26,6 +26,8 @@ pub mod TickLaws
 pub mod StreamLaws
 pub mod WorkedGraphs
 pub mod WorkedRamps
+pub mod WorkedRates
 pub mod ReachLaws
 pub mod EqualiserLaws
 pub mod RampLaws
+pub mod QuotaLaws

@@ -1,11 +1,20 @@
-use Rattle.std.proofs.Common.{◌*◌, ◌/◌, arith}
-use Rattle.stream_law.specs.Moves.{quota}
-use Rattle.fw_schedule.proofs.Running.{run-most}
+use Rattle.std.proofs.Common.{◌≡◌, ◌∙◌, ◌+◌, ◌*◌, ◌/◌, ◌%◌, true, false, arith}
+use Rattle.std.proofs.lemmas.Bool.{lt-ltb, le-ltb}
+use Rattle.fw_schedule.proofs.Running.{quota-over, quota-even}
 use Rattle.fw_schedule.proofs.steps.Step.quota.Goals as goal
 
-pub overflow_mul-result : goal.overflow_mul-result
-overflow_mul-result c = let most = run-most c.args.self.now.period c.args.self.now.rate c.requires.0 c.requires.1 in omega (arith, most)
+pub returns-then-over-eq0 : goal.returns-then-over-eq0
+returns-then-over-eq0 c = λ v period rate. quota-even v c.args.clock c.args.self.now.id c.args.self.now.period c.args.self.now.rate c.requires.0 period rate c.if-over-eq0.true
 
-pub returns : goal.returns
-unfolding quota
-returns c = λ v period rate. λ i. period i * rate i / 1000
+pub returns-then-part-over : goal.returns-then-part-over
+returns-then-part-over c = λ v period rate.
+    let s = c.args.self.now in
+    let t = c.args.clock in
+    quota-over v t s.id s.period s.rate c.requires.0 period rate true (lt-ltb (t % 1000 * (s.rate % 1000) % 1000) (s.period * s.rate % 1000) c.if-part-over.true)
+
+pub returns-else-part-over : goal.returns-else-part-over
+returns-else-part-over c = λ v period rate.
+    let s = c.args.self.now in
+    let t = c.args.clock in
+    let none : s.period * s.rate / 1000 ≡ s.period * s.rate / 1000 + 0 = omega arith in
+    none ∙ quota-over v t s.id s.period s.rate c.requires.0 period rate false (le-ltb (t % 1000 * (s.rate % 1000) % 1000) (s.period * s.rate % 1000) c.if-part-over.false)

@@ -1,0 +1,10 @@
+pub mod Stands
+pub mod RecordLaws
+pub mod WholeLaws
+pub mod WordLines
+pub mod Holding
+pub mod TracerCalls
+pub mod HeldLaws
+pub mod FitLaws
+pub mod StepLaws
+pub mod LeadingLaws

@@ -1,0 +1,22 @@
+//! Traces: what a device was told and what it answered, as records in bytes; how bytes are read as records, what is said of a record,
+//! and a device that keeps the records of its calls.
+#![tactic(auto)]
+
+mod describing;
+mod entry;
+mod fault;
+mod held;
+mod kind;
+mod laws;
+mod reading;
+#[cfg(test)]
+mod tests;
+mod tracer;
+
+pub use describing::describe;
+pub use entry::{Entry, Next};
+pub use fault::TraceFault;
+pub use kind::RecordKind;
+pub use laws::{alike_laws, held_law, leading_laws, traces_are_read};
+pub use reading::record_at;
+pub use tracer::Tracer;

@@ -51,7 +51,8 @@ impl<'a> Frame<'a> {
             | CompType::Volume
             | CompType::Mixer
             | CompType::Mux
-            | CompType::EqIir => Ok(format),
+            | CompType::EqIir
+            | CompType::Demux => Ok(format),
         }
     }
 

@@ -72,6 +72,7 @@ fn comp_words(frame: &Frame, kind: CompType) -> Result<CompWords, CodecFault>
         CompType::Mixer => Ok(CompWords::Mixer),
         CompType::Mux => Ok(CompWords::Mux),
         CompType::EqIir => eq_words(frame),
+        CompType::Demux => demux_words(frame),
     }
 }
 
@@ -118,4 +119,13 @@ fn eq_words(frame: &Frame) -> Result<CompWords, CodecFault>
 {
     frame.run(4, 64, 9)?;
     Ok(CompWords::Eq)
+}
+
+/// A demux's size, type and seven reserved words.
+#[tactic(auto, unfolding(crate::specs::Reading::run_in))]
+fn demux_words(frame: &Frame) -> Result<CompWords, CodecFault>
+    ensures { result ≡ read_as frame.now (kind_places frame.now types.Demux) words.Demux }
+{
+    frame.run(4, 64, 9)?;
+    Ok(CompWords::Demux)
 }

@@ -21,8 +21,8 @@ mod frame;
 mod written_words;
 
 pub use ipc3_model::{
-    Body, CTRL_ENUM, CTRL_VOLUME, CodecFault, CompWords, Message, Reply, command, component_type,
-    messages_are_decoded, replies_are_decoded,
+    Body, CTRL_ENUM, CTRL_SWITCH, CTRL_VOLUME, CodecFault, CompWords, Message, Reply, command,
+    component_type, messages_are_decoded, replies_are_decoded,
 };
 pub use message_reading::decode;
 pub use message_writing::encode;

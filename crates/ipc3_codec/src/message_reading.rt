@@ -1,6 +1,7 @@
 // Bytes as a message: one function for each, its words in the order of the profile's table.
 ghost use Rattle.std.specs.Prelude.{◌≡◌, IfOk, IfErr, Ok, Err, Some};
-ghost use Rattle.ipc3_model.specs.Messages.{IsMessage, Means, message_fault, decoded, places_of, message_of};
+ghost use Rattle.ipc3_model.specs.Messages.{decoded, places_of, message_of};
+ghost use Rattle.ipc3_model.specs.Meanings.{IsMessage, Means, message_fault};
 ghost use Rattle.ipc3_codec.specs.Reading.{read_as, set_value_in, get_value_in, set_data_in, get_data_in, command_in, framed_message_in};
 ghost use Rattle.ipc3_model.specs.declared.command.CommandWord.TheVariants as commands;
 ghost use Rattle.ipc3_model.specs.declared.message.Message.{Message as Value};

@@ -39,7 +39,7 @@ fn put_comp_words(out: &mut [u8; 384], at: usize, kind: CompWords) -> usize
             &[channels, min_value, max_value, ramp, initial_ramp],
         ),
         CompWords::Mixer | CompWords::Mux => put(out, at, &[]),
-        CompWords::Eq => put(out, at, &[0; 9]),
+        CompWords::Eq | CompWords::Demux => put(out, at, &[0; 9]),
     }
 }
 

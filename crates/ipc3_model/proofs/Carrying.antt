@@ -11,12 +11,13 @@ use Rattle.sof_base.proofs.FieldLaws.{IsBytes, slots_read, slots_again}
 use Rattle.ipc3_model.specs.declared.command.CommandWord.{CommandWord}
 use Rattle.ipc3_model.specs.declared.message.Message.{Message}
 use Rattle.ipc3_model.specs.declared.message.Message.TheVariants.{CompNew, SetValue, SetData}
-use Rattle.ipc3_model.specs.declared.message.CompWords.TheVariants.{Host, Dai, Volume, Mixer, Mux, Eq}
+use Rattle.ipc3_model.specs.declared.message.CompWords.TheVariants.{Host, Dai, Volume, Mixer, Mux, Eq, Demux}
 use Rattle.ipc3_model.specs.declared.fault.CodecFault.{CodecFault}
 use Rattle.ipc3_model.specs.declared.fault.CodecFault.TheVariants.{Short, SizeWord}
 use Rattle.ipc3_model.specs.Commands.{command_number, command_numbered}
 use Rattle.ipc3_model.specs.Places.{Place, is_bad, field_fault}
-use Rattle.ipc3_model.specs.Messages.{is_sized, body_fault, places_of, message_of, message_fault, faultless, decoded_body, decoded, size_of, command_of, body_slots, message_slots, IsAllowed, IsMessage, Means}
+use Rattle.ipc3_model.specs.Messages.{is_sized, places_of, message_of, faultless, decoded_body, decoded, size_of, command_of, body_slots, message_slots}
+use Rattle.ipc3_model.specs.Meanings.{body_fault, message_fault, IsAllowed, IsMessage, Means}
 use Rattle.ipc3_model.proofs.Places.{find-none, none-AllGood}
 use Rattle.ipc3_model.proofs.Spellings.{command_is, command_again, values_width, values_named}
 use Rattle.ipc3_model.proofs.PlacesToWords.{Found, body_found}
@@ -38,6 +39,7 @@ widths-message (CompNew id pipe periods_sink periods_source frame_fmt (Volume ch
 widths-message (CompNew id pipe periods_sink periods_source frame_fmt Mixer) is = refl
 widths-message (CompNew id pipe periods_sink periods_source frame_fmt Mux) is = refl
 widths-message (CompNew id pipe periods_sink periods_source frame_fmt Eq) is = refl
+widths-message (CompNew id pipe periods_sink periods_source frame_fmt Demux) is = refl
 widths-message (SetValue id command values) is = omega (arith, values_width 0 values)
 widths-message (SetData id part) is = let head : length part.header ≡ 32 = is.0 in omega (arith, head)
 widths-message m is = refl
@@ -49,6 +51,7 @@ named-message (CompNew id pipe periods_sink periods_source frame_fmt (Volume cha
 named-message (CompNew id pipe periods_sink periods_source frame_fmt Mixer) b = refl
 named-message (CompNew id pipe periods_sink periods_source frame_fmt Mux) b = refl
 named-message (CompNew id pipe periods_sink periods_source frame_fmt Eq) b = refl
+named-message (CompNew id pipe periods_sink periods_source frame_fmt Demux) b = refl
 named-message (SetValue id command values) b = values_named 0 values b 0 92
 named-message m b = refl
 

@@ -17,7 +17,8 @@ use Rattle.ipc3_model.specs.ComponentTypes.{type_number, type_numbered}
 use Rattle.ipc3_model.specs.Places.{Place, any_words, word_of}
 use Rattle.ipc3_model.specs.StreamWords.{host_buffer_slots}
 use Rattle.ipc3_model.specs.ControlWords.{type_of, values_in, part_in, part_slots, control_rest_places, payload_places}
-use Rattle.ipc3_model.specs.Messages.{IsAllowed, size_of, command_of, body_slots, comp_places, comp_words, typed_words, places_of, message_of}
+use Rattle.ipc3_model.specs.Messages.{size_of, command_of, body_slots, comp_places, comp_words, typed_words, places_of, message_of}
+use Rattle.ipc3_model.specs.Meanings.{IsAllowed}
 use Rattle.ipc3_model.proofs.Places.{AllGood, AllGood-split, good_at}
 use Rattle.ipc3_model.proofs.Spellings.{type_is, number_again, length-values_at, values_room, values_found, part_found}
 use Rattle.sof_base.proofs.FieldLaws.{length-part}
@@ -59,6 +60,9 @@ typed_found b types.Mux type good =
     record { is = refl; room = last.within; same = rw type refl; allowed = tt }
 typed_found b types.EqIir type good =
     let last = good_at b (comp_places b (Some types.EqIir)) 22 good in
+    record { is = refl; room = last.within; same = rw type refl; allowed = tt }
+typed_found b types.Demux type good =
+    let last = good_at b (comp_places b (Some types.Demux)) 22 good in
     record { is = refl; room = last.within; same = rw type refl; allowed = tt }
 
 comp_found : (b : List ℕ) (o : Option CompType) → type_numbered (word_at b 12) ≡ o → AllGood b (comp_places b o) → Found b commands.CompNew (comp_of b (typed_words b o))

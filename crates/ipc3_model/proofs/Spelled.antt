@@ -10,13 +10,14 @@ use Rattle.sof_base.proofs.FieldLaws.{length-slots}
 use Rattle.sof_base.proofs.Fitting.{Fits-written}
 use Rattle.ipc3_model.specs.declared.message.Message.{Message}
 use Rattle.ipc3_model.specs.declared.message.Message.TheVariants.{CompNew, SetValue, SetData}
-use Rattle.ipc3_model.specs.declared.message.CompWords.TheVariants.{Host, Dai, Volume, Mixer, Mux, Eq}
+use Rattle.ipc3_model.specs.declared.message.CompWords.TheVariants.{Host, Dai, Volume, Mixer, Mux, Eq, Demux}
 use Rattle.ipc3_model.specs.declared.reply.Reply.{Reply}
 use Rattle.ipc3_model.specs.declared.reply.Body.{Body}
 use Rattle.ipc3_model.specs.declared.reply.Body.TheVariants as bodies
 use Rattle.ipc3_model.specs.declared.fault.CodecFault.{CodecFault}
 use Rattle.ipc3_model.specs.Commands.{command_number}
-use Rattle.ipc3_model.specs.Messages.{message_slots, message_spelling, size_of, command_of, body_slots, is_sized, IsAllowed, IsMessage, Means, decoded}
+use Rattle.ipc3_model.specs.Messages.{message_slots, message_spelling, size_of, command_of, body_slots, is_sized, decoded}
+use Rattle.ipc3_model.specs.Meanings.{IsAllowed, IsMessage, Means}
 use Rattle.ipc3_model.specs.Replies.{reply_size, reply_slots, reply_spelling, decoded_reply}
 use Rattle.ipc3_model.specs.ReplyForms.{IsBody, IsReply, MeansReply, TakesCommand}
 use Rattle.ipc3_model.proofs.Carrying.{widths-message, decoded_only}
@@ -41,6 +42,7 @@ size-least (CompNew id pipe periods_sink periods_source frame_fmt (Volume channe
 size-least (CompNew id pipe periods_sink periods_source frame_fmt Mixer) = omega arith
 size-least (CompNew id pipe periods_sink periods_source frame_fmt Mux) = omega arith
 size-least (CompNew id pipe periods_sink periods_source frame_fmt Eq) = omega arith
+size-least (CompNew id pipe periods_sink periods_source frame_fmt Demux) = omega arith
 size-least m = omega arith
 
 allowed-most : (m : Message) → IsAllowed m → size_of m ≤ 384
@@ -50,6 +52,7 @@ allowed-most (CompNew id pipe periods_sink periods_source frame_fmt (Volume chan
 allowed-most (CompNew id pipe periods_sink periods_source frame_fmt Mixer) is = omega arith
 allowed-most (CompNew id pipe periods_sink periods_source frame_fmt Mux) is = omega arith
 allowed-most (CompNew id pipe periods_sink periods_source frame_fmt Eq) is = omega arith
+allowed-most (CompNew id pipe periods_sink periods_source frame_fmt Demux) is = omega arith
 allowed-most (SetValue id command values) is = let few = most_of 1 (length values) 8 is.1 in omega (arith, few)
 allowed-most (SetData id part) is = let few = most_of 1 (length part.bytes) 260 is.1 in omega (arith, few)
 allowed-most m is = omega arith

@@ -11,11 +11,12 @@ use Rattle.ipc3_model.specs.declared.control_kind.ControlKind.TheVariants as kin
 use Rattle.ipc3_model.specs.declared.message.Message.{Message}
 use Rattle.ipc3_model.specs.declared.message.Message.TheVariants.{CompNew, CompFree, Connect, PipeNew, PipeFree, PipeComplete, BufferNew, BufferFree, CtxSave, SetValue, GetValue, SetData, GetData, PcmParams, PcmFree, TrigStart, TrigStop, TrigPause, TrigRelease}
 use Rattle.ipc3_model.specs.declared.message.CompWords.{CompWords}
-use Rattle.ipc3_model.specs.declared.message.CompWords.TheVariants.{Host, Dai, Volume, Mixer, Mux, Eq}
+use Rattle.ipc3_model.specs.declared.message.CompWords.TheVariants.{Host, Dai, Volume, Mixer, Mux, Eq, Demux}
 use Rattle.ipc3_model.specs.ComponentTypes.{type_number, type_numbered}
 use Rattle.ipc3_model.specs.Places.{any_words, any_bytes}
 use Rattle.ipc3_model.specs.ControlWords.{value_slots, part_in, payload_places}
-use Rattle.ipc3_model.specs.Messages.{IsKind, IsAllowed, size_of, comp_size, comp_type, command_of, kind_slots, body_slots, comp_places, places_of, message_of}
+use Rattle.ipc3_model.specs.Messages.{size_of, comp_size, comp_type, command_of, kind_slots, body_slots, comp_places, places_of, message_of}
+use Rattle.ipc3_model.specs.Meanings.{IsKind, IsAllowed}
 use Rattle.ipc3_model.proofs.Places.{AllGood, AllGood-from, AllGood-append}
 use Rattle.ipc3_model.proofs.PlacesToWords.{front_places}
 use Rattle.ipc3_model.proofs.Spellings.{number_at, fields_from, format_again, format_known, ValuesAre, values_only}
@@ -89,6 +90,9 @@ comp_only b id pipe periods_sink periods_source frame_fmt Mux room e allowed =
 comp_only b id pipe periods_sink periods_source frame_fmt Eq room e allowed =
     let type : word_at b 12 ≡ 13 = ap (λ (ss : List Slot). number_at ss 1) e in
     record { good = subst (λ (n : ℕ). AllGood b (comp_places b (type_numbered n))) (sym type) (AllGood-from b 100 (comp_places b (Some types.EqIir)) room refl (rw type refl)); is = rw type (bare_is b id pipe periods_sink periods_source frame_fmt Eq (Size 0 ∷ Size 0 ∷ Size 0 ∷ kind_slots Eq) e) }
+comp_only b id pipe periods_sink periods_source frame_fmt Demux room e allowed =
+    let type : word_at b 12 ≡ 18 = ap (λ (ss : List Slot). number_at ss 1) e in
+    record { good = subst (λ (n : ℕ). AllGood b (comp_places b (type_numbered n))) (sym type) (AllGood-from b 100 (comp_places b (Some types.Demux)) room refl (rw type refl)); is = rw type (bare_is b id pipe periods_sink periods_source frame_fmt Demux (Size 0 ∷ Size 0 ∷ Size 0 ∷ kind_slots Demux) e) }
 
 -- ---- streams
 

@@ -4,7 +4,7 @@ use Rattle.sof_base.specs.Slots.{Slot, Word, Size, Raw, word_at, part}
 use Rattle.sof_base.specs.declared.part.Part.{Part}
 use Rattle.ipc3_model.specs.declared.control_kind.ControlKind.{ControlKind}
 use Rattle.ipc3_model.specs.declared.control_kind.ControlKind.TheVariants.{GetValue, SetValue, GetData, SetData}
-use Rattle.ipc3_model.specs.declared.control_kind.TheConstants.{VALUE_CHAN_GET, VALUE_CHAN_SET, DATA_GET, DATA_SET, CTRL_VOLUME, CTRL_ENUM, CTRL_BINARY}
+use Rattle.ipc3_model.specs.declared.control_kind.TheConstants.{VALUE_CHAN_GET, VALUE_CHAN_SET, DATA_GET, DATA_SET, CTRL_VOLUME, CTRL_ENUM, CTRL_SWITCH, CTRL_BINARY}
 use Rattle.ipc3_model.specs.Places.{Place, any_word, any_words, any_bytes, word_of}
 use Rattle.ipc3_model.specs.StreamWords.{host_buffer_slots}
 
@@ -15,10 +15,10 @@ type_of SetValue = VALUE_CHAN_SET
 type_of GetData = DATA_GET
 type_of SetData = DATA_SET
 
--- VOLUME 0 or ENUM 1 for values, BINARY 3 for parts
+-- VOLUME 0, ENUM 1 or SWITCH 2 for values, BINARY 3 for parts
 abbrev pub takes_command : ControlKind → ℕ → Bool
-takes_command GetValue n = n == CTRL_VOLUME || n == CTRL_ENUM
-takes_command SetValue n = n == CTRL_VOLUME || n == CTRL_ENUM
+takes_command GetValue n = n == CTRL_VOLUME || n == CTRL_ENUM || n == CTRL_SWITCH
+takes_command SetValue n = n == CTRL_VOLUME || n == CTRL_ENUM || n == CTRL_SWITCH
 takes_command GetData n = n == CTRL_BINARY
 takes_command SetData n = n == CTRL_BINARY
 

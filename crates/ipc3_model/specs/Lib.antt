@@ -5,6 +5,7 @@ pub mod Places
 pub mod StreamWords
 pub mod ControlWords
 pub mod Messages
+pub mod Meanings
 pub mod Replies
 pub mod ReplyForms
 pub mod FaultNumbers

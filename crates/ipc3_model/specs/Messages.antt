@@ -1,7 +1,7 @@
 -- The host's messages, after SOF's IPC3 (ABI 3): which words each has, and how bytes are read as one. All places are in bytes from 0.
-use Rattle.std.specs.Prelude.{◌≡◌, ℕ, ◌+◌, ◌*◌, ◌≤◌, Bool, true, ◌&&◌, not, List, [], ◌∷◌, ◌++◌, length, take, Option, Some, None, Result, Ok, Err, find, nat_lt, nat_le, if◌then◌else◌}
-use Rattle.sof_base.specs.Cells.{Fits, written}
-use Rattle.sof_base.specs.Slots.{Slot, Word, Size, slots_cells, AreSlots, word_at}
+use Rattle.std.specs.Prelude.{ℕ, ◌+◌, ◌*◌, Bool, ◌&&◌, not, List, [], ◌∷◌, ◌++◌, length, Option, Some, None, Result, Ok, Err, find, nat_lt, nat_le, if◌then◌else◌}
+use Rattle.sof_base.specs.Cells.{written}
+use Rattle.sof_base.specs.Slots.{Slot, Word, Size, slots_cells, word_at}
 use Rattle.ipc3_model.specs.declared.command.CommandWord.{CommandWord}
 use Rattle.ipc3_model.specs.declared.command.CommandWord.TheVariants as commands
 use Rattle.ipc3_model.specs.declared.component_type.CompType.{CompType}
@@ -12,7 +12,7 @@ use Rattle.ipc3_model.specs.declared.control_kind.TheConstants.{CTRL_BINARY}
 use Rattle.ipc3_model.specs.declared.message.Message.{Message}
 use Rattle.ipc3_model.specs.declared.message.Message.TheVariants.{CompNew, CompFree, Connect, PipeNew, PipeFree, PipeComplete, BufferNew, BufferFree, CtxSave, SetValue, GetValue, SetData, GetData, PcmParams, PcmFree, TrigStart, TrigStop, TrigPause, TrigRelease}
 use Rattle.ipc3_model.specs.declared.message.CompWords.{CompWords}
-use Rattle.ipc3_model.specs.declared.message.CompWords.TheVariants.{Host, Dai, Volume, Mixer, Mux, Eq}
+use Rattle.ipc3_model.specs.declared.message.CompWords.TheVariants.{Host, Dai, Volume, Mixer, Mux, Eq, Demux}
 use Rattle.ipc3_model.specs.declared.fault.CodecFault.{CodecFault}
 use Rattle.ipc3_model.specs.declared.fault.CodecFault.TheVariants.{Short, SizeWord, Command}
 use Rattle.ipc3_model.specs.Commands.{command_number, command_numbered}
@@ -20,7 +20,7 @@ use Rattle.ipc3_model.specs.ComponentTypes.{type_number, type_numbered}
 pub use Rattle.ipc3_model.specs.Allowed.{is_direction, is_frame_format, is_buffer_size, is_period_allowed, is_channels, is_comp_type, is_buffer_type, is_format_of}
 use Rattle.ipc3_model.specs.Places.{Place, any_word, any_words, word_of, is_bad, field_fault}
 use Rattle.ipc3_model.specs.StreamWords.{stream_slots, stream_places, params_at}
-use Rattle.ipc3_model.specs.ControlWords.{takes_command, takes_count, takes_remaining, control_slots, value_slots, part_slots, control_places, values_in, part_in}
+use Rattle.ipc3_model.specs.ControlWords.{control_slots, value_slots, part_slots, control_places, values_in, part_in}
 
 -- ---- how a message is spelled: a `Word` carries something, a `Size` is written so and not looked at
 
@@ -32,16 +32,22 @@ comp_type (Volume channels min_value max_value ramp initial_ramp) = types.Volume
 comp_type Mixer = types.Mixer
 comp_type Mux = types.Mux
 comp_type Eq = types.EqIir
+comp_type Demux = types.Demux
+
+-- nine words that are written as 0
+abbrev pub nine_zeros : List Slot
+nine_zeros = Size 0 ∷ Size 0 ∷ Size 0 ∷ Size 0 ∷ Size 0 ∷ Size 0 ∷ Size 0 ∷ Size 0 ∷ Size 0 ∷ []
 
 -- the words of a component's type: a host's direction, no_irq and dmac_config; a DAI's direction, index, type and a reserved word;
--- a volume's channels, least and greatest value and two words of its ramp; an equaliser's size, type and seven reserved words
+-- a volume's channels, least and greatest value and two words of its ramp; an equaliser's or a demux's size, type and seven reserved words
 abbrev pub kind_slots : CompWords → List Slot
 kind_slots (Host direction) = Word direction ∷ Size 0 ∷ Size 0 ∷ []
 kind_slots (Dai direction index) = Word direction ∷ Word index ∷ Size 0 ∷ Size 0 ∷ []
 kind_slots (Volume channels min_value max_value ramp initial_ramp) = Word channels ∷ Word min_value ∷ Word max_value ∷ Word ramp ∷ Word initial_ramp ∷ []
 kind_slots Mixer = []
 kind_slots Mux = []
-kind_slots Eq = Size 0 ∷ Size 0 ∷ Size 0 ∷ Size 0 ∷ Size 0 ∷ Size 0 ∷ Size 0 ∷ Size 0 ∷ Size 0 ∷ []
+kind_slots Eq = nine_zeros
+kind_slots Demux = nine_zeros
 
 -- a component's config, 36 bytes: its size and cmd, the period counts, a reserved word, the frame format, xrun_action and two reserved words
 abbrev pub config_slots : ℕ → ℕ → ℕ → List Slot
@@ -56,6 +62,7 @@ comp_size (Volume channels min_value max_value ramp initial_ramp) = 84
 comp_size Mixer = 64
 comp_size Mux = 64
 comp_size Eq = 100
+comp_size Demux = 100
 
 -- how many bytes a message needs
 abbrev pub size_of : Message → ℕ
@@ -140,53 +147,9 @@ message_spelling m = written (slots_cells (message_slots m))
 
 -- ---- which messages are not refused
 
--- a direction is one, and a DAI's frame format, and a volume's number of channels
-abbrev pub IsKind : CompWords → ℕ → Type 0
-IsKind (Host direction) frame_fmt = is_direction direction ≡ true
-IsKind (Dai direction index) frame_fmt = (is_frame_format frame_fmt ≡ true) × (is_direction direction ≡ true)
-IsKind (Volume channels min_value max_value ramp initial_ramp) frame_fmt = is_channels channels ≡ true
-IsKind Mixer frame_fmt = Unit {0}
-IsKind Mux frame_fmt = Unit {0}
-IsKind Eq frame_fmt = Unit {0}
-
--- no word of the message is refused
-abbrev pub IsAllowed : Message → Type 0
-IsAllowed (CompNew id pipe periods_sink periods_source frame_fmt kind) = IsKind kind frame_fmt
-IsAllowed (CompFree id) = Unit {0}
-IsAllowed (Connect source sink) = Unit {0}
-IsAllowed (PipeNew id pipe sched period priority mips frames time_domain) = is_period_allowed period ≡ true
-IsAllowed (PipeFree id) = Unit {0}
-IsAllowed (PipeComplete id) = Unit {0}
-IsAllowed (BufferNew id pipe size caps) = is_buffer_size size ≡ true
-IsAllowed (BufferFree id) = Unit {0}
-IsAllowed CtxSave = Unit {0}
-IsAllowed (SetValue id command values) = (takes_command kinds.SetValue command ≡ true) × (takes_count kinds.SetValue (length values) ≡ true)
-IsAllowed (GetValue id command) = takes_command kinds.GetValue command ≡ true
-IsAllowed (SetData id part) =
-    (length part.header ≡ 32) × (takes_count kinds.SetData (length part.bytes) ≡ true) × (takes_remaining kinds.SetData (length part.bytes) part.remaining ≡ true)
-IsAllowed (GetData id index) = Unit {0}
-IsAllowed (PcmParams host direction params) = (is_direction direction ≡ true) × (is_channels params.channels ≡ true)
-IsAllowed (PcmFree id) = Unit {0}
-IsAllowed (TrigStart id) = Unit {0}
-IsAllowed (TrigStop id) = Unit {0}
-IsAllowed (TrigPause id) = Unit {0}
-IsAllowed (TrigRelease id) = Unit {0}
-
--- a message of the program that no decoder refuses
-abbrev pub IsMessage : Message → Type 0
-IsMessage m = AreSlots (message_slots m) × IsAllowed m
-
 -- the size word is at least the header's size and at most 384 and the number of bytes
 abbrev pub is_sized : ℕ → List ℕ → Bool
 is_sized header b = nat_le header (word_at b 0) && nat_le (word_at b 0) 384 && nat_le (word_at b 0) (length b)
-
--- b carries m: its size word has room for m, and m's words stand at their places; all else is free
-pub record Means (b : List ℕ) (m : Message) : Type 0 where
-  pub header : 8 ≤ length b
-  pub sized : is_sized 8 b ≡ true
-  pub room : size_of m ≤ word_at b 0
-  pub fits : Fits (take (size_of m) b) (slots_cells (message_slots m))
-  pub allowed : IsAllowed m
 
 -- ---- the first fault
 
@@ -202,6 +165,7 @@ kind_places b types.Volume = word_of b 64 is_channels ∷ any_words 68 4
 kind_places b types.Mixer = []
 kind_places b types.Mux = []
 kind_places b types.EqIir = any_words 64 9
+kind_places b types.Demux = any_words 64 9
 
 -- the words behind the header of its COMP_NEW; the type word is the last where it is none
 abbrev pub comp_places : List ℕ → Option CompType → List Place
@@ -222,18 +186,6 @@ places_of b commands.GetData = control_places b kinds.GetData
 places_of b commands.PcmParams = any_words 8 4 ++ stream_places b
 places_of b _ = any_words 8 1
 
--- the first fault behind a header: the command word is unknown, or a place is bad
-abbrev pub body_fault : List ℕ → Option CommandWord → Option CodecFault
-body_fault b None = Some (Command (word_at b 4))
-body_fault b (Some command) = field_fault (find (is_bad b) (places_of b command))
-
--- the first fault of bytes, where they are no message
-unfoldable pub message_fault : List ℕ → Option CodecFault
-message_fault b =
-    if nat_lt (length b) 8 then Some Short
-    else if not (is_sized 8 b) then Some SizeWord
-    else body_fault b (command_numbered (word_at b 4))
-
 -- ---- the message that the words of bytes are
 
 -- what the words behind the config of this type are
@@ -244,6 +196,7 @@ comp_words b types.Volume = Volume (word_at b 64) (word_at b 68) (word_at b 72) 
 comp_words b types.Mixer = Mixer
 comp_words b types.Mux = Mux
 comp_words b types.EqIir = Eq
+comp_words b types.Demux = Demux
 
 -- of the type of a type word; where it is none the bytes are refused, and these words are not looked at
 abbrev pub typed_words : List ℕ → Option CompType → CompWords

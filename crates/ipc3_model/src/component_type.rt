@@ -14,6 +14,8 @@ pub const MUX: u32 = 7;
 
 pub const EQ_IIR: u32 = 13;
 
+pub const DEMUX: u32 = 18;
+
 /// The type word of each buffer.
 pub const BUFFER: u32 = 12;
 
@@ -26,6 +28,7 @@ pub enum CompType {
     Mixer,
     Mux,
     EqIir,
+    Demux,
 }
 
 impl CompType {
@@ -40,6 +43,7 @@ impl CompType {
             CompType::Mixer => MIXER,
             CompType::Mux => MUX,
             CompType::EqIir => EQ_IIR,
+            CompType::Demux => DEMUX,
         }
     }
 
@@ -54,6 +58,7 @@ impl CompType {
             MIXER => Some(CompType::Mixer),
             MUX => Some(CompType::Mux),
             EQ_IIR => Some(CompType::EqIir),
+            DEMUX => Some(CompType::Demux),
             _ => None,
         }
     }

@@ -21,11 +21,13 @@ pub const DATA_GET: u32 = 4;
 
 pub const DATA_SET: u32 = 5;
 
-// The commands: the gains of a volume, the choice of a mux, the bytes of an equaliser.
+// The commands: the gains of a volume, the choice of a mux, the masks of a demux, the bytes of an equaliser.
 
 pub const CTRL_VOLUME: u32 = 0;
 
 pub const CTRL_ENUM: u32 = 1;
+
+pub const CTRL_SWITCH: u32 = 2;
 
 pub const CTRL_BINARY: u32 = 3;
 
@@ -42,13 +44,13 @@ impl ControlKind {
         }
     }
 
-    /// Values have the command VOLUME or ENUM, parts have BINARY.
+    /// Values have the command VOLUME, ENUM or SWITCH, parts have BINARY.
     pub fn takes_command(self, command: u32) -> bool
         ensures { result ≡ words.takes_command self command }
     {
         match self {
             ControlKind::GetValue | ControlKind::SetValue => {
-                command == CTRL_VOLUME || command == CTRL_ENUM
+                command == CTRL_VOLUME || command == CTRL_ENUM || command == CTRL_SWITCH
             }
             ControlKind::GetData | ControlKind::SetData => command == CTRL_BINARY,
         }

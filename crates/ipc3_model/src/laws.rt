@@ -1,7 +1,8 @@
 //! What holds of every message and reply, and of all bytes.
 
 ghost use Rattle.std.specs.Prelude.{◌≡◌, ◌↔◌, ◌≤◌, ◌<◌, ◌++◌, ℕ, List, length, slice_index, Ok, Err, Some};
-ghost use Rattle.ipc3_model.specs.Messages.{IsMessage, Means, decoded, message_fault, message_spelling, size_of};
+ghost use Rattle.ipc3_model.specs.Messages.{decoded, message_spelling, size_of};
+ghost use Rattle.ipc3_model.specs.Meanings.{IsMessage, Means, message_fault};
 ghost use Rattle.ipc3_model.specs.Replies.{decoded_reply, reply_fault, reply_size, reply_spelling};
 ghost use Rattle.ipc3_model.specs.ReplyForms.{IsReply, MeansReply};
 ghost use Rattle.ipc3_model.specs.declared.message.Message.{Message as Value};

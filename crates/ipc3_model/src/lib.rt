@@ -11,7 +11,7 @@ mod message;
 mod numbers;
 mod reply;
 
-pub use control_kind::{CTRL_ENUM, CTRL_VOLUME};
+pub use control_kind::{CTRL_ENUM, CTRL_SWITCH, CTRL_VOLUME};
 pub use fault::CodecFault;
 pub use laws::{messages_are_decoded, replies_are_decoded};
 pub use message::{CompWords, Message};

@@ -26,6 +26,7 @@ pub enum CompWords {
     Mixer,
     Mux,
     Eq,
+    Demux,
 }
 
 impl CompWords {
@@ -40,6 +41,7 @@ impl CompWords {
             CompWords::Mixer => CompType::Mixer,
             CompWords::Mux => CompType::Mux,
             CompWords::Eq => CompType::EqIir,
+            CompWords::Demux => CompType::Demux,
         }
     }
 
@@ -54,6 +56,7 @@ impl CompWords {
             CompWords::Mixer => 64,
             CompWords::Mux => 64,
             CompWords::Eq => 100,
+            CompWords::Demux => 100,
         }
     }
 }
@@ -112,7 +115,8 @@ pub enum Message {
     },
     /// The power will be cut.
     CtxSave,
-    /// The gains of a volume by channel (command 0), or the choice of a mux (command 1): 1 to 8 values.
+    /// The gains of a volume by channel (command 0), the choice of a mux (command 1), or the masks of a demux by output (command 2): 1 to
+    /// 8 values.
     SetValue {
         id: u32,
         command: u32,

@@ -8,7 +8,7 @@ use Rattle.stream_law.specs.declared.graph.Kind.TheVariants.{HostPlay, Eq}
 use Rattle.stream_law.specs.declared.graph.Setting.TheVariants.{Nothing, Blob}
 use Rattle.stream_law.specs.declared.stream.Phase.TheVariants.{Running}
 use Rattle.stream_law.specs.State.{FwState, Staging}
-use Rattle.stream_law.specs.Ways.{reaches, on_way, live, channels_of}
+use Rattle.stream_law.specs.Ways.{reaches, is_echo, way_joins, ways_to, on_way, live, channels_of}
 use Rattle.stream_law.specs.Seen.{flows}
 use Rattle.stream_law.specs.Equaliser.{sections_of}
 use Rattle.mbox_link.specs.Step.{invalid, no_device, part_at, set_data, get_data}
@@ -95,7 +95,7 @@ blob_rest = words_bytes (0 ∷ 1 ∷ 1 ∷ (zeros 4 ++ 0 ∷ 1 ∷ 1 ∷ (zeros 
 
 -- its only part puts it in force: an epoch begins with two zeros, and nothing is staged
 installed : set_data (playing [] (pos 3 ∷ pos 4 ∷ pos 5 ∷ pos 6 ∷ []) (staged 1 460 (header 7 ++ replicate 260 5))) 1 (record { header = blob_header; remaining = 0; index = 0; bytes = blob_rest }) ≡ Ok (playing (blob_header ++ blob_rest) (pos 0 ∷ pos 0 ∷ []) [])
-unfolding blob_fault word_at words_bytes reaches on_way live channels_of flows sections_of
+unfolding blob_fault word_at words_bytes reaches is_echo way_joins ways_to on_way live channels_of flows sections_of
 installed = refl
 
 -- a byte less is no blob

@@ -1,6 +1,7 @@
 -- Room in the outputs.
 use Rattle.std.proofs.Common.{◌≡◌, ℕ, ◌+◌, ◌*◌, ◌≤◌, List, [], ◌∷◌, sym, subst, arith, add-zero}
-use Rattle.sof_base.specs.Ports.{OutputView, HasRoom, drained}
+use Rattle.sof_base.specs.Ports.{OutputView, HasRoom}
+use Rattle.sof_base.specs.DrainedOutputs.{drained}
 
 pub HasRoom-less : (outputs : List OutputView) (m n : ℕ) → n ≤ m → HasRoom m outputs → HasRoom n outputs
 HasRoom-less [] m n le room = tt

@@ -1,9 +1,8 @@
 -- What an exchange and a tick leave and answer.
-use Rattle.std.specs.Prelude.{◌≡◌, ◌⊎◌, ℕ, zero, suc, ◌+◌, ◌<◌, ◌≤◌, ◌^◌, ◌-◌, min, List, [], ◌∷◌, take, Option, Some, None, Result, Ok, Err, negsuc}
+use Rattle.std.specs.Prelude.{◌≡◌, ◌⊎◌, ℕ, zero, suc, ◌+◌, ◌<◌, ◌≤◌, ◌^◌, ◌-◌, min, List, [], ◌∷◌, Option, Some, None, negsuc}
 use Rattle.sof_base.specs.Ports.{Io}
 use Rattle.stream_law.specs.State.{FwState}
 use Rattle.stream_law.specs.Move.{state_after, audio_after, io_after}
-use Rattle.mbox_link.specs.declared.device.LinkFault.{LinkFault}
 use Rattle.mbox_link.specs.Step.{step, error_reply}
 
 -- a state with the endpoints' bytes, after a tick and after so many
@@ -13,11 +12,6 @@ ticked p = (state_after p.0 (audio_after p.0 p.1), io_after p.1 (audio_after p.0
 abbrev pub ticks : ℕ → FwState × Io → FwState × Io
 ticks zero p = p
 ticks (suc n) p = ticks n (ticked p)
-
--- what an exchange answered: the reply's bytes, or that the link failed
-abbrev pub answered : Result ℕ LinkFault → List ℕ → Option (List ℕ)
-answered (Ok n) reply = Some (take n reply)
-answered (Err fault) reply = None
 
 -- a reply of 12 bytes with a negative error, which is -1 - code
 pub record IsRefusal (reply : List ℕ) : Type 0 where

@@ -4,9 +4,9 @@ use Rattle.sof_base.specs.declared.format.Format.{Format}
 use Rattle.sof_base.specs.declared.format.Format.TheVariants.{S16, S24, S32}
 use Rattle.sof_base.specs.Ramps.{ramp_of}
 use Rattle.stream_law.specs.declared.graph.Kind.{Kind}
-use Rattle.stream_law.specs.declared.graph.Kind.TheVariants.{HostPlay, HostCapture, DaiPlay, DaiCapture, Volume, Mixer, Mux, Eq}
+use Rattle.stream_law.specs.declared.graph.Kind.TheVariants.{HostPlay, HostCapture, DaiPlay, DaiCapture, Volume, Mixer, Mux, Eq, Demux}
 use Rattle.stream_law.specs.declared.graph.Setting.{Setting}
-use Rattle.stream_law.specs.declared.graph.Setting.TheVariants.{Nothing, Gains, Choice, Blob}
+use Rattle.stream_law.specs.declared.graph.Setting.TheVariants.{Nothing, Gains, Choice, Blob, Masks}
 use Rattle.stream_law.specs.declared.graph.Comp.{Comp}
 use Rattle.stream_law.specs.declared.graph.Edge.{Edge}
 use Rattle.stream_law.specs.declared.graph.Pipe.{Pipe}
@@ -36,12 +36,15 @@ kind_of (words.Volume channels min_value max_value ramp initial_ramp) frame_fmt 
 kind_of words.Mixer frame_fmt = Mixer
 kind_of words.Mux frame_fmt = Mux
 kind_of words.Eq frame_fmt = Eq
+kind_of words.Demux frame_fmt = Demux
 
--- what is set at a new component: each gain of a volume is 1, a mux chooses its first input, and no blob is in force
+-- what is set at a new component: each gain of a volume is 1, a mux chooses its first input, no blob is in force, and a demux lets
+-- all channels through to each output
 abbrev pub first_setting : CompWords → Setting
 first_setting (words.Volume channels min_value max_value ramp initial_ramp) = Gains (replicate channels 65536)
 first_setting words.Mux = Choice 0
 first_setting words.Eq = Blob []
+first_setting words.Demux = Masks (replicate 8 255)
 first_setting kind = Nothing
 
 -- the milliseconds of a new volume's ramp, 0 for another component

@@ -20,7 +20,7 @@ pub use Rattle.stream_law.specs.Sizes.{comp_bytes, buffer_bytes, pipe_bytes}
 pub use Rattle.mbox_link.specs.HeapPieces.{has_hole, heap_with_piece, holes_after_free, without_piece}
 pub use Rattle.mbox_link.specs.NewRows.{sample_format, kind_of, first_setting, first_ramp, with_host_stream, with_comps, with_comp, comp_new, with_edges, with_buffer, buffer_new, with_pipes, with_pipe, pipe_new}
 pub use Rattle.mbox_link.specs.JoinRows.{leads_in, leads_out, is_joined, has_free_out, has_free_in, takes_join, is_refused_join, connect, completed, complete_pipe, pipe_complete}
-pub use Rattle.mbox_link.specs.FreeRows.{index_by, index_of, has_complete_pipe, touches, without_comp, comp_free, is_held, without_buffer, buffer_free, without_pipe, is_index_held, free_pipe, pipe_free}
+pub use Rattle.mbox_link.specs.FreeRows.{index_by, index_of, has_complete_pipe, touches, without_comp, comp_free, is_held, without_edge, without_buffer, buffer_free, without_pipe, is_index_held, free_pipe, pipe_free}
 pub use Rattle.mbox_link.specs.ValueRows.{new_setting, with_setting, with_setting_at, value_set, set_value, control_values, control_values_at, get_value}
 pub use Rattle.mbox_link.specs.DataRows.{staging_at, bytes_left, is_next, keeps_order, staged_bytes, unstaged, with_staged, with_blob_at, blob_installed, part_staged, set_data, part_by, part_at, get_data}
 pub use Rattle.mbox_link.specs.StreamRows.{is_host, goes, is_ready_comp, is_ready_edge, phase_at, set_stream, with_params, is_stream_phase, is_refused_params, pcm_params, set_phase, is_prepared, is_paused, stream_changed, pcm_free, trigger}

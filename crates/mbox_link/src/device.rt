@@ -2,7 +2,7 @@
 ghost use Rattle.std.specs.Prelude.{◌≡◌, ◌≤◌, ◌*◌, is_some, true, IfOk};
 ghost use Rattle.sof_base.specs.Ports.{HasRoom};
 ghost use Rattle.sof_base.specs.declared.limits.TheConstants.{TURN_BYTES};
-ghost use Rattle.mbox_link.specs.Exchange.{answered};
+ghost use Rattle.mbox_link.specs.AnswerBytes.{answered};
 ghost use Rattle.mbox_link.specs.Calls.{Meaning, BootedDevice, CutOff, Exchanged, Ticked, world};
 
 use sof_io::{Inputs, Outputs};

@@ -7,7 +7,8 @@ use Rattle.stream_law.specs.declared.graph.Comp.{Comp}
 use Rattle.stream_law.specs.declared.graph.Join.{Join}
 use Rattle.stream_law.specs.declared.graph.Graph.{Graph}
 use Rattle.stream_law.specs.Ways.{components, source_of, sink_of, edge_of}
-use Rattle.stream_law.specs.Order.{is_among, bare}
+use Rattle.stream_law.specs.Order.{is_among}
+use Rattle.stream_law.specs.BareOrder.{bare}
 use Rattle.stream_law.specs.Walks.{LeadsTo, Walk, HasCycle, HasEnds}
 use Rattle.row_laws.specs.Wired.{IsWired, HasJoinedSides, IsOpen, IsSide, IsJoinedFrom, IsJoinedTo}
 use Rattle.row_laws.proofs.Joined.{among-map}

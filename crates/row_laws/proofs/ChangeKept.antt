@@ -13,7 +13,7 @@ use Rattle.stream_law.specs.declared.stream.StreamView.{StreamView}
 use Rattle.stream_law.specs.State.{FwState, View, RingView, view_of}
 use Rattle.stream_law.specs.Ways.{comp_of, components, buffers, is_of, live, rate_of, channels_of}
 use Rattle.stream_law.specs.Order.{is_among}
-use Rattle.stream_law.specs.Joins.{joined_edge, with_join, would_cycle, would_grow}
+use Rattle.stream_law.specs.Joins.{joined_edge, with_join, would_cycle, would_stay}
 use Rattle.stream_law.specs.Made.{gains}
 use Rattle.stream_law.specs.Seen.{flows, is_volume, keeps_numbers, remembers, gains_in, history_seen, seen}
 use Rattle.ipc3_model.specs.Allowed.{is_buffer_size}
@@ -32,8 +32,8 @@ use Rattle.stream_law.proofs.Remembering.{is_of-kinds}
 use Rattle.row_laws.proofs.Near.{in-comps}
 use Rattle.row_laws.proofs.Pieced.{pieces-joined}
 use Rattle.row_laws.proofs.RingViews.{each-key, by-keys, seen-same, buffers-seen, seen-twice}
-use Rattle.row_laws.proofs.SameWays.{played-same, live-same, rate-same, channels-same, flows-same}
-use Rattle.row_laws.proofs.Settings.{ids-set, find-apart, comp-set, kind-set, ways-set, bare-set, readies-set, owned-set, nodes-set, linked-set, wired-set, ramps-set, pieces-set}
+use Rattle.row_laws.proofs.SameWays.{played-same, agree-same, live-same, rate-same, channels-same, flows-same}
+use Rattle.row_laws.proofs.Settings.{ids-set, find-apart, comp-set, kind-set, ways-set, echo-set, bare-set, readies-set, owned-set, nodes-set, linked-set, wired-set, ramps-set, pieces-set}
 use Rattle.row_laws.proofs.Sides.{side-of_its_own}
 use Rattle.row_laws.proofs.Stagings.{staged-all}
 use Rattle.row_laws.proofs.SeenKept.{IsNext, histories-seen, in-among}
@@ -45,16 +45,16 @@ module _ (f : FwState) (kept : IsKeptState f) where
 
   -- ---- a join
 
-  module _ (j : Join) (free : is_joined f.graph j.source j.sink ≡ false) (takes : takes_join f.graph j.source j.sink ≡ true) (no_cycle : would_cycle f.graph j.source j.sink ≡ false) (grow : would_grow f.graph f.streams j.source j.sink ≡ false) where
+  module _ (j : Join) (free : is_joined f.graph j.source j.sink ≡ false) (takes : takes_join f.graph j.source j.sink ≡ true) (no_cycle : would_cycle f.graph j.source j.sink ≡ false) (stay : would_stay view j.source j.sink ≡ true) where
     abbrev joined_view : View
     joined_view = record { graph = with_join f.graph j; streams = f.streams }
 
     -- a component is as it was
     joined-live : (x : Comp) → IsIn x f.graph.comps → live joined_view x.id ≡ live view x.id
-    joined-live x there = live-joined f.graph j kept.wired free takes f.streams kept.played grow x.id (among-left (components f.graph) (buffers f.graph) x.id (in-comps f.graph.comps x there))
+    joined-live x there = live-joined f.graph j kept.wired free takes f.streams kept.played stay x.id (among-left (components f.graph) (buffers f.graph) x.id (in-comps f.graph.comps x there))
 
     joined-alike : (n : ℕ) → IsIn n (filter (remembers view) (components f.graph)) → IsAlike view joined_view n
-    joined-alike n there = alike-comp view joined_view n refl (rate-joined f.graph j kept.wired free takes f.streams kept.played grow n node) (channels-joined f.graph j kept.wired free takes f.streams kept.played grow n node)
+    joined-alike n there = alike-comp view joined_view n refl (rate-joined f.graph j kept.wired free takes f.streams kept.played stay n node) (channels-joined f.graph j kept.wired free takes f.streams kept.played stay n node)
       where
         node : is_among (components f.graph ++ buffers f.graph) n ≡ true
         node = among-left (components f.graph) (buffers f.graph) n (in-among (components f.graph) n (kept-in (remembers view) (components f.graph) n there).0)
@@ -77,11 +77,11 @@ module _ (f : FwState) (kept : IsKeptState f) where
       ramps = kept.ramps;
       pieces = pieces-joined f.graph f.heap j kept.pieces;
       tiled = kept.tiled;
-      wired = wired-joined f.graph j kept.wired free takes f.streams kept.played grow;
-      linked = linked-joined f.graph j kept.wired free takes f.streams kept.played grow kept.linked no_cycle;
-      played = played-joined f.graph j kept.wired free takes f.streams kept.played grow;
+      wired = wired-joined f.graph j kept.wired free takes f.streams kept.played stay;
+      linked = linked-joined f.graph j kept.wired free takes f.streams kept.played stay kept.linked no_cycle;
+      played = played-joined f.graph j kept.wired free takes f.streams kept.played stay;
       rings = kept.rings ∙ sym (buffers-joined j f.graph.edges);
-      seen = seen-same view joined_view f.rings (by-keys (λ b. flows joined_view b ≡ flows view b) (λ (r : RingView). r.buffer) (λ (e : Edge). e.buffer) f.rings f.graph.edges kept.rings (flows-joined f.graph j kept.wired free takes f.streams kept.played grow)) kept.seen;
+      seen = seen-same view joined_view f.rings (by-keys (λ b. flows joined_view b ≡ flows view b) (λ (r : RingView). r.buffer) (λ (e : Edge). e.buffer) f.rings f.graph.edges kept.rings (flows-joined f.graph j kept.wired free takes f.streams kept.played stay)) kept.seen;
       histories = histories-by view joined_view f.histories (remembered-same view joined_view refl (in-each (λ x. live joined_view x.id ≡ live view x.id) f.graph.comps joined-live))
           (in-each (IsAlike view joined_view) (filter (remembers view) (components f.graph)) joined-alike) kept.histories;
       staging = staged-all f.graph joined_view.graph f.staging (λ n. refl) kept.staging;
@@ -106,7 +106,8 @@ module _ (f : FwState) (kept : IsKeptState f) where
     set-channels x = same-streams (λ ss. channels_of (record { graph = set_view.graph; streams = ss }) x ≡ channels_of view x) (channels-same f.graph set_view.graph (λ s. true) f.streams kept.played (bare-set id setting f.graph f.streams) (ways-set id setting f.graph f.streams) x)
 
     pub set-played : AreStreamsPlayable set_view
-    set-played = same-streams (λ ss. AreStreamsPlayable (record { graph = set_view.graph; streams = ss })) (played-same f.graph set_view.graph (λ s. true) f.streams kept.played (bare-set id setting f.graph f.streams) (ways-set id setting f.graph f.streams) (nodes-set id setting f.graph) (owned-set id setting f.graph f.streams kept.played.owned) (readies-set id setting f.graph f.streams kept.played.each))
+    set-played = same-streams (λ ss. AreStreamsPlayable (record { graph = set_view.graph; streams = ss })) (played-same f.graph set_view.graph (λ s. true) f.streams kept.played (bare-set id setting f.graph f.streams) (ways-set id setting f.graph f.streams)
+        (agree-same f.graph set_view.graph (λ s. true) f.streams kept.played (bare-set id setting f.graph f.streams) (ways-set id setting f.graph f.streams) (nodes-set id setting f.graph) (echo-set id setting f.graph)) (owned-set id setting f.graph f.streams kept.played.owned) (readies-set id setting f.graph f.streams kept.played.each))
 
     pub set-rate : (x : ℕ) → rate_of set_view x ≡ rate_of view x
     set-rate x = same-streams (λ ss. rate_of (record { graph = set_view.graph; streams = ss }) x ≡ rate_of view x) (rate-same f.graph set_view.graph (λ s. true) f.streams kept.played (bare-set id setting f.graph f.streams) (ways-set id setting f.graph f.streams) x)

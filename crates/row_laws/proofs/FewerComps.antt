@@ -14,13 +14,15 @@ use Rattle.stream_law.specs.declared.graph.Join.{Join}
 use Rattle.stream_law.specs.declared.graph.Graph.{Graph}
 use Rattle.stream_law.specs.declared.stream.StreamView.{StreamView}
 use Rattle.stream_law.specs.Placed.{HasDistinct}
-use Rattle.stream_law.specs.Ways.{comp_of, components, buffers, ins, outs, is_end, leads, reaches, on_way, is_capture}
+use Rattle.stream_law.specs.Ways.{comp_of, components, buffers, source_of, sink_of, ins, outs, is_end, leads, is_of, is_capture, is_echo, way_joins, ways_to, on_way}
 use Rattle.stream_law.specs.Joins.{fits_kind}
 use Rattle.stream_law.specs.Order.{is_among}
 use Rattle.mbox_link.specs.Step.{has_comp, has_edge, has_kind, is_host, kind_at, is_complete, is_ready_comp, is_ready_edge, is_way_ready, touches, is_used}
 use Rattle.row_laws.specs.Wired.{IsWired, HasJoinedSides, IsSide, IsBetween, IsJoinedFrom, IsJoinedTo, is_node, has_join}
 use Rattle.row_laws.specs.Played.{IsStreamSet, IsSetBy, is_idle}
+use Rattle.row_laws.proofs.Echoes.{ends-of, echo-same, way-same}
 use Rattle.row_laws.proofs.Found.{ends-agree}
+use Rattle.row_laws.proofs.Unreached.{IsApart}
 use Rattle.row_laws.proofs.Growing.{all-by, some-found}
 use Rattle.row_laws.proofs.Joined.{among-map}
 use Rattle.row_laws.proofs.Fewer.{all-kept, all-both, all-test, test-all, any-with, any-to, none-kept, none-each, among-kept, among-both, filter-none, distinct-filter, distinct-most, eq-refl, not-true, not-false, other-any, other-find}
@@ -38,21 +40,21 @@ never-fits : (k : Kind) → fits_kind k 0 0 ≡ false
 never-fits HostPlay = refl
 never-fits kind = refl
 
-pub reach-here : (g : Graph) (a : ℕ) → reaches g a a ≡ true
-unfolding reaches
-reach-here g a = by (length g.joins)
+ways-here : (g : Graph) (a : ℕ) → ways_to g a a ≡ true
+unfolding ways_to
+ways-here g a = by (length (way_joins g))
   where
-    by : (n : ℕ) → leads g.joins n a a ≡ true
+    by : (n : ℕ) → leads (way_joins g) n a a ≡ true
     by zero = eq-refl a
     by (suc n) = or_left (a == a) _ (eq-refl a)
 
 pub way-here : (g : Graph) (h : ℕ) → on_way g h h ≡ true
 unfolding on_way
-way-here g h = by (option_map_or (λ c. is_capture c.kind) (comp_of g h) false)
+way-here g h = by (is_of g is_capture h)
   where
-    by : (t : Bool) → cond t (reaches g h h) (reaches g h h) ≡ true
-    by true = reach-here g h
-    by false = reach-here g h
+    by : (t : Bool) → cond t (ways_to g h h || (is_echo g h && option_map_or (λ c. ways_to g c h) (sink_of g h) false)) (ways_to g h h) ≡ true
+    by true = or_left (ways_to g h h) _ (ways-here g h)
+    by false = ways-here g h
 
 module _ (g : Graph) (id : ℕ) (wired : IsWired g) (linked : HasJoinedSides g) (free : list_any (touches id) g.joins ≡ false) where
   abbrev less : Graph
@@ -117,9 +119,24 @@ module _ (g : Graph) (id : ℕ) (wired : IsWired g) (linked : HasJoinedSides g) 
   pub used-other : (n : ℕ) → (n == id) ≡ false → is_used g n ≡ true → is_used less n ≡ true
   used-other n other used = ap (λ h. (h || list_any (λ e. e.buffer == n) g.edges) || list_any (λ p. p.id == n) g.pipes) (has-other n other) ∙ used
 
+  -- no join is at it, so echo edges and ways are what they were
+  far : IsApart id g.joins
+  far = record {
+    sources = all-by (λ j. touches id j ≡ false) (λ j. (j.source == id) ≡ false) (λ j e. (or_parts (j.source == id) (j.sink == id) e).0) g.joins (none-each (touches id) g.joins free);
+    sinks = all-by (λ j. touches id j ≡ false) (λ j. (j.sink == id) ≡ false) (λ j e. (or_parts (j.source == id) (j.sink == id) e).1) g.joins (none-each (touches id) g.joins free);
+  }
+
+  ends : (b : ℕ) → (is_end (source_of g b) id ≡ false) × (is_end (sink_of g b) id ≡ false)
+  ends = ends-of g id (all-both (λ e. is_end e.source id ≡ false) (λ e. is_end e.sink id ≡ false) g.edges sources-none sinks-none)
+
+  kinds-other : (sort : Kind → Bool) (n : ℕ) → (n == id) ≡ false → is_of g sort n ≡ is_of less sort n
+  kinds-other sort n other = ap (λ (o : Option Comp). option_map_or (λ x. sort x.kind) o false) (sym (comp-other n other))
+
+  pub echo-comp : (b : ℕ) → is_echo less b ≡ true → (is_echo g b ≡ true) × (source_of less b ≡ source_of g b) × (sink_of less b ≡ sink_of g b)
+  echo-comp b is = (echo-same g less id refl far (λ b. refl) (λ b. refl) ends kinds-other b ∙ is, refl, refl)
+
   way-other : (n x : ℕ) → (n == id) ≡ false → on_way less n x ≡ on_way g n x
-  unfolding on_way reaches
-  way-other n x other = ap (λ (o : Option Comp). cond (option_map_or (λ c. is_capture c.kind) o false) (leads g.joins (length g.joins) x n) (leads g.joins (length g.joins) n x)) (comp-other n other)
+  way-other n x other = sym (way-same g less id refl far (λ b. refl) (λ b. refl) ends kinds-other n x other)
 
   node-other : (n : ℕ) → (n == id) ≡ false → is_node g n ≡ true → is_node less n ≡ true
   node-other n other there = ap (λ h. h || list_any (λ e. e.buffer == n) g.edges) (has-other n other) ∙ there

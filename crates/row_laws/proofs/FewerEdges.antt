@@ -1,40 +1,58 @@
 -- A graph of which a buffer is taken away with its joins.
-use Rattle.std.proofs.Common.{◌≡◌, refl, sym, ap, ◌∙◌, subst, ℕ, ◌+◌, ◌≤◌, List, [], ◌∷◌, ◌++◌, filter, length, Option, Some, None, Bool, true, false, cond, not, inl, inr, ◌⊎◌, ◌==◌, ◌&&◌, ◌||◌, arith}
-use Rattle.std.proofs.lemmas.Bool.{true≢false, false≢true, false_from_ne_true, or_parts, or_from, or_left, or_right, or_cases, and_parts, and_from, eqb-true, eq-eqb, leb-true, le-leb}
+use Rattle.std.proofs.Common.{◌≡◌, refl, sym, ap, ◌∙◌, subst, ℕ, ◌+◌, ◌≤◌, List, [], ◌∷◌, map, filter, length, Option, Some, None, Bool, true, false, cond, not, inl, inr, ◌⊎◌, ◌==◌, ◌&&◌, ◌||◌, arith}
+use Rattle.std.proofs.lemmas.Bool.{true≢false, false≢true, false_from_ne_true, or_parts, or_from, or_left, or_right, or_cases, and_parts, and_from, eqb-true, eq-eqb}
 use Rattle.std.proofs.lemmas.List.Filters.{length-filter_both}
-use Rattle.std.specs.Prelude.{find, is_some, nat_le, option_map, option_and_then}
+use Rattle.std.specs.Prelude.{find, is_some, option_map, option_and_then}
 use Rattle.std.specs.Option.{option_map_or}
 use Rattle.std.specs.List.{list_any, list_all, AllByRecursion}
 use Rattle.sof_base.specs.declared.format.Params.{Params}
 use Rattle.stream_law.specs.declared.graph.Kind.{Kind}
+use Rattle.stream_law.specs.declared.graph.Kind.TheVariants.{Demux}
 use Rattle.stream_law.specs.declared.graph.Comp.{Comp}
 use Rattle.stream_law.specs.declared.graph.Edge.{Edge}
 use Rattle.stream_law.specs.declared.graph.Join.{Join}
 use Rattle.stream_law.specs.declared.graph.Graph.{Graph}
 use Rattle.stream_law.specs.declared.stream.StreamView.{StreamView}
 use Rattle.stream_law.specs.Placed.{HasDistinct}
-use Rattle.stream_law.specs.Ways.{comp_of, edge_of, source_of, sink_of, components, buffers, ins, outs, is_end, leads, reaches, on_way, is_capture}
-use Rattle.stream_law.specs.Joins.{kind_ins, fits_kind}
-use Rattle.stream_law.specs.Order.{is_among}
+use Rattle.stream_law.specs.Ways.{comp_of, edge_of, source_of, sink_of, components, buffers, ins, outs, is_end, leads, reaches, is_of, is_play, is_capture, is_dai_play, splits, reached_by_some, reaches_some, leaves_split, enters_capture, is_echo, way_joins, ways_to, on_way, agree}
+use Rattle.stream_law.specs.Joins.{kind_ins, kind_outs, fits_kind, has_stayed, stays}
 use Rattle.mbox_link.specs.Step.{has_comp, has_edge, has_kind, is_host, kind_at, is_complete, is_ready_comp, is_ready_edge, is_way_ready, is_held, touches, is_used}
 use Rattle.row_laws.specs.Wired.{IsWired, HasJoinedSides, IsSide, IsBetween, IsJoinedFrom, IsJoinedTo, IsOpen, is_at, is_node, side_count, sides_joined}
 use Rattle.row_laws.specs.Played.{IsStreamSet, IsSetBy, is_idle}
 use Rattle.row_laws.proofs.Found.{found-each, ends-agree}
-use Rattle.row_laws.proofs.Fewer.{all-kept, all-filter, all-both, all-any, all-test, test-all, any-kept, any-with, any-to, any-of_kept, none-kept, none-each, among-kept, among-both, some-pass, two-pass, filter-kept, one-key, distinct-filter, apart-by, not-true, not-false, other-any, other-find}
-use Rattle.row_laws.proofs.Growing.{all-by}
+use Rattle.row_laws.proofs.Fewer.{all-kept, all-filter, all-both, all-any, all-test, test-all, any-kept, any-with, any-to, any-of_kept, none-kept, none-each, some-pass, two-pass, filter-kept, one-key, distinct-filter, apart-by, not-true, not-false, other-any, other-find}
+use Rattle.row_laws.proofs.Growing.{all-by, some-found}
 use Rattle.stream_law.proofs.EdgeNumbers.{fewer-right, right-ins, right-outs}
-use Rattle.stream_law.proofs.Members.{IsIn, any-in, in-any, in-kept}
-use Rattle.row_laws.proofs.Near.{complete-comp, fits-comp, fits-out, play-in, capture-out, source-goes, sink-goes, edge-into, edge-outof}
-use Rattle.row_laws.proofs.Trips.{goes_from, IsTrip, Trip, trip-none, trip-first, trip-last, trip-end, trip-start, trip-of, trip-leads, trip-reached, reached-trip}
-
-same-test : (a b : Bool) → (a ≡ true → b ≡ true) → (b ≡ true → a ≡ true) → a ≡ b
-same-test true b f h = sym (f refl)
-same-test false true f h = h refl
-same-test false false f h = refl
+use Rattle.stream_law.proofs.Members.{IsIn, in-each, any-in, in-any, in-filter, filter-any, in-kept}
+use Rattle.row_laws.proofs.Near.{complete-comp, fits-comp, play-in, capture-out, at-buffer, plain-comp, source-goes, sink-goes, goes-sink, edge-into, edge-outof}
+use Rattle.row_laws.proofs.Trips.{goes_from, IsTrip, Trip, trip-none, trip-first, trip-last, trip-end, trip-start, trip-of, trip-leads, trip-reached, reached-trip, trip-ways, ways-trip, way-goes, goes-way}
+use Rattle.row_laws.proofs.Touching.{echo-sides}
+use Rattle.row_laws.proofs.Staying.{way-stayed}
 
 -- fewer edges in, but one at least, are as many as the kind has
 fits-fewer : (k : Kind) (m n l : ℕ) → 1 ≤ l → l ≤ m → fits_kind k m n ≡ true → fits_kind k l n ≡ true
 fits-fewer k m n l some most fits = and_from _ _ (fewer-right (kind_ins k) m l some most (right-ins k m n fits)) (right-outs k m n fits)
+
+fits-fewer_out : (k : Kind) (m n l : ℕ) → 1 ≤ l → l ≤ n → fits_kind k m n ≡ true → fits_kind k m l ≡ true
+fits-fewer_out k m n l some most fits = and_from _ _ (right-ins k m n fits) (fewer-right (kind_outs k) n l some most (right-outs k m n fits))
+
+-- what splits is no DAI
+never-splits : (o : Option Comp) → option_map_or (λ x. splits x.kind) o false ≡ true → option_map_or (λ x. is_dai_play x.kind) o false ≡ true → ⊥
+never-splits None is dai = false≢true is
+never-splits (Some c) is dai = by c.kind is dai
+  where
+    by : (k : Kind) → splits k ≡ true → is_dai_play k ≡ true → ⊥
+    by Demux is dai = false≢true dai
+    by kind is dai = false≢true is
+
+-- an id of a component is one
+in-comp : (g : Graph) (c : ℕ) → IsIn c (components g) → has_comp g c ≡ true
+in-comp g c there = at g.comps there
+  where
+    at : (xs : List Comp) → IsIn c (map (λ (x : Comp). x.id) xs) → list_any (λ x. x.id == c) xs ≡ true
+    at [] here = absurd here
+    at (x ∷ xs) (inl same) = or_left (x.id == c) _ (eq-eqb x.id c (sym same))
+    at (x ∷ xs) (inr more) = or_right (x.id == c) _ (at xs more)
 
 -- of fewer edges no more pass
 pass-fewer : (keep test : Edge → Bool) (es : List Edge) → length (filter test (filter keep es)) ≤ length (filter test es)
@@ -90,50 +108,6 @@ module _ (g : Graph) (id : ℕ) (wired : IsWired g) (linked : HasJoinedSides g) 
   other : (a b : ℕ) → (a ≡ b → ⊥) → (a == b) ≡ false
   other a b f = false_from_ne_true (a == b) (λ e. f (eqb-true a b e))
 
-  -- a trip from where never trip leads to the buffer
-  trip-away : (a b : ℕ) → (Trip g.joins a id → ⊥) → Trip g.joins a b → Trip less.joins a b
-  trip-away a b never t = by t.ids a never t.goes
-    where
-      by : (ids : List ℕ) (x : ℕ) → (Trip g.joins x id → ⊥) → IsTrip g.joins x ids b → Trip less.joins x b
-      by [] x never e = trip-none less.joins x b e
-      by (y ∷ ids) x never goes =
-          let from = other x id (λ e. never (trip-none g.joins x id e)) in
-          let to = other y id (λ e. never (trip-first g.joins x y id goes.0 (trip-none g.joins y id e))) in
-          trip-first less.joins x y b (goes-other x y from to ∙ goes.0) (by ids y (λ t. never (trip-first g.joins x y id goes.0 t)) goes.1)
-
-  -- a trip to where never trip leads from the buffer
-  trip-to : (a b : ℕ) → (Trip g.joins id b → ⊥) → Trip g.joins a b → Trip less.joins a b
-  trip-to a b never t = by t.ids a t.goes
-    where
-      by : (ids : List ℕ) (x : ℕ) → IsTrip g.joins x ids b → Trip less.joins x b
-      by [] x e = trip-none less.joins x b e
-      by (y ∷ ids) x goes =
-          let from = other x id (λ e. never (subst (λ n. Trip g.joins n b) e (record { ids = y ∷ ids; goes = goes }))) in
-          let to = other y id (λ e. never (subst (λ n. Trip g.joins n b) e (record { ids = ids; goes = goes.1 }))) in
-          trip-first less.joins x y b (goes-other x y from to ∙ goes.0) (by ids y goes.1)
-
-  -- ---- ways on which the buffer is not
-
-  from-here : (h x : ℕ) → reaches g h id ≡ false → reaches less h x ≡ reaches g h x
-  from-here h x never =
-      same-test (reaches less h x) (reaches g h x)
-      (λ e. reached-trip g h x (trip-more h x (trip-reached less h x e)))
-      (λ e. reached-trip less h x (trip-away h x (λ t. true≢false (sym (reached-trip g h id t) ∙ never)) (trip-reached g h x e)))
-
-  to-here : (h x : ℕ) → reaches g id h ≡ false → reaches less x h ≡ reaches g x h
-  to-here h x never =
-      same-test (reaches less x h) (reaches g x h)
-      (λ e. reached-trip g x h (trip-more x h (trip-reached less x h e)))
-      (λ e. reached-trip less x h (trip-to x h (λ t. true≢false (sym (reached-trip g id h t) ∙ never)) (trip-reached g x h e)))
-
-  way-same : (h : ℕ) → on_way g h id ≡ false → (x : ℕ) → on_way less h x ≡ on_way g h x
-  unfolding on_way
-  way-same h off x = by (option_map_or (λ c. is_capture c.kind) (comp_of g h) false) off
-    where
-      by : (t : Bool) → cond t (reaches g id h) (reaches g h id) ≡ false → cond t (reaches less x h) (reaches less h x) ≡ cond t (reaches g x h) (reaches g h x)
-      by true off = to-here h x off
-      by false off = from-here h x off
-
   -- ---- the edges of what is on a way
 
   abbrev into : ℕ → Edge → Bool
@@ -154,13 +128,30 @@ module _ (g : Graph) (id : ℕ) (wired : IsWired g) (linked : HasJoinedSides g) 
       let parts = and_parts (outof c found.0) (found.0.buffer == id) found.2 in
       ap (λ n. goes_from g.joins c n) (sym (eqb-true found.0.buffer id parts.1)) ∙ source-goes g wired linked found.0 found.1 c parts.0
 
-  join-outof : (c b : ℕ) → has_comp g c ≡ true → goes_from g.joins c b ≡ true → list_any (λ e. outof c e && e.buffer == b) g.edges ≡ true
-  join-outof c b comp goes =
-      let e = edge-outof g wired linked c b comp goes in
-      in-any (λ e. outof c e && e.buffer == b) g.edges e.0 e.1 (and_from (outof c e.0) (e.0.buffer == b) e.3 (eq-eqb e.0.buffer b e.2))
+  buffer-sink : (s : ℕ) → goes_from g.joins id s ≡ true → is_end (sink_of g id) s ≡ true
+  buffer-sink s goes =
+      let found = any-with (λ (e : Edge). IsIn e g.edges) (λ e. e.buffer == id) g.edges (in-each (λ (e : Edge). IsIn e g.edges) g.edges (λ e here. here)) there in
+      let e : Edge = found.0 in
+      let same : e.buffer ≡ id = eqb-true e.buffer id found.2 in
+      ap (λ n. is_end (sink_of g n) s) (sym same) ∙ ap (λ (o : Option Edge). is_end (option_and_then (λ e. e.sink) o) s) (at-buffer g wired linked e found.1) ∙ goes-sink g wired linked e found.1 s (ap (λ n. goes_from g.joins n s) same ∙ goes)
 
-  buffers-apart : (b : ℕ) → (b == id) ≡ false → (es : List Edge) → AllByRecursion (λ e. (e.buffer == b) ≡ true → (e.buffer == id) ≡ true → ⊥) es
-  buffers-apart b far es = all-any (λ (e : Edge). (e.buffer == b) ≡ true → (e.buffer == id) ≡ true → ⊥) (λ e is_b is_id. true≢false (sym (ap (λ n. n == id) (sym (eqb-true e.buffer b is_b)) ∙ is_id) ∙ far)) es
+  -- so the buffer has that side
+  into-side : (c : ℕ) → list_any (λ e. into c e && e.buffer == id) g.edges ≡ true → is_end (sink_of g id) c ≡ true
+  into-side c any =
+      let found = any-in (λ e. into c e && e.buffer == id) g.edges any in
+      let parts = and_parts (into c found.0) (found.0.buffer == id) found.2 in
+      ap (λ n. is_end (sink_of g n) c) (sym (eqb-true found.0.buffer id parts.1)) ∙ ap (λ (o : Option Edge). is_end (option_and_then (λ e. e.sink) o) c) (at-buffer g wired linked found.0 found.1) ∙ parts.0
+
+  outof-side : (c : ℕ) → list_any (λ e. outof c e && e.buffer == id) g.edges ≡ true → is_end (source_of g id) c ≡ true
+  outof-side c any =
+      let found = any-in (λ e. outof c e && e.buffer == id) g.edges any in
+      let parts = and_parts (outof c found.0) (found.0.buffer == id) found.2 in
+      ap (λ n. is_end (source_of g n) c) (sym (eqb-true found.0.buffer id parts.1)) ∙ ap (λ (o : Option Edge). is_end (option_and_then (λ e. e.source) o) c) (at-buffer g wired linked found.0 found.1) ∙ parts.0
+
+  -- what is so of a side is so of a component there
+  at-side : (f : ℕ → Bool) (o : Option ℕ) (c : ℕ) → is_end o c ≡ true → option_map_or f o false ≡ f c
+  at-side f None c is = absurd (false≢true is)
+  at-side f (Some n) c is = ap f (eqb-true n c is)
 
   ins-are : (c : ℕ) → length (ins g c) ≡ length (filter (into c) g.edges)
   ins-are c = ends-agree (λ (e : Edge). e.sink) c g.edges wired.buffers
@@ -182,32 +173,67 @@ module _ (g : Graph) (id : ℕ) (wired : IsWired g) (linked : HasJoinedSides g) 
     own-capture : (t : Bool) → option_map_or (λ c. is_capture c.kind) (comp_of g h) false ≡ t → h ≡ c.id → is_capture c.kind ≡ t
     own-capture t is same = sym (ap (λ n. option_map_or (λ (c : Comp). is_capture c.kind) (comp_of g n) false) same ∙ ap (λ (o : Option Comp). option_map_or (λ c. is_capture c.kind) o false) found) ∙ is
 
-    split : (t : Bool) → option_map_or (λ c. is_capture c.kind) (comp_of g h) false ≡ t → (x : ℕ) → on_way g h x ≡ cond t (reaches g x h) (reaches g h x)
+    split : (t : Bool) → is_of g is_capture h ≡ t → (x : ℕ) → on_way g h x ≡ cond t (ways_to g x h || (is_echo g x && option_map_or (λ c. ways_to g c h) (sink_of g x) false)) (ways_to g h x)
     unfolding on_way
-    split t is x = ap (λ k. cond k (reaches g x h) (reaches g h x)) is
+    split t is x = ap (λ k. cond k (ways_to g x h || (is_echo g x && option_map_or (λ c. ways_to g c h) (sink_of g x) false)) (ways_to g h x)) is
+
+    -- the component is on the way by a walk without an echo edge
+    comp-to : is_of g is_capture h ≡ true → ways_to g c.id h ≡ true
+    comp-to is = by (or_cases (ways_to g c.id h) (is_echo g c.id && option_map_or (λ c. ways_to g c h) (sink_of g c.id) false) (sym (split true is c.id) ∙ on))
+      where
+        by : (ways_to g c.id h ≡ true) ⊎ ((is_echo g c.id && option_map_or (λ c. ways_to g c h) (sink_of g c.id) false) ≡ true) → ways_to g c.id h ≡ true
+        by (inl e) = e
+        by (inr e) = absurd (true≢false (sym (and_parts (is_echo g c.id) _ e).0 ∙ plain-comp g wired linked c.id comp))
+
+    comp-from : is_of g is_capture h ≡ false → ways_to g h c.id ≡ true
+    comp-from is = sym (split false is c.id) ∙ on
+
+    -- and the buffer is not, by none
+    never-to : is_of g is_capture h ≡ true → Trip (way_joins g) id h → ⊥
+    never-to is t = true≢false (sym (or_left (ways_to g id h) _ (ways-trip g id h t)) ∙ (sym (split true is id) ∙ off))
+
+    never-from : is_of g is_capture h ≡ false → Trip (way_joins g) h id → ⊥
+    never-from is t = true≢false (sym (ways-trip g h id t) ∙ (sym (split false is id) ∙ off))
 
     -- the buffer, which is not on the way, leads into nothing on the way of a capture
-    none-into : option_map_or (λ c. is_capture c.kind) (comp_of g h) false ≡ true → list_any (λ e. into c.id e && e.buffer == id) g.edges ≡ true → ⊥
-    none-into is any = true≢false (sym (reached-trip g id h (trip-first g.joins id c.id h (into-goes c.id any) (trip-reached g c.id h (sym (split true is c.id) ∙ on)))) ∙ (sym (split true is id) ∙ off))
-
-    -- and out of nothing on a way: a playback's goes on to it, and a capture's takes the one edge out
-    none-outof : list_any (λ e. outof c.id e && e.buffer == id) g.edges ≡ true → ⊥
-    none-outof any = by (option_map_or (λ c. is_capture c.kind) (comp_of g h) false) refl
+    none-into : is_of g is_capture h ≡ true → list_any (λ e. into c.id e && e.buffer == id) g.edges ≡ true → ⊥
+    none-into is any = by (is_echo g id) refl
       where
-        by : (t : Bool) → option_map_or (λ c. is_capture c.kind) (comp_of g h) false ≡ t → ⊥
-        by false is = true≢false (sym (reached-trip g h id (trip-last g.joins h c.id id (trip-reached g h c.id (sym (split false is c.id) ∙ on)) (outof-goes c.id any))) ∙ (sym (split false is id) ∙ off))
-        by true is = at (λ t. true≢false (sym (reached-trip g id h t) ∙ (sym (split true is id) ∙ off))) (trip-start g.joins c.id h (trip-reached g c.id h (sym (split true is c.id) ∙ on)))
+        by : (k : Bool) → is_echo g id ≡ k → ⊥
+        by true echo = true≢false (sym (or_right (ways_to g id h) _ (and_from (is_echo g id) _ echo (at-side (λ c. ways_to g c h) (sink_of g id) c.id (into-side c.id any) ∙ comp-to is))) ∙ (sym (split true is id) ∙ off))
+        by false plain = never-to is (trip-first (way_joins g) id c.id h (goes-way g id c.id plain (plain-comp g wired linked c.id comp) (into-goes c.id any)) (trip-ways g c.id h (comp-to is)))
+
+    -- where it is an echo edge out of the component, another edge leads on to a DAI
+    other-out : is_echo g id ≡ true → is_end (source_of g id) c.id ≡ true → (b : ℕ) × ((b == id) ≡ false) × (goes_from g.joins c.id b ≡ true)
+    other-out echo from = by (trip-start g.joins c.id dai.0 (trip-reached g c.id dai.0 dai.3))
+      where
+        sides : (option_map_or (leaves_split g) (source_of g id) false ≡ true) × (option_map_or (enters_capture g) (sink_of g id) false ≡ true)
+        sides = echo-sides g id echo
+
+        leaves : (is_of g splits c.id ≡ true) × (reaches_some g is_dai_play c.id ≡ true)
+        leaves =
+            let last = and_parts (is_of g splits c.id && reached_by_some g is_play c.id) (reaches_some g is_dai_play c.id) (sym (at-side (leaves_split g) (source_of g id) c.id from) ∙ sides.0) in
+            ((and_parts (is_of g splits c.id) (reached_by_some g is_play c.id) last.0).0, last.1)
+
+        dai : (d : ℕ) × IsIn d (components g) × (is_of g is_dai_play d ≡ true) × (reaches g c.id d ≡ true)
+        dai = in-filter (λ d. reaches g c.id d) (is_of g is_dai_play) (components g) leaves.1
+
+        -- no walk leads to it from where the buffer goes
+        never-on : (s : ℕ) → is_end (sink_of g id) s ≡ true → Trip g.joins s dai.0 → ⊥
+        never-on s to t =
+            let enters = and_parts (reaches_some g is_capture s) (not (reaches_some g is_dai_play s)) (sym (at-side (enters_capture g) (sink_of g id) s to) ∙ sides.1) in
+            true≢false (sym (filter-any (λ d. reaches g s d) (is_of g is_dai_play) (components g) dai.0 dai.1 dai.2 (reached-trip g s dai.0 t)) ∙ not-true (reaches_some g is_dai_play s) enters.1)
+
+        never-by : Trip g.joins id dai.0 → ⊥
+        never-by t = at (trip-start g.joins id dai.0 t)
           where
-            at : (Trip g.joins id h → ⊥) → (c.id ≡ h) ⊎ ((b : ℕ) × (goes_from g.joins c.id b ≡ true) × Trip g.joins b h) → ⊥
-            at never (inl same) =
-                let none : length (outs g c.id) ≡ 0 = capture-out c.kind (length (ins g c.id)) (length (outs g c.id)) (own-capture true is (sym same)) fits in
-                let some : 1 ≤ length (filter (outof c.id) g.edges) = some-pass (outof c.id) g.edges (any-first (outof c.id) (λ e. e.buffer == id) g.edges any) in
-                omega (arith, none, some, outs-are c.id)
-            at never (inr r) =
-                let far : (r.0 == id) ≡ false = other r.0 id (λ e. never (subst (λ n. Trip g.joins n h) e r.2)) in
-                let two : 2 ≤ length (filter (outof c.id) g.edges) = two-pass (outof c.id) (λ e. e.buffer == r.0) (λ e. e.buffer == id) g.edges (buffers-apart r.0 far g.edges) (join-outof c.id r.0 comp r.1) any in
-                let one : length (outs g c.id) ≤ 1 = fits-out c.kind (length (ins g c.id)) (length (outs g c.id)) fits in
-                omega (arith, two, one, outs-are c.id)
+            at : (id ≡ dai.0) ⊎ ((s : ℕ) × (goes_from g.joins id s ≡ true) × Trip g.joins s dai.0) → ⊥
+            at (inl same) = true≢false (sym (in-comp g dai.0 dai.1) ∙ ap (has_comp g) (sym same) ∙ no-comp)
+            at (inr r) = never-on r.0 (buffer-sink r.0 r.1) r.2
+
+        by : (c.id ≡ dai.0) ⊎ ((b : ℕ) × (goes_from g.joins c.id b ≡ true) × Trip g.joins b dai.0) → (b : ℕ) × ((b == id) ≡ false) × (goes_from g.joins c.id b ≡ true)
+        by (inl same) = absurd (never-splits (comp_of g c.id) leaves.0 (ap (is_of g is_dai_play) same ∙ dai.2))
+        by (inr r) = (r.0, other r.0 id (λ e. never-by (subst (λ n. Trip g.joins n dai.0) e r.2)), r.1)
 
     -- so as many edges as before pass a test that the buffer's does not
     spared : (test : Edge → Bool) → (list_any (λ e. test e && e.buffer == id) g.edges ≡ true → ⊥) → filter test less.edges ≡ filter test g.edges
@@ -220,8 +246,41 @@ module _ (g : Graph) (id : ℕ) (wired : IsWired g) (linked : HasJoinedSides g) 
     distinct-left : HasDistinct (λ e. e.buffer) less.edges
     distinct-left = distinct-filter (λ (e : Edge). e.buffer) keep g.edges wired.buffers
 
-    outs-left : length (outs less c.id) ≡ length (outs g c.id)
-    outs-left = ends-agree (λ (e : Edge). e.source) c.id less.edges distinct-left ∙ ap (λ (es : List Edge). length es) (spared (outof c.id) none-outof) ∙ sym (outs-are c.id)
+    outs-less : length (outs less c.id) ≡ length (filter (outof c.id) less.edges)
+    outs-less = ends-agree (λ (e : Edge). e.source) c.id less.edges distinct-left
+
+    outs-most : length (outs less c.id) ≤ length (outs g c.id)
+    outs-most = omega (arith, outs-less, pass-fewer keep (outof c.id) g.edges, outs-are c.id)
+
+    -- an edge out that is left
+    left-out : (b : ℕ) → (b == id) ≡ false → goes_from g.joins c.id b ≡ true → 1 ≤ length (outs less c.id)
+    left-out b far goes =
+        let e = edge-outof g wired linked c.id b comp goes in
+        let left : IsIn e.0 less.edges = in-kept keep g.edges e.0 e.1 (ap (λ n. not (n == id)) e.2 ∙ ap not far) in
+        omega (arith, outs-less, some-pass (outof c.id) less.edges (in-any (outof c.id) less.edges e.0 left e.3))
+
+    -- as many edges out are left, or one at least: by it a capture's way goes on, or what splits leads to a DAI
+    outs-left : (length (outs less c.id) ≡ length (outs g c.id)) ⊎ (1 ≤ length (outs less c.id))
+    outs-left = at (list_any (λ e. outof c.id e && e.buffer == id) g.edges) refl
+      where
+        capture : (c.id ≡ h) ⊎ ((b : ℕ) × (goes_from (way_joins g) c.id b ≡ true) × Trip (way_joins g) b h) → is_of g is_capture h ≡ true → list_any (λ e. outof c.id e && e.buffer == id) g.edges ≡ true → 1 ≤ length (outs less c.id)
+        capture (inl same) is any =
+            let none : length (outs g c.id) ≡ 0 = capture-out c.kind (length (ins g c.id)) (length (outs g c.id)) (own-capture true is (sym same)) fits in
+            let some : 1 ≤ length (filter (outof c.id) g.edges) = some-pass (outof c.id) g.edges (any-first (outof c.id) (λ e. e.buffer == id) g.edges any) in
+            absurd (omega (arith, none, some, outs-are c.id))
+        capture (inr r) is any = left-out r.0 (other r.0 id (λ e. never-to is (subst (λ n. Trip (way_joins g) n h) e r.2))) (way-goes g c.id r.0 r.1)
+
+        play : (k : Bool) → is_echo g id ≡ k → is_of g is_capture h ≡ false → list_any (λ e. outof c.id e && e.buffer == id) g.edges ≡ true → 1 ≤ length (outs less c.id)
+        play true echo is any = let b = other-out echo (outof-side c.id any) in left-out b.0 b.1 b.2
+        play false plain is any = absurd (never-from is (trip-last (way_joins g) h c.id id (trip-ways g h c.id (comp-from is)) (goes-way g c.id id (plain-comp g wired linked c.id comp) plain (outof-goes c.id any))))
+
+        by : (t : Bool) → is_of g is_capture h ≡ t → list_any (λ e. outof c.id e && e.buffer == id) g.edges ≡ true → 1 ≤ length (outs less c.id)
+        by true is any = capture (trip-start (way_joins g) c.id h (trip-ways g c.id h (comp-to is))) is any
+        by false is any = play (is_echo g id) refl is any
+
+        at : (t : Bool) → list_any (λ e. outof c.id e && e.buffer == id) g.edges ≡ t → (length (outs less c.id) ≡ length (outs g c.id)) ⊎ (1 ≤ length (outs less c.id))
+        at true any = inr (by (is_of g is_capture h) refl any)
+        at false none = inl (outs-less ∙ ap (λ (es : List Edge). length es) (spared (outof c.id) (λ any. true≢false (sym any ∙ none))) ∙ sym (outs-are c.id))
 
     ins-less : length (ins less c.id) ≡ length (filter (into c.id) less.edges)
     ins-less = ends-agree (λ (e : Edge). e.sink) c.id less.edges distinct-left
@@ -231,36 +290,40 @@ module _ (g : Graph) (id : ℕ) (wired : IsWired g) (linked : HasJoinedSides g) 
 
     -- as many edges in are left, or one at least, by which the way comes
     ins-left : (length (ins less c.id) ≡ length (ins g c.id)) ⊎ (1 ≤ length (ins less c.id))
-    ins-left = by (option_map_or (λ c. is_capture c.kind) (comp_of g h) false) refl
+    ins-left = by (is_of g is_capture h) refl
       where
-        by : (t : Bool) → option_map_or (λ c. is_capture c.kind) (comp_of g h) false ≡ t → (length (ins less c.id) ≡ length (ins g c.id)) ⊎ (1 ≤ length (ins less c.id))
+        at : is_of g is_capture h ≡ false → (h ≡ c.id) ⊎ ((b : ℕ) × Trip (way_joins g) h b × (goes_from (way_joins g) b c.id ≡ true)) → (length (ins less c.id) ≡ length (ins g c.id)) ⊎ (1 ≤ length (ins less c.id))
+        at is (inl same) =
+            let none : length (ins g c.id) ≡ 0 = play-in c.kind (length (ins g c.id)) (length (outs g c.id)) (own-host same) (own-capture false is same) fits in
+            inl (omega (arith, none, ins-most))
+        at is (inr r) =
+            let far : (r.0 == id) ≡ false = other r.0 id (λ e. never-from is (subst (Trip (way_joins g) h) e r.1)) in
+            let e = edge-into g wired linked r.0 c.id comp (way-goes g r.0 c.id r.2) in
+            let left : IsIn e.0 less.edges = in-kept keep g.edges e.0 e.1 (ap (λ n. not (n == id)) e.2 ∙ ap not far) in
+            inr (omega (arith, ins-less, some-pass (into c.id) less.edges (in-any (into c.id) less.edges e.0 left e.3)))
+
+        by : (t : Bool) → is_of g is_capture h ≡ t → (length (ins less c.id) ≡ length (ins g c.id)) ⊎ (1 ≤ length (ins less c.id))
         by true is = inl (ins-less ∙ ap (λ (es : List Edge). length es) (spared (into c.id) (none-into is)) ∙ sym (ins-are c.id))
-        by false is = at (λ t. true≢false (sym (reached-trip g h id t) ∙ (sym (split false is id) ∙ off))) (trip-end g.joins h c.id (trip-reached g h c.id (sym (split false is c.id) ∙ on)))
-          where
-            at : (Trip g.joins h id → ⊥) → (h ≡ c.id) ⊎ ((b : ℕ) × Trip g.joins h b × (goes_from g.joins b c.id ≡ true)) → (length (ins less c.id) ≡ length (ins g c.id)) ⊎ (1 ≤ length (ins less c.id))
-            at never (inl same) =
-                let none : length (ins g c.id) ≡ 0 = play-in c.kind (length (ins g c.id)) (length (outs g c.id)) (own-host same) (own-capture false is same) fits in
-                inl (omega (arith, none, ins-most))
-            at never (inr r) =
-                let far : (r.0 == id) ≡ false = other r.0 id (λ e. never (subst (Trip g.joins h) e r.1)) in
-                let e = edge-into g wired linked r.0 c.id comp r.2 in
-                let left : IsIn e.0 less.edges = in-kept keep g.edges e.0 e.1 (ap (λ n. not (n == id)) e.2 ∙ ap not far) in
-                inr (omega (arith, ins-less, some-pass (into c.id) less.edges (in-any (into c.id) less.edges e.0 left e.3)))
+        by false is = at is (trip-end (way_joins g) h c.id (trip-ways g h c.id (comp-from is)))
 
     comp-ready : is_ready_comp less c ≡ true
-    comp-ready = and_from (is_complete g c.pipe) _ (complete-comp g c ready) (ap (λ n. fits_kind c.kind (length (ins less c.id)) n) outs-left ∙ by ins-left)
+    comp-ready = and_from (is_complete g c.pipe) _ (complete-comp g c ready) (with-outs outs-left)
       where
-        by : (length (ins less c.id) ≡ length (ins g c.id)) ⊎ (1 ≤ length (ins less c.id)) → fits_kind c.kind (length (ins less c.id)) (length (outs g c.id)) ≡ true
-        by (inl same) = ap (λ m. fits_kind c.kind m (length (outs g c.id))) same ∙ fits
-        by (inr some) = fits-fewer c.kind (length (ins g c.id)) (length (outs g c.id)) (length (ins less c.id)) some ins-most fits
+        with-ins : (length (ins less c.id) ≡ length (ins g c.id)) ⊎ (1 ≤ length (ins less c.id)) → fits_kind c.kind (length (ins less c.id)) (length (outs g c.id)) ≡ true
+        with-ins (inl same) = ap (λ m. fits_kind c.kind m (length (outs g c.id))) same ∙ fits
+        with-ins (inr some) = fits-fewer c.kind (length (ins g c.id)) (length (outs g c.id)) (length (ins less c.id)) some ins-most fits
 
-  ready-left : (h : ℕ) → has_kind is_host (kind_at g h) ≡ true → on_way g h id ≡ false → is_way_ready g h ≡ true → is_way_ready less h ≡ true
+        with-outs : (length (outs less c.id) ≡ length (outs g c.id)) ⊎ (1 ≤ length (outs less c.id)) → fits_kind c.kind (length (ins less c.id)) (length (outs less c.id)) ≡ true
+        with-outs (inl same) = ap (λ n. fits_kind c.kind (length (ins less c.id)) n) same ∙ with-ins ins-left
+        with-outs (inr some) = fits-fewer_out c.kind (length (ins less c.id)) (length (outs g c.id)) (length (outs less c.id)) some outs-most (with-ins ins-left)
+
+  ready-left : (h : ℕ) → has_kind is_host (kind_at g h) ≡ true → on_way g h id ≡ false → ((x : ℕ) → on_way less h x ≡ on_way g h x) → is_way_ready g h ≡ true → is_way_ready less h ≡ true
   unfolding is_way_ready
-  ready-left h host off ready =
+  ready-left h host off same ready =
       let parts = and_parts (list_all (λ x. not (on_way g h x.id) || is_ready_comp g x) g.comps) (list_all (λ e. not (on_way g h e.buffer) || is_ready_edge g e) g.edges) ready in
       and_from _ _
       (test-all (λ (x : Comp). not (on_way less h x.id) || is_ready_comp less x) g.comps (all-by (λ x. (find (λ y. y.id == x.id) g.comps ≡ Some x) × ((not (on_way g h x.id) || is_ready_comp g x) ≡ true)) (λ x. (not (on_way less h x.id) || is_ready_comp less x) ≡ true) comp-left g.comps (all-both (λ x. find (λ y. y.id == x.id) g.comps ≡ Some x) (λ x. (not (on_way g h x.id) || is_ready_comp g x) ≡ true) g.comps (found-each (λ (x : Comp). x.id) g.comps wired.ids) (all-test (λ (x : Comp). not (on_way g h x.id) || is_ready_comp g x) g.comps parts.0))))
-      (test-all (λ (e : Edge). not (on_way less h e.buffer) || is_ready_edge less e) less.edges (all-kept keep (λ e. (not (on_way g h e.buffer) || is_ready_edge g e) ≡ true) (λ e. (not (on_way less h e.buffer) || is_ready_edge less e) ≡ true) (λ e kept was. ap (λ t. not t || is_ready_edge g e) (way-same h off e.buffer) ∙ was) g.edges (all-test (λ (e : Edge). not (on_way g h e.buffer) || is_ready_edge g e) g.edges parts.1)))
+      (test-all (λ (e : Edge). not (on_way less h e.buffer) || is_ready_edge less e) less.edges (all-kept keep (λ e. (not (on_way g h e.buffer) || is_ready_edge g e) ≡ true) (λ e. (not (on_way less h e.buffer) || is_ready_edge less e) ≡ true) (λ e kept was. ap (λ t. not t || is_ready_edge g e) (same e.buffer) ∙ was) g.edges (all-test (λ (e : Edge). not (on_way g h e.buffer) || is_ready_edge g e) g.edges parts.1)))
     where
       some-comp : (xs : List Comp) (n : ℕ) (c : Comp) → find (λ y. y.id == n) xs ≡ Some c → list_any (λ y. y.id == n) xs ≡ true
       some-comp [] n c e = absurd (cc e)
@@ -271,7 +334,7 @@ module _ (g : Graph) (id : ℕ) (wired : IsWired g) (linked : HasJoinedSides g) 
           by false e rest = rest e
 
       comp-left : (x : Comp) → (find (λ y. y.id == x.id) g.comps ≡ Some x) × ((not (on_way g h x.id) || is_ready_comp g x) ≡ true) → (not (on_way less h x.id) || is_ready_comp less x) ≡ true
-      comp-left x both = ap (λ t. not t || is_ready_comp less x) (way-same h off x.id) ∙ by (on_way g h x.id) refl both.1
+      comp-left x both = ap (λ t. not t || is_ready_comp less x) (same x.id) ∙ by (on_way g h x.id) refl both.1
         where
           by : (t : Bool) → on_way g h x.id ≡ t → (not t || is_ready_comp g x) ≡ true → (not t || is_ready_comp less x) ≡ true
           by true on now = comp-ready h host off x (some-comp g.comps x.id x both.0) both.0 on now
@@ -391,17 +454,27 @@ module _ (g : Graph) (id : ℕ) (wired : IsWired g) (linked : HasJoinedSides g) 
   pub clears : (ss : List StreamView) → is_held g ss id ≡ false → AllByRecursion IsClear ss
   clears ss free = none-each (λ (s : StreamView). is_some s.params && on_way g s.host id) ss free
 
-  pub ways-edge : (ss : List StreamView) → is_held g ss id ≡ false → AllByRecursion (λ s. true ≡ true → is_some s.params ≡ true → (x : ℕ) → on_way less s.host x ≡ on_way g s.host x) ss
-  ways-edge ss free = all-by IsClear (λ s. true ≡ true → is_some s.params ≡ true → (x : ℕ) → on_way less s.host x ≡ on_way g s.host x) (λ s clear kept has x. way-same s.host (clear-off s clear has) x) ss (clears ss free)
+  abbrev Stays : StreamView → Type 0
+  Stays s = is_some s.params ≡ true → (x : ℕ) → on_way less s.host x ≡ on_way g s.host x
 
-  pub ready-edge : (ss : List StreamView) → is_held g ss id ≡ false → AllByRecursion (λ s. has_kind is_host (kind_at g s.host) ≡ true) ss → AllByRecursion (IsStreamSet g) ss → AllByRecursion (λ s. true ≡ true → is_some s.params ≡ true → is_way_ready less s.host ≡ true) ss
-  ready-edge ss free owned sets =
-      all-by (λ s. (IsClear s × (has_kind is_host (kind_at g s.host) ≡ true)) × IsStreamSet g s) (λ s. true ≡ true → is_some s.params ≡ true → is_way_ready less s.host ≡ true) (λ s all kept has. ready-left s.host all.0.1 (clear-off s all.0.0 has) (was s.host (is_idle s.phase) s.params has all.1)) ss
-      (all-both (λ s. IsClear s × (has_kind is_host (kind_at g s.host) ≡ true)) (IsStreamSet g) ss (all-both IsClear (λ s. has_kind is_host (kind_at g s.host) ≡ true) ss (clears ss free) owned) sets)
+  pub stayed-edge : (ss : List StreamView) → stays (record { graph = g; streams = ss }) less ≡ true → (list_all (λ s. not (is_some s.params) || has_stayed g less s.host) ss ≡ true) × (agree (record { graph = less; streams = ss }) ≡ true)
+  unfolding stays
+  stayed-edge ss stay = and_parts (list_all (λ s. not (is_some s.params) || has_stayed g less s.host) ss) (agree (record { graph = less; streams = ss })) stay
+
+  stayed-ways : (ss : List StreamView) → stays (record { graph = g; streams = ss }) less ≡ true → AllByRecursion (λ s. has_kind is_host (kind_at g s.host) ≡ true) ss → AllByRecursion Stays ss
+  stayed-ways ss stay owned =
+      all-by (λ s. ((not (is_some s.params) || has_stayed g less s.host) ≡ true) × (has_kind is_host (kind_at g s.host) ≡ true)) Stays
+      (λ s both has x. let comp = some-found is_host g.comps s.host both.1 in way-stayed g less s.host wired wired-edge_less comp comp (sym (ap (λ h. not h || has_stayed g less s.host) has) ∙ both.0) x) ss
+      (all-both (λ s. (not (is_some s.params) || has_stayed g less s.host) ≡ true) (λ s. has_kind is_host (kind_at g s.host) ≡ true) ss (all-test (λ (s : StreamView). not (is_some s.params) || has_stayed g less s.host) ss (stayed-edge ss stay).0) owned)
+
+  pub ways-edge : (ss : List StreamView) → stays (record { graph = g; streams = ss }) less ≡ true → AllByRecursion (λ s. has_kind is_host (kind_at g s.host) ≡ true) ss → AllByRecursion (λ s. true ≡ true → is_some s.params ≡ true → (x : ℕ) → on_way less s.host x ≡ on_way g s.host x) ss
+  ways-edge ss stay owned = all-by Stays (λ s. true ≡ true → is_some s.params ≡ true → (x : ℕ) → on_way less s.host x ≡ on_way g s.host x) (λ s same kept has. same has) ss (stayed-ways ss stay owned)
+
+  pub ready-edge : (ss : List StreamView) → is_held g ss id ≡ false → stays (record { graph = g; streams = ss }) less ≡ true → AllByRecursion (λ s. has_kind is_host (kind_at g s.host) ≡ true) ss → AllByRecursion (IsStreamSet g) ss → AllByRecursion (λ s. true ≡ true → is_some s.params ≡ true → is_way_ready less s.host ≡ true) ss
+  ready-edge ss free stay owned sets =
+      all-by (λ s. ((IsClear s × Stays s) × (has_kind is_host (kind_at g s.host) ≡ true)) × IsStreamSet g s) (λ s. true ≡ true → is_some s.params ≡ true → is_way_ready less s.host ≡ true) (λ s all kept has. ready-left s.host all.0.1 (clear-off s all.0.0.0 has) (all.0.0.1 has) (was s.host (is_idle s.phase) s.params has all.1)) ss
+      (all-both (λ s. (IsClear s × Stays s) × (has_kind is_host (kind_at g s.host) ≡ true)) (IsStreamSet g) ss (all-both (λ s. IsClear s × Stays s) (λ s. has_kind is_host (kind_at g s.host) ≡ true) ss (all-both IsClear Stays ss (clears ss free) (stayed-ways ss stay owned)) owned) sets)
     where
       was : (h : ℕ) (idle : Bool) (o : Option Params) → is_some o ≡ true → IsSetBy g h idle o → is_way_ready g h ≡ true
       was h idle None has is_set = absurd (false≢true has)
       was h idle (Some p) has is_set = is_set.3
-
-  pub nodes-edge : (x : ℕ) → is_among (components less ++ buffers less) x ≡ true → is_among (components g ++ buffers g) x ≡ true
-  nodes-edge x there = among-both (components less) (buffers less) (components g) (buffers g) x (λ e. e) (among-kept (λ (e : Edge). e.buffer) keep g.edges x) there

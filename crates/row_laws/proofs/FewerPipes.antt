@@ -9,7 +9,7 @@ use Rattle.stream_law.specs.declared.graph.Edge.{Edge}
 use Rattle.stream_law.specs.declared.graph.Pipe.{Pipe}
 use Rattle.stream_law.specs.declared.graph.Graph.{Graph}
 use Rattle.stream_law.specs.declared.stream.StreamView.{StreamView}
-use Rattle.stream_law.specs.Ways.{ins, outs, reaches, on_way}
+use Rattle.stream_law.specs.Ways.{source_of, sink_of, ins, outs, reaches, is_echo, way_joins, ways_to, on_way}
 use Rattle.stream_law.specs.Joins.{fits_kind}
 use Rattle.ipc3_model.specs.Allowed.{is_period_allowed}
 use Rattle.mbox_link.specs.Step.{has_comp, has_edge, is_complete, is_ready_comp, is_ready_edge, is_way_ready, is_held, is_index_held, is_used}
@@ -44,8 +44,12 @@ module _ (g : Graph) (id : ℕ) (p : Pipe) (found : find (λ q. q.id == id) g.pi
   complete-other index other = any-kept keep (λ q. q.index == index && q.complete) (λ q. q.index == index && q.complete) g.pipes (all-by (λ q. (q.id == id) ≡ true → q.index ≡ p.index) (λ q. (keep q ≡ true → (q.index == index && q.complete) ≡ (q.index == index && q.complete)) × (keep q ≡ false → (q.index == index && q.complete) ≡ false)) (λ q is. (λ kept. refl, λ gone. ap (λ h. h && q.complete) (ap (λ n. n == index) (is (not-false (q.id == id) gone)) ∙ eqb-turned index p.index other))) g.pipes same-index)
 
   way-pipe : (h x : ℕ) → on_way less h x ≡ on_way g h x
-  unfolding on_way reaches
+  unfolding on_way ways_to way_joins is_echo reaches
   way-pipe h x = refl
+
+  pub echo-pipe : (b : ℕ) → is_echo less b ≡ true → (is_echo g b ≡ true) × (source_of less b ≡ source_of g b) × (sink_of less b ≡ sink_of g b)
+  unfolding is_echo reaches
+  echo-pipe b is = (is, refl, refl)
 
   pub ways-pipe : (ss : List StreamView) → AllByRecursion (λ s. true ≡ true → is_some s.params ≡ true → (x : ℕ) → on_way less s.host x ≡ on_way g s.host x) ss
   ways-pipe ss = all-any (λ (s : StreamView). true ≡ true → is_some s.params ≡ true → (x : ℕ) → on_way less s.host x ≡ on_way g s.host x) (λ s kept has x. way-pipe s.host x) ss

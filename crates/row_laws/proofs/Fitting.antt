@@ -5,9 +5,9 @@ use Rattle.std.proofs.lemmas.List.{length-replicate}
 use Rattle.std.specs.Prelude.{find, nat_le, option_and_then}
 use Rattle.std.specs.List.{list_all, AllByRecursion}
 use Rattle.stream_law.specs.declared.graph.Kind.{Kind}
-use Rattle.stream_law.specs.declared.graph.Kind.TheVariants.{HostPlay, HostCapture, DaiPlay, DaiCapture, Volume, Mux}
+use Rattle.stream_law.specs.declared.graph.Kind.TheVariants.{HostPlay, HostCapture, DaiPlay, DaiCapture, Volume, Mux, Demux}
 use Rattle.stream_law.specs.declared.graph.Setting.{Setting}
-use Rattle.stream_law.specs.declared.graph.Setting.TheVariants.{Nothing, Gains, Choice, Blob}
+use Rattle.stream_law.specs.declared.graph.Setting.TheVariants.{Nothing, Gains, Choice, Blob, Masks}
 use Rattle.stream_law.specs.declared.graph.Comp.{Comp}
 use Rattle.stream_law.specs.declared.graph.Graph.{Graph}
 use Rattle.stream_law.specs.Placed.{HasDistinct}
@@ -16,7 +16,7 @@ use Rattle.stream_law.specs.Made.{gains}
 use Rattle.stream_law.specs.Seen.{is_volume}
 use Rattle.ipc3_model.specs.declared.message.CompWords.{CompWords}
 use Rattle.ipc3_model.specs.declared.message.CompWords.TheVariants as words
-use Rattle.ipc3_model.specs.Messages.{IsKind}
+use Rattle.ipc3_model.specs.Meanings.{IsKind}
 use Rattle.mbox_link.specs.Step.{sample_format, kind_of, first_setting, first_ramp, new_setting, with_setting}
 use Rattle.row_laws.specs.Kept.{IsSettingOf, IsRampOf}
 use Rattle.row_laws.proofs.Found.{found-each}
@@ -27,6 +27,11 @@ use Rattle.stream_law.proofs.Members.{in-all, find-in}
 same-gains : (n : ℕ) → AllByRecursion (λ m. m ≤ 16777216) (replicate n 65536)
 same-gains zero = tt
 same-gains (suc n) = (omega arith, same-gains n)
+
+-- masks that keep everything
+all-through : (n : ℕ) → AllByRecursion (λ m. m ≤ 255) (replicate n 255)
+all-through zero = tt
+all-through (suc n) = (omega arith, all-through n)
 
 pub first-fits : (kind : CompWords) (frame_fmt : ℕ) → IsKind kind frame_fmt → IsSettingOf (kind_of kind frame_fmt) (first_setting kind)
 first-fits (words.Host direction) frame_fmt allowed = by (direction == 0)
@@ -49,6 +54,7 @@ first-fits (words.Volume channels min_value max_value ramp initial_ramp) frame_f
 first-fits words.Mixer frame_fmt allowed = tt
 first-fits words.Mux frame_fmt allowed = tt
 first-fits words.Eq frame_fmt allowed = inl refl
+first-fits words.Demux frame_fmt allowed = (refl, all-through 8)
 
 -- and a ramp is a volume's
 pub first-ramps : (kind : CompWords) (frame_fmt : ℕ) → IsRampOf (kind_of kind frame_fmt) (first_ramp kind)
@@ -70,6 +76,7 @@ first-ramps (words.Volume channels min_value max_value ramp initial_ramp) frame_
 first-ramps words.Mixer frame_fmt = refl
 first-ramps words.Mux frame_fmt = refl
 first-ramps words.Eq frame_fmt = refl
+first-ramps words.Demux frame_fmt = refl
 
 -- ---- by values
 
@@ -89,11 +96,24 @@ new-choice : (h : Bool) (k : ℕ) (setting : Setting) → cond h (Some (Choice k
 new-choice true k setting is = let same : Choice k ≡ setting = cc is in subst (IsSettingOf Mux) same tt
 new-choice false k setting is = absurd (cc is)
 
+all-bytes : (ns : List ℕ) → list_all (λ v. nat_le v 255) ns ≡ true → AllByRecursion (λ n. n ≤ 255) ns
+all-bytes [] all = tt
+all-bytes (n ∷ ns) all = let parts = and_parts (nat_le n 255) (list_all (λ v. nat_le v 255) ns) all in (leb-true n 255 parts.0, all-bytes ns parts.1)
+
+new-masks : (h : Bool) (command : ℕ) (values : List ℕ) (setting : Setting) → (command == 2 && (length values == 8 && list_all (λ v. nat_le v 255) values)) ≡ h → cond h (Some (Masks values)) None ≡ Some setting → IsSettingOf Demux setting
+new-masks false command values setting test is = absurd (cc is)
+new-masks true command values setting test is =
+    let same : Masks values ≡ setting = cc is in
+    let parts = and_parts (length values == 8) (list_all (λ v. nat_le v 255) values) (and_parts (command == 2) _ test).1 in
+    subst (IsSettingOf Demux) same (eqb-true (length values) 8 parts.0, all-bytes values parts.1)
+
 new-fits : (kind : Kind) (old : Setting) (command : ℕ) (values : List ℕ) (setting : Setting) → IsSettingOf kind old → new_setting kind old command values ≡ Some setting → IsSettingOf kind setting
 new-fits Volume (Gains list) command values setting fits is = new-gains (command == 0 && (length values == length list && list_all (λ v. nat_le v 16777216) values)) command list values setting refl is fits
 new-fits Volume Nothing command values setting fits is = absurd fits
 new-fits Volume (Choice k) command values setting fits is = absurd fits
 new-fits Volume (Blob bytes) command values setting fits is = absurd fits
+new-fits Volume (Masks masks) command values setting fits is = absurd fits
+new-fits Demux old command values setting fits is = new-masks (command == 2 && (length values == 8 && list_all (λ v. nat_le v 255) values)) command values setting refl is
 new-fits Mux old command [] setting fits is = absurd (cc is)
 new-fits Mux old command (v ∷ []) setting fits is = new-choice (command == 1) v setting is
 new-fits Mux old command (v ∷ w ∷ values) setting fits is = absurd (cc is)
@@ -113,6 +133,7 @@ new-many Volume (Gains list) command values setting fits is volume = by (command
 new-many Volume Nothing command values setting fits is volume = absurd fits
 new-many Volume (Choice k) command values setting fits is volume = absurd fits
 new-many Volume (Blob bytes) command values setting fits is volume = absurd fits
+new-many Volume (Masks masks) command values setting fits is volume = absurd fits
 new-many kind old command values setting fits is volume = absurd (false≢true volume)
 
 -- values fit what is found

@@ -8,23 +8,24 @@ use Rattle.stream_law.specs.declared.graph.Edge.{Edge}
 use Rattle.stream_law.specs.declared.graph.Pipe.{Pipe}
 use Rattle.stream_law.specs.declared.stream.StreamView.{StreamView}
 use Rattle.stream_law.specs.State.{FwState, PieceView, View, RingView, Staging, view_of}
-use Rattle.stream_law.specs.Ways.{comp_of, components, live, rate_of, channels_of}
+use Rattle.stream_law.specs.Ways.{comp_of, components, live, rate_of, channels_of, agree}
+use Rattle.stream_law.specs.Joins.{stays}
 use Rattle.stream_law.specs.Seen.{flows, ring_seen, remembers}
 use Rattle.stream_law.proofs.Placing.{Ascends-filter}
 use Rattle.ipc3_model.specs.Allowed.{is_buffer_size}
-use Rattle.mbox_link.specs.Step.{has_kind, is_host, kind_at, without_piece, without_comp, without_buffer, without_pipe, touches, has_comp, has_edge, is_held, is_index_held}
+use Rattle.mbox_link.specs.Step.{has_kind, is_host, kind_at, without_piece, without_comp, without_edge, without_buffer, without_pipe, touches, has_comp, has_edge, is_held, is_index_held}
 use Rattle.row_laws.specs.Tiled.{heap_bytes}
 use Rattle.row_laws.specs.Wired.{is_node}
 use Rattle.row_laws.specs.Played.{AreStreamsPlayable}
 use Rattle.row_laws.specs.Kept.{IsKeptState, IsSettingOf, IsRampOf, IsStaged, has_piece}
 use Rattle.row_laws.proofs.Fewer.{all-kept, all-filter, all-both, all-any, filter-every, length-filter, none-each, keys-left, not-true, distinct-filter}
 use Rattle.row_laws.proofs.Growing.{all-by}
-use Rattle.row_laws.proofs.SameWays.{played-same, live-same, rate-same, channels-same, flows-same}
+use Rattle.row_laws.proofs.SameWays.{played-same, agree-same, live-same, rate-same, channels-same, flows-same}
 use Rattle.row_laws.proofs.Histories.{IsAlike, alike-comp, remembered-same, remembered-left, histories-by, histories-less, every}
 use Rattle.row_laws.proofs.FewerPieces.{HasOther, pieces-less}
-use Rattle.row_laws.proofs.FewerComps.{comp-other, streams-few, used-other, linked-comp_less, wired-comp_less, bare-comp, ways-comp, owned-comp, ready-comp, nodes-comp}
-use Rattle.row_laws.proofs.FewerEdges.{source-left, sink-left, used-left, wired-edge_less, linked-edge_less, joins-left, bare-edge, ways-edge, ready-edge, nodes-edge}
-use Rattle.row_laws.proofs.FewerPipes.{ways-pipe, bare-pipe, ready-pipe, used-pipe, linked-pipe_less, wired-pipe_less}
+use Rattle.row_laws.proofs.FewerComps.{comp-other, streams-few, used-other, linked-comp_less, wired-comp_less, bare-comp, ways-comp, owned-comp, ready-comp, nodes-comp, echo-comp}
+use Rattle.row_laws.proofs.FewerEdges.{source-left, sink-left, used-left, wired-edge_less, linked-edge_less, joins-left, bare-edge, stayed-edge, ways-edge, ready-edge}
+use Rattle.row_laws.proofs.FewerPipes.{ways-pipe, echo-pipe, bare-pipe, ready-pipe, used-pipe, linked-pipe_less, wired-pipe_less}
 use Rattle.row_laws.proofs.RingViews.{each-key, seen-each, seen-all, seen-same}
 use Rattle.row_laws.proofs.Stagings.{staged-same, staged-all}
 use Rattle.row_laws.proofs.Tiling.{give-tiled, retiled}
@@ -73,26 +74,26 @@ module _ (f : FwState) (kept : IsKeptState f) where
     abbrev comp-view : View
     comp-view = view_of (without_comp id f)
 
-    abbrev stays : StreamView → Bool
-    stays s = not (s.host == id)
+    abbrev left : StreamView → Bool
+    left s = not (s.host == id)
 
-    bare : AllByRecursion (λ s. stays s ≡ false → is_some s.params ≡ false) f.streams
+    bare : AllByRecursion (λ s. left s ≡ false → is_some s.params ≡ false) f.streams
     bare = bare-comp f.graph id kept.wired kept.linked free f.streams kept.played.owned kept.played.each
 
     pub comp_free-live : (x : ℕ) → live comp-view x ≡ live view x
-    comp_free-live = live-same f.graph comp-view.graph stays f.streams kept.played bare (ways-comp f.graph id kept.wired kept.linked free f.streams)
+    comp_free-live = live-same f.graph comp-view.graph left f.streams kept.played bare (ways-comp f.graph id kept.wired kept.linked free f.streams)
 
     pub comp_free-channels : (x : ℕ) → channels_of comp-view x ≡ channels_of view x
-    comp_free-channels = channels-same f.graph comp-view.graph stays f.streams kept.played bare (ways-comp f.graph id kept.wired kept.linked free f.streams)
+    comp_free-channels = channels-same f.graph comp-view.graph left f.streams kept.played bare (ways-comp f.graph id kept.wired kept.linked free f.streams)
 
     pub comp_free-rate : (x : ℕ) → rate_of comp-view x ≡ rate_of view x
-    comp_free-rate = rate-same f.graph comp-view.graph stays f.streams kept.played bare (ways-comp f.graph id kept.wired kept.linked free f.streams)
+    comp_free-rate = rate-same f.graph comp-view.graph left f.streams kept.played bare (ways-comp f.graph id kept.wired kept.linked free f.streams)
 
     pub comp_free-flows : (b : ℕ) → flows comp-view b ≡ flows view b
-    comp_free-flows b = flows-same f.graph comp-view.graph stays f.streams kept.played bare (ways-comp f.graph id kept.wired kept.linked free f.streams) b refl refl
+    comp_free-flows b = flows-same f.graph comp-view.graph left f.streams kept.played bare (ways-comp f.graph id kept.wired kept.linked free f.streams) b refl refl
 
     comp-played : AreStreamsPlayable comp-view
-    comp-played = played-same f.graph comp-view.graph stays f.streams kept.played bare (ways-comp f.graph id kept.wired kept.linked free f.streams) (nodes-comp f.graph id kept.wired kept.linked free) (owned-comp f.graph id kept.wired kept.linked free f.streams kept.played.owned) (ready-comp f.graph id kept.wired kept.linked free f.streams kept.played.each)
+    comp-played = played-same f.graph comp-view.graph left f.streams kept.played bare (ways-comp f.graph id kept.wired kept.linked free f.streams) (agree-same f.graph comp-view.graph left f.streams kept.played bare (ways-comp f.graph id kept.wired kept.linked free f.streams) (nodes-comp f.graph id kept.wired kept.linked free) (echo-comp f.graph id kept.wired kept.linked free)) (owned-comp f.graph id kept.wired kept.linked free f.streams kept.played.owned) (ready-comp f.graph id kept.wired kept.linked free f.streams kept.played.each)
 
     found : (n : ℕ) → (n == id) ≡ false → comp_of comp-view.graph n ≡ comp_of f.graph n
     found n other = comp-other f.graph id kept.wired kept.linked free n other
@@ -103,8 +104,8 @@ module _ (f : FwState) (kept : IsKeptState f) where
       edges = kept.edges;
       pipes = kept.pipes;
       joins = kept.joins;
-      streams = streams-few comp-view.graph (filter stays f.streams) comp-played.hosts comp-played.owned;
-      ascending = record { comps = Ascends-filter (λ (x : Comp). not (x.id == id)) (λ x. x.id) f.graph.comps kept.ascending.comps; edges = kept.ascending.edges; pipes = kept.ascending.pipes; streams = Ascends-filter stays (λ s. s.host) f.streams kept.ascending.streams; pieces = Ascends-filter (λ (p : PieceView). not (p.id == id)) (λ p. p.id) f.heap.pieces kept.ascending.pieces; staging = Ascends-filter (λ (s : Staging). not (s.eq == id)) (λ s. s.eq) f.staging kept.ascending.staging };
+      streams = streams-few comp-view.graph (filter left f.streams) comp-played.hosts comp-played.owned;
+      ascending = record { comps = Ascends-filter (λ (x : Comp). not (x.id == id)) (λ x. x.id) f.graph.comps kept.ascending.comps; edges = kept.ascending.edges; pipes = kept.ascending.pipes; streams = Ascends-filter left (λ s. s.host) f.streams kept.ascending.streams; pieces = Ascends-filter (λ (p : PieceView). not (p.id == id)) (λ p. p.id) f.heap.pieces kept.ascending.pieces; staging = Ascends-filter (λ (s : Staging). not (s.eq == id)) (λ s. s.eq) f.staging kept.ascending.staging };
       indices = kept.indices;
       sizes = kept.sizes;
       settings = all-filter (λ (x : Comp). not (x.id == id)) (λ x. IsSettingOf x.kind x.setting) f.graph.comps kept.settings;
@@ -126,7 +127,7 @@ module _ (f : FwState) (kept : IsKeptState f) where
 
   -- ---- a buffer that is on no way of a stream with parameters
 
-  module _ (id : ℕ) (there : has_edge f.graph id ≡ true) (free : is_held f.graph f.streams id ≡ false) where
+  module _ (id : ℕ) (there : has_edge f.graph id ≡ true) (free : is_held f.graph f.streams id ≡ false) (stay : stays view (without_edge id f.graph) ≡ true) where
     abbrev edge-view : View
     edge-view = view_of (without_buffer id f)
 
@@ -134,19 +135,19 @@ module _ (f : FwState) (kept : IsKeptState f) where
     every-stream P p = subst P (filter-every f.streams) p
 
     pub buffer_free-live : (x : ℕ) → live edge-view x ≡ live view x
-    buffer_free-live x = every-stream (λ ss. live (record { graph = edge-view.graph; streams = ss }) x ≡ live view x) (live-same f.graph edge-view.graph (λ s. true) f.streams kept.played (bare-edge f.graph id kept.wired kept.linked there f.streams) (ways-edge f.graph id kept.wired kept.linked there f.streams free) x)
+    buffer_free-live x = every-stream (λ ss. live (record { graph = edge-view.graph; streams = ss }) x ≡ live view x) (live-same f.graph edge-view.graph (λ s. true) f.streams kept.played (bare-edge f.graph id kept.wired kept.linked there f.streams) (ways-edge f.graph id kept.wired kept.linked there f.streams stay kept.played.owned) x)
 
     pub buffer_free-channels : (x : ℕ) → channels_of edge-view x ≡ channels_of view x
-    buffer_free-channels x = every-stream (λ ss. channels_of (record { graph = edge-view.graph; streams = ss }) x ≡ channels_of view x) (channels-same f.graph edge-view.graph (λ s. true) f.streams kept.played (bare-edge f.graph id kept.wired kept.linked there f.streams) (ways-edge f.graph id kept.wired kept.linked there f.streams free) x)
+    buffer_free-channels x = every-stream (λ ss. channels_of (record { graph = edge-view.graph; streams = ss }) x ≡ channels_of view x) (channels-same f.graph edge-view.graph (λ s. true) f.streams kept.played (bare-edge f.graph id kept.wired kept.linked there f.streams) (ways-edge f.graph id kept.wired kept.linked there f.streams stay kept.played.owned) x)
 
     pub buffer_free-rate : (x : ℕ) → rate_of edge-view x ≡ rate_of view x
-    buffer_free-rate x = every-stream (λ ss. rate_of (record { graph = edge-view.graph; streams = ss }) x ≡ rate_of view x) (rate-same f.graph edge-view.graph (λ s. true) f.streams kept.played (bare-edge f.graph id kept.wired kept.linked there f.streams) (ways-edge f.graph id kept.wired kept.linked there f.streams free) x)
+    buffer_free-rate x = every-stream (λ ss. rate_of (record { graph = edge-view.graph; streams = ss }) x ≡ rate_of view x) (rate-same f.graph edge-view.graph (λ s. true) f.streams kept.played (bare-edge f.graph id kept.wired kept.linked there f.streams) (ways-edge f.graph id kept.wired kept.linked there f.streams stay kept.played.owned) x)
 
     pub buffer_free-flows : (b : ℕ) → (b == id) ≡ false → flows edge-view b ≡ flows view b
-    buffer_free-flows b far = every-stream (λ ss. flows (record { graph = edge-view.graph; streams = ss }) b ≡ flows view b) (flows-same f.graph edge-view.graph (λ s. true) f.streams kept.played (bare-edge f.graph id kept.wired kept.linked there f.streams) (ways-edge f.graph id kept.wired kept.linked there f.streams free) b (source-left f.graph id kept.wired kept.linked there b far) (sink-left f.graph id kept.wired kept.linked there b far))
+    buffer_free-flows b far = every-stream (λ ss. flows (record { graph = edge-view.graph; streams = ss }) b ≡ flows view b) (flows-same f.graph edge-view.graph (λ s. true) f.streams kept.played (bare-edge f.graph id kept.wired kept.linked there f.streams) (ways-edge f.graph id kept.wired kept.linked there f.streams stay kept.played.owned) b (source-left f.graph id kept.wired kept.linked there b far) (sink-left f.graph id kept.wired kept.linked there b far))
 
     edge-played : AreStreamsPlayable edge-view
-    edge-played = every-stream (λ ss. AreStreamsPlayable (record { graph = edge-view.graph; streams = ss })) (played-same f.graph edge-view.graph (λ s. true) f.streams kept.played (bare-edge f.graph id kept.wired kept.linked there f.streams) (ways-edge f.graph id kept.wired kept.linked there f.streams free) (nodes-edge f.graph id kept.wired kept.linked there) (all-by (λ s. has_kind is_host (kind_at f.graph s.host) ≡ true) (λ s. true ≡ true → has_kind is_host (kind_at edge-view.graph s.host) ≡ true) (λ s is kept. is) f.streams kept.played.owned) (ready-edge f.graph id kept.wired kept.linked there f.streams free kept.played.owned kept.played.each))
+    edge-played = every-stream (λ ss. AreStreamsPlayable (record { graph = edge-view.graph; streams = ss })) (played-same f.graph edge-view.graph (λ s. true) f.streams kept.played (bare-edge f.graph id kept.wired kept.linked there f.streams) (ways-edge f.graph id kept.wired kept.linked there f.streams stay kept.played.owned) (subst (λ ss. agree (record { graph = edge-view.graph; streams = ss }) ≡ true) (sym (filter-every f.streams)) (stayed-edge f.graph id kept.wired kept.linked there f.streams stay).1) (all-by (λ s. has_kind is_host (kind_at f.graph s.host) ≡ true) (λ s. true ≡ true → has_kind is_host (kind_at edge-view.graph s.host) ≡ true) (λ s is kept. is) f.streams kept.played.owned) (ready-edge f.graph id kept.wired kept.linked there f.streams free stay kept.played.owned kept.played.each))
 
     abbrev fewer : List RingView
     fewer = filter (λ r. not (r.buffer == id)) f.rings
@@ -217,7 +218,7 @@ module _ (f : FwState) (kept : IsKeptState f) where
     pipe_free-rate x = all-streams (λ ss. rate_of (record { graph = pipe-view.graph; streams = ss }) x ≡ rate_of view x) (rate-same f.graph pipe-view.graph (λ s. true) f.streams kept.played (bare-pipe f.graph id p found kept.wired f.streams) (ways-pipe f.graph id p found kept.wired f.streams) x)
 
     pipe-played : AreStreamsPlayable pipe-view
-    pipe-played = all-streams (λ ss. AreStreamsPlayable (record { graph = pipe-view.graph; streams = ss })) (played-same f.graph pipe-view.graph (λ s. true) f.streams kept.played (bare-pipe f.graph id p found kept.wired f.streams) (ways-pipe f.graph id p found kept.wired f.streams) (λ x there. there) (all-by (λ s. has_kind is_host (kind_at f.graph s.host) ≡ true) (λ s. true ≡ true → has_kind is_host (kind_at pipe-view.graph s.host) ≡ true) (λ s is kept. is) f.streams kept.played.owned) (ready-pipe f.graph id p found kept.wired f.streams free kept.played.each))
+    pipe-played = all-streams (λ ss. AreStreamsPlayable (record { graph = pipe-view.graph; streams = ss })) (played-same f.graph pipe-view.graph (λ s. true) f.streams kept.played (bare-pipe f.graph id p found kept.wired f.streams) (ways-pipe f.graph id p found kept.wired f.streams) (agree-same f.graph pipe-view.graph (λ s. true) f.streams kept.played (bare-pipe f.graph id p found kept.wired f.streams) (ways-pipe f.graph id p found kept.wired f.streams) (λ x there. there) (echo-pipe f.graph id p found kept.wired)) (all-by (λ s. has_kind is_host (kind_at f.graph s.host) ≡ true) (λ s. true ≡ true → has_kind is_host (kind_at pipe-view.graph s.host) ≡ true) (λ s is kept. is) f.streams kept.played.owned) (ready-pipe f.graph id p found kept.wired f.streams free kept.played.each))
 
     pub kept-pipe_free : IsKeptState (without_pipe id f)
     kept-pipe_free = record {

@@ -1,5 +1,5 @@
 -- What one component or one buffer more keeps of views.
-use Rattle.std.proofs.Common.{◌≡◌, refl, sym, ap, ◌∙◌, ℕ, List, [], ◌∷◌, length, Option, Some, None, Bool, true, false, cond, not, ◌==◌, ◌&&◌, ◌||◌}
+use Rattle.std.proofs.Common.{◌≡◌, refl, sym, ap, ◌∙◌, ℕ, List, [], ◌∷◌, ◌++◌, Option, Some, None, Bool, true, false, cond, not, ◌==◌, ◌&&◌, ◌||◌}
 use Rattle.std.proofs.lemmas.Bool.{true≢false, false≢true, false_from_ne_true, or_from, or_parts, or_left, or_right, and_parts, and_from, eqb-true, eq-eqb}
 use Rattle.std.specs.Prelude.{find, option_map, nat_lt}
 use Rattle.std.specs.Option.{option_map_or, option_and_then}
@@ -15,7 +15,8 @@ use Rattle.stream_law.specs.declared.stream.Phase.TheVariants.{Idle}
 use Rattle.stream_law.specs.declared.stream.StreamView.{StreamView}
 use Rattle.stream_law.specs.Placed.{placed, HasDistinct}
 use Rattle.stream_law.specs.State.{View}
-use Rattle.stream_law.specs.Ways.{comp_of, source_of, sink_of, leads, reaches, on_way, is_capture, is_live_phase, live, live_end, rate_of, channels_of, touch, same_shape, agree}
+use Rattle.stream_law.specs.Ways.{comp_of, components, buffers, source_of, sink_of, is_end, is_of, is_echo, on_way, is_live_phase, live, live_end, rate_of, channels_of, touch, same_shape, agree}
+use Rattle.stream_law.specs.Order.{is_among}
 use Rattle.stream_law.specs.Seen.{flows}
 use Rattle.stream_law.proofs.Placing.{list_any-placed, find-placed_apart, find-placed_there, HasDistinct-placed}
 use Rattle.mbox_link.specs.Step.{has_comp, has_edge, has_pipe, has_kind, kind_at, is_host, is_ready_comp, is_ready_edge, is_way_ready, with_host_stream}
@@ -23,6 +24,8 @@ use Rattle.row_laws.specs.Wired.{IsWired, IsSide, IsBetween, is_node}
 use Rattle.row_laws.specs.Played.{AreStreamsPlayable, IsStreamSet, IsSetBy, is_idle}
 use Rattle.row_laws.proofs.Ids.{any-ids}
 use Rattle.row_laws.proofs.Unreached.{eqb-turned, IsApart, apart, off-way}
+use Rattle.row_laws.proofs.Echoes.{ends-apart, echo-same, way-same}
+use Rattle.row_laws.proofs.Touching.{touch-by, test-kept}
 
 -- ---- records put into a list
 
@@ -118,12 +121,27 @@ module _ (g : Graph) (c : Comp) (gone : is_node g c.id ≡ false) (wired : IsWir
   comp-other : (n : ℕ) → (n == c.id) ≡ false → comp_of wider n ≡ comp_of g n
   comp-other n other = find-placed_apart (λ x. x.id == n) (λ x. x.id) c g.comps (eqb-turned n c.id other)
 
+  no-buffer : has_edge g c.id ≡ false
+  no-buffer = (or_parts (has_comp g c.id) (has_edge g c.id) gone).1
+
+  -- nothing is at the new id, so echo edges and ways are what they were
+  ends : (b : ℕ) → (is_end (source_of g b) c.id ≡ false) × (is_end (sink_of g b) c.id ≡ false)
+  ends = ends-apart g c.id no-comp wired.sides
+
+  kinds-other : (sort : Kind → Bool) (n : ℕ) → (n == c.id) ≡ false → is_of g sort n ≡ is_of wider sort n
+  kinds-other sort n other = ap (λ (o : Option Comp). option_map_or (λ x. sort x.kind) o false) (sym (comp-other n other))
+
+  echo-wider : (b : ℕ) → is_echo wider b ≡ true → (is_echo g b ≡ true) × (source_of wider b ≡ source_of g b) × (sink_of wider b ≡ sink_of g b)
+  echo-wider b is = (echo-same g wider c.id refl clear (λ b. refl) (λ b. refl) ends kinds-other b ∙ is, refl, refl)
+
   way-other : (n x : ℕ) → (n == c.id) ≡ false → on_way wider n x ≡ on_way g n x
-  unfolding on_way reaches
-  way-other n x other = ap (λ (o : Option Comp). cond (option_map_or (λ c. is_capture c.kind) o false) (leads g.joins (length g.joins) x n) (leads g.joins (length g.joins) n x)) (comp-other n other)
+  way-other n x other = sym (way-same g wider c.id refl clear (λ b. refl) (λ b. refl) ends kinds-other n x other)
+
+  off-new : (n : ℕ) → (n == c.id) ≡ false → on_way g n c.id ≡ false
+  off-new n other = off-way g n c.id other no-buffer clear
 
   way-new : (n : ℕ) → (n == c.id) ≡ false → on_way wider n c.id ≡ false
-  way-new n other = way-other n c.id other ∙ off-way g n c.id other clear
+  way-new n other = way-other n c.id other ∙ off-new n other
 
   pub live-wider : (x : ℕ) → live new x ≡ live old x
   unfolding live
@@ -185,28 +203,16 @@ module _ (g : Graph) (c : Comp) (gone : is_node g c.id ≡ false) (wired : IsWir
   new-kind : kind_at wider c.id ≡ Some c.kind
   new-kind = ap (λ (o : Option Comp). option_map (λ (x : Comp). x.kind) o) (find-placed_there (λ x. x.id == c.id) (λ x. x.id) c g.comps (eq-eqb c.id c.id refl) no-comp)
 
-  touch-wider : (s t : StreamView) → (s.host == c.id) ≡ false → (t.host == c.id) ≡ false → touch wider s.host t.host ≡ touch g s.host t.host
-  touch-wider s t s-far t-far =
-      any-ids (λ x. on_way wider s.host x && on_way wider t.host x) (placed (λ x. x.id) c g.comps) g.edges
-      ∙ ap (λ (p : Bool × Bool). p.0 || p.1) (λ i. (comp-part i, any-same (λ e. on_way wider s.host e.buffer && on_way wider t.host e.buffer) (λ e. on_way g s.host e.buffer && on_way g t.host e.buffer) g.edges (each-edge g.edges) i))
-      ∙ sym (any-ids (λ x. on_way g s.host x && on_way g t.host x) g.comps g.edges)
+  -- all but the new component was there
+  node-was : (a x : ℕ) → (a == c.id) ≡ false → is_among (components wider ++ buffers wider) x ≡ true → on_way g a x ≡ true → is_among (components g ++ buffers g) x ≡ true
+  node-was a x far there on = any-ids (λ n. n == x) g.comps g.edges ∙ by (c.id == x) refl (sym (ap (λ h. h || has_edge g x) (list_any-placed (λ y. y.id == x) (λ y. y.id) c g.comps)) ∙ sym (any-ids (λ n. n == x) (placed (λ y. y.id) c g.comps) g.edges) ∙ there)
     where
-      both : (x : ℕ) → (on_way wider s.host x && on_way wider t.host x) ≡ (on_way g s.host x && on_way g t.host x)
-      both x = ap (λ (p : Bool × Bool). p.0 && p.1) (λ i. (way-other s.host x s-far i, way-other t.host x t-far i))
+      by : (h : Bool) → (c.id == x) ≡ h → ((h || has_comp g x) || has_edge g x) ≡ true → is_node g x ≡ true
+      by true same is = absurd (true≢false (sym on ∙ ap (on_way g a) (sym (eqb-true c.id x same)) ∙ off-new a far))
+      by false other is = is
 
-      each-comp : (xs : List Comp) → AllByRecursion (λ x. (on_way wider s.host x.id && on_way wider t.host x.id) ≡ (on_way g s.host x.id && on_way g t.host x.id)) xs
-      each-comp [] = tt
-      each-comp (x ∷ xs) = (both x.id, each-comp xs)
-
-      each-edge : (es : List Edge) → AllByRecursion (λ e. (on_way wider s.host e.buffer && on_way wider t.host e.buffer) ≡ (on_way g s.host e.buffer && on_way g t.host e.buffer)) es
-      each-edge [] = tt
-      each-edge (e ∷ es) = (both e.buffer, each-edge es)
-
-      comp-part : list_any (λ x. on_way wider s.host x.id && on_way wider t.host x.id) (placed (λ x. x.id) c g.comps) ≡ list_any (λ x. on_way g s.host x.id && on_way g t.host x.id) g.comps
-      comp-part =
-          list_any-placed (λ x. on_way wider s.host x.id && on_way wider t.host x.id) (λ x. x.id) c g.comps
-          ∙ ap (λ h. (h && on_way wider t.host c.id) || list_any (λ x. on_way wider s.host x.id && on_way wider t.host x.id) g.comps) (way-new s.host s-far)
-          ∙ any-same (λ x. on_way wider s.host x.id && on_way wider t.host x.id) (λ x. on_way g s.host x.id && on_way g t.host x.id) g.comps (each-comp g.comps)
+  touch-wider : (s t : StreamView) → (s.host == c.id) ≡ false → (t.host == c.id) ≡ false → touch wider s.host t.host ≡ true → touch g s.host t.host ≡ true
+  touch-wider s t s-far t-far = touch-by g wider echo-wider s.host t.host (λ x. node-was s.host x s-far) (λ x. way-other s.host x s-far) (λ x. way-other t.host x t-far)
 
   none-right : (o : Option Params) → same_shape o None ≡ true
   none-right None = refl
@@ -216,7 +222,7 @@ module _ (g : Graph) (c : Comp) (gone : is_node g c.id ≡ false) (wired : IsWir
   cells s s-far [] apart is = refl
   cells s s-far (t ∷ ts) apart is =
       let parts = and_parts (not (touch g s.host t.host) || same_shape s.params t.params) (list_all (λ t. not (touch g s.host t.host) || same_shape s.params t.params) ts) is in
-      and_from _ _ (ap (λ h. not h || same_shape s.params t.params) (touch-wider s t s-far apart.0) ∙ parts.0) (cells s s-far ts apart.1 parts.1)
+      and_from _ _ (test-kept (touch wider s.host t.host) (touch g s.host t.host) (same_shape s.params t.params) (touch-wider s t s-far apart.0) parts.0) (cells s s-far ts apart.1 parts.1)
 
   rows : (xs : List StreamView) → AllByRecursion (λ s. (s.host == c.id) ≡ false) xs → list_all (λ s. list_all (λ t. not (touch g s.host t.host) || same_shape s.params t.params) ss) xs ≡ true → list_all (λ s. list_all (λ t. not (touch wider s.host t.host) || same_shape s.params t.params) ss) xs ≡ true
   rows [] apart is = refl
@@ -269,9 +275,6 @@ module _ (g : Graph) (c : Comp) (gone : is_node g c.id ≡ false) (wired : IsWir
   side-wider : (o : Option ℕ) → IsSide g o → IsSide wider o
   side-wider None is = tt
   side-wider (Some n) is = has-wider n is
-
-  no-buffer : has_edge g c.id ≡ false
-  no-buffer = (or_parts (has_comp g c.id) (has_edge g c.id) gone).1
 
   edges-apart : (es : List Edge) → list_any (λ e. e.buffer == c.id) es ≡ false → AllByRecursion (λ e. has_comp g e.buffer ≡ false) es → AllByRecursion (λ e. has_comp wider e.buffer ≡ false) es
   edges-apart [] none apart = tt

@@ -1,5 +1,6 @@
 -- The histories of a view: one for each Live equaliser and volume.
 use Rattle.std.proofs.Common.{◌≡◌, refl, sym, ap, ◌∙◌, subst, ℕ, ◌+◌, ◌≤◌, List, [], ◌∷◌, map, filter, length, Option, Some, Bool, true, false, cond, not, ◌==◌, ◌&&◌, ◌||◌}
+use Rattle.std.proofs.lemmas.Bool.{or_parts}
 use Rattle.std.specs.Prelude.{find, nat_lt, max, option_map}
 use Rattle.std.specs.Option.{option_map_or}
 use Rattle.std.specs.List.{AllByRecursion}
@@ -16,7 +17,7 @@ use Rattle.stream_law.specs.Ramps.{numbers_place}
 use Rattle.stream_law.specs.Seen.{keeps_numbers, is_volume, remembers, blob_in, gains_in, ramp_length, fresh_numbers}
 use Rattle.stream_law.proofs.Remembering.{is_of-kinds}
 use Rattle.stream_law.proofs.Placing.{find-placed_apart, map-placed}
-use Rattle.mbox_link.specs.Step.{has_comp, has_kind, is_host, kind_at, with_setting}
+use Rattle.mbox_link.specs.Step.{has_comp, has_edge, has_kind, is_host, kind_at, with_setting}
 use Rattle.row_laws.specs.Wired.{IsWired, is_node}
 use Rattle.row_laws.specs.Kept.{AreHistories, AreRampNumbers, numbers_held}
 use Rattle.row_laws.proofs.Fewer.{keys-left, none-each, other-find, all-both, all-kept, not-true}
@@ -97,7 +98,7 @@ off-live : (g : Graph) (id : ℕ) → is_node g id ≡ false → IsApart id g.jo
 unfolding live
 off-live g id gone clear [] far = refl
 off-live g id gone clear (s ∷ ss) far =
-    ap (λ (p : Bool × Bool). (is_live_phase s.phase && p.0) || p.1) (λ i. (off-way g s.host id far.0 clear i, off-live g id gone clear ss far.1 i)) ∙ by (is_live_phase s.phase)
+    ap (λ (p : Bool × Bool). (is_live_phase s.phase && p.0) || p.1) (λ i. (off-way g s.host id far.0 (or_parts (has_comp g id) (has_edge g id) gone).1 clear i, off-live g id gone clear ss far.1 i)) ∙ by (is_live_phase s.phase)
   where
     by : (h : Bool) → ((h && false) || false) ≡ false
     by true = refl

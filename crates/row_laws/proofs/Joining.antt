@@ -1,5 +1,5 @@
 -- What one join more keeps of views.
-use Rattle.std.proofs.Common.{◌≡◌, refl, sym, ap, ◌∙◌, subst, ℕ, suc, ◌+◌, ◌≤◌, List, [], ◌∷◌, ◌++◌, map, filter, length, Option, Some, None, Bool, true, false, cond, not, inl, inr, ◌⊎◌, ◌==◌, ◌&&◌, ◌||◌, arith, length-append}
+use Rattle.std.proofs.Common.{◌≡◌, refl, sym, ap, ◌∙◌, subst, ℕ, suc, ◌+◌, ◌≤◌, List, [], ◌∷◌, ◌++◌, map, filter, length, Option, Some, None, Bool, true, false, cond, not, inl, inr, ◌⊎◌, ◌==◌, ◌&&◌, ◌||◌, arith}
 use Rattle.std.proofs.lemmas.Bool.{true≢false, false≢true, false_from_ne_true, or_parts, or_left, or_right, or_cases, and_parts, and_from, eqb-true}
 use Rattle.std.specs.Prelude.{find, is_some, nat_le, option_map, option_and_then}
 use Rattle.std.specs.Option.{option_map_or}
@@ -13,8 +13,8 @@ use Rattle.stream_law.specs.declared.graph.Graph.{Graph}
 use Rattle.stream_law.specs.declared.stream.StreamView.{StreamView}
 use Rattle.stream_law.specs.Placed.{HasDistinct}
 use Rattle.stream_law.specs.State.{View}
-use Rattle.stream_law.specs.Ways.{comp_of, components, buffers, source_of, sink_of, ins, outs, is_end, leads, reaches, on_way, is_capture, is_live_phase, live, live_end, rate_of, channels_of, touch, same_shape, agree}
-use Rattle.stream_law.specs.Joins.{kind_ins, fits_kind, joined_edge, with_join, has_grown, would_grow}
+use Rattle.stream_law.specs.Ways.{components, buffers, source_of, sink_of, ins, outs, is_end, leads, on_way, is_live_phase, live, live_end, rate_of, channels_of, agree}
+use Rattle.stream_law.specs.Joins.{kind_ins, kind_outs, fits_kind, joined_edge, with_join, has_stayed, stays, would_stay}
 use Rattle.stream_law.specs.Seen.{flows}
 use Rattle.stream_law.specs.Order.{is_among}
 use Rattle.mbox_link.specs.Step.{has_comp, has_edge, kind_at, is_complete, is_ready_comp, is_ready_edge, is_way_ready, leads_in, leads_out, is_joined, takes_join, has_free_in, has_free_out}
@@ -22,10 +22,11 @@ use Rattle.row_laws.specs.Wired.{IsWired, IsSide, IsBetween, is_node}
 use Rattle.row_laws.specs.Played.{AreStreamsPlayable, IsStreamSet, IsSetBy, is_idle}
 use Rattle.row_laws.proofs.Found.{found-each, ends-agree}
 use Rattle.row_laws.proofs.Stays.{heard, all-of, live-idle, given}
-use Rattle.row_laws.proofs.Fewer.{all-any, one-key}
+use Rattle.row_laws.proofs.Fewer.{all-any, all-test, one-key}
+use Rattle.row_laws.proofs.Staying.{stayed-at}
 use Rattle.row_laws.proofs.Growing.{all-by, any-same, find-same}
 use Rattle.row_laws.proofs.Near.{complete-comp, fits-comp}
-use Rattle.row_laws.proofs.Joined.{any-false, any-less, among-map, among-left, all-own, leads-more, full-out, fits-more, sided, joined-buffer, buffers-joined, has-joined}
+use Rattle.row_laws.proofs.Joined.{among-map, among-left, all-own, fits-more, fits-more_out, sided, joined-buffer, buffers-joined, has-joined}
 
 -- ---- the graph with the join
 
@@ -35,12 +36,7 @@ pub record IsFree (g : Graph) (j : Join) (e : Edge) : Type 0 where
   -- where it goes to the buffer, its source is free, and the join comes from a component
   pub to : (e.buffer == j.sink) ≡ true → (is_some e.source ≡ false) × (has_comp g j.source ≡ true) × (leads_in g j.source j.sink ≡ true)
 
-both-some : (o q : Option Params) → same_shape o q ≡ false → (is_some o ≡ true) × (is_some q ≡ true)
-both-some (Some p) (Some q) e = (refl, refl)
-both-some None q e = absurd (true≢false e)
-both-some (Some p) None e = absurd (true≢false e)
-
-module _ (g : Graph) (j : Join) (wired : IsWired g) (free : is_joined g j.source j.sink ≡ false) (takes : takes_join g j.source j.sink ≡ true) (ss : List StreamView) (played : AreStreamsPlayable (record { graph = g; streams = ss })) (grow : would_grow g ss j.source j.sink ≡ false) where
+module _ (g : Graph) (j : Join) (wired : IsWired g) (free : is_joined g j.source j.sink ≡ false) (takes : takes_join g j.source j.sink ≡ true) (ss : List StreamView) (played : AreStreamsPlayable (record { graph = g; streams = ss })) (stay : would_stay (record { graph = g; streams = ss }) j.source j.sink ≡ true) where
   abbrev wired_on : Graph
   wired_on = with_join g j
 
@@ -55,51 +51,18 @@ module _ (g : Graph) (j : Join) (wired : IsWired g) (free : is_joined g j.source
 
   -- ---- ways
 
-  reach-more : (a b : ℕ) → reaches g a b ≡ true → reaches wired_on a b ≡ true
-  unfolding reaches
-  reach-more a b e =
-      let long : length (g.joins ++ j ∷ []) ≡ suc (length g.joins) = omega (arith, length-append g.joins (j ∷ [])) in
-      ap (λ n. leads (g.joins ++ j ∷ []) n a b) long ∙ leads-more g.joins j (length g.joins) a b e
+  tests : (list_all (λ s. not (is_some s.params) || has_stayed g wired_on s.host) ss ≡ true) × (agree new ≡ true)
+  unfolding stays
+  tests = and_parts (list_all (λ s. not (is_some s.params) || has_stayed g wired_on s.host) ss) (agree new) stay
 
-  way-more : (host x : ℕ) → on_way g host x ≡ true → on_way wired_on host x ≡ true
-  unfolding on_way
-  way-more host x e = by (option_map_or (λ c. is_capture c.kind) (comp_of g host) false) e
-    where
-      by : (h : Bool) → cond h (reaches g x host) (reaches g host x) ≡ true → cond h (reaches wired_on x host) (reaches wired_on host x) ≡ true
-      by true e = reach-more x host e
-      by false e = reach-more host x e
-
-  -- the way of a stream with parameters holds no more
-  way-less : (s : StreamView) → (is_some s.params && has_grown g wired_on s.host) ≡ false → is_some s.params ≡ true → (x : ℕ) → is_among nodes x ≡ true → on_way wired_on s.host x ≡ true → on_way g s.host x ≡ true
-  way-less s fixed has x there now =
-      let none : has_grown g wired_on s.host ≡ false = sym (ap (λ h. h && has_grown g wired_on s.host) has) ∙ fixed in
-      let at : (on_way wired_on s.host x && not (on_way g s.host x)) ≡ false = any-false (λ x. on_way wired_on s.host x && not (on_way g s.host x)) nodes x (ap (λ (ids : List ℕ). list_any (λ x. on_way wired_on s.host x && not (on_way g s.host x)) (components g ++ ids)) (sym (buffers-joined j g.edges)) ∙ none) there in
-      by (on_way g s.host x) (sym (ap (λ h. h && not (on_way g s.host x)) now) ∙ at)
-    where
-      by : (h : Bool) → not h ≡ false → h ≡ true
-      by true e = refl
-      by false e = absurd (true≢false e)
-
-  -- the same of each stream
+  -- the way of a stream with parameters holds what it held
   abbrev Holds : StreamView → Type 0
   Holds s = is_some s.params ≡ true → (x : ℕ) → is_among nodes x ≡ true → on_way wired_on s.host x ≡ on_way g s.host x
 
-  same-way : (s : StreamView) → (is_some s.params && has_grown g wired_on s.host) ≡ false → Holds s
-  same-way s fixed has x there = by (on_way g s.host x) refl
-    where
-      by : (h : Bool) → on_way g s.host x ≡ h → on_way wired_on s.host x ≡ h
-      by true e = way-more s.host x e
-      by false e = false_from_ne_true (on_way wired_on s.host x) (λ now. true≢false (sym (way-less s fixed has x there now) ∙ e))
-
-  all-hold : (xs : List StreamView) → list_any (λ s. is_some s.params && has_grown g wired_on s.host) xs ≡ false → AllByRecursion Holds xs
-  all-hold [] none = tt
-  all-hold (s ∷ xs) none =
-      let parts = or_parts (is_some s.params && has_grown g wired_on s.host) (list_any (λ s. is_some s.params && has_grown g wired_on s.host) xs) none in
-      (same-way s parts.0, all-hold xs parts.1)
-
   ways : AllByRecursion Holds ss
-  unfolding would_grow
-  ways = all-hold ss grow
+  ways = all-by (λ s. (not (is_some s.params) || has_stayed g wired_on s.host) ≡ true) Holds
+      (λ s is has x there. stayed-at g wired_on s.host (sym (ap (λ h. not h || has_stayed g wired_on s.host) has) ∙ is) x (among-left nodes (components wired_on ++ buffers wired_on) x there)) ss
+      (all-test (λ (s : StreamView). not (is_some s.params) || has_stayed g wired_on s.host) ss tests.0)
 
   -- ---- what is Live
 
@@ -233,26 +196,12 @@ module _ (g : Graph) (j : Join) (wired : IsWired g) (free : is_joined g j.source
       ∙ counted (λ e. e.source) c g.edges (all-by (IsFree g j) (λ e. is_end (joined_edge j e).source c ≡ is_end e.source c) (λ e fr. source-same c e fr other) g.edges frees)
       ∙ sym (ends-agree (λ (e : Edge). e.source) c g.edges wired.buffers)
 
-  -- one sink more, at most
-  counted-sinks : (c : ℕ) (es : List Edge) → AllByRecursion (IsFree g j) es → (length (filter (λ e. is_end e.sink c) es) ≤ length (filter (λ e. is_end e.sink c) (map (joined_edge j) es))) × (length (filter (λ e. is_end e.sink c) (map (joined_edge j) es)) ≤ length (filter (λ e. is_end e.sink c) es) + length (filter (λ e. e.buffer == j.source) es))
-  counted-sinks c [] fr = (omega arith, omega arith)
-  counted-sinks c (e ∷ es) fr = step (is_end e.sink c) (is_end (joined_edge j e).sink c) (e.buffer == j.source) (kept (e.buffer == j.source) refl (e.buffer == j.sink)) (set (e.buffer == j.source) (e.buffer == j.sink)) (counted-sinks c es fr.1)
+  -- one end more, at most, where the join gives an edge such an end
+  counted-more : (pick : Edge → Option ℕ) (gets : Edge → Bool) (c : ℕ) (es : List Edge) → AllByRecursion (λ e. (is_end (pick e) c ≡ true → is_end (pick (joined_edge j e)) c ≡ true) × (is_end (pick (joined_edge j e)) c ≡ true → (is_end (pick e) c ≡ true) ⊎ (gets e ≡ true))) es → (length (filter (λ e. is_end (pick e) c) es) ≤ length (filter (λ e. is_end (pick e) c) (map (joined_edge j) es))) × (length (filter (λ e. is_end (pick e) c) (map (joined_edge j) es)) ≤ length (filter (λ e. is_end (pick e) c) es) + length (filter gets es))
+  counted-more pick gets c [] all = (omega arith, omega arith)
+  counted-more pick gets c (e ∷ es) all = step (is_end (pick e) c) (is_end (pick (joined_edge j e)) c) (gets e) all.0.0 all.0.1 (counted-more pick gets c es all.1)
     where
-      none : (o : Option ℕ) → is_some o ≡ false → is_end o c ≡ true → ⊥
-      none None e is = false≢true is
-      none (Some n) e is = true≢false e
-
-      kept : (h : Bool) → (e.buffer == j.source) ≡ h → (k : Bool) → is_end e.sink c ≡ true → is_end (sided h k j e).sink c ≡ true
-      kept true same k is = absurd (none e.sink (fr.0.from same).0 is)
-      kept false same true is = is
-      kept false same false is = is
-
-      set : (h k : Bool) → is_end (sided h k j e).sink c ≡ true → (is_end e.sink c ≡ true) ⊎ (h ≡ true)
-      set true k is = inr refl
-      set false true is = inl is
-      set false false is = inl is
-
-      step : (p q r : Bool) → (p ≡ true → q ≡ true) → (q ≡ true → (p ≡ true) ⊎ (r ≡ true)) → (length (filter (λ e. is_end e.sink c) es) ≤ length (filter (λ e. is_end e.sink c) (map (joined_edge j) es))) × (length (filter (λ e. is_end e.sink c) (map (joined_edge j) es)) ≤ length (filter (λ e. is_end e.sink c) es) + length (filter (λ e. e.buffer == j.source) es)) → (length (cond p (e ∷ filter (λ e. is_end e.sink c) es) (filter (λ e. is_end e.sink c) es)) ≤ length (cond q (joined_edge j e ∷ filter (λ e. is_end e.sink c) (map (joined_edge j) es)) (filter (λ e. is_end e.sink c) (map (joined_edge j) es)))) × (length (cond q (joined_edge j e ∷ filter (λ e. is_end e.sink c) (map (joined_edge j) es)) (filter (λ e. is_end e.sink c) (map (joined_edge j) es))) ≤ length (cond p (e ∷ filter (λ e. is_end e.sink c) es) (filter (λ e. is_end e.sink c) es)) + length (cond r (e ∷ filter (λ e. e.buffer == j.source) es) (filter (λ e. e.buffer == j.source) es)))
+      step : (p q r : Bool) → (p ≡ true → q ≡ true) → (q ≡ true → (p ≡ true) ⊎ (r ≡ true)) → (length (filter (λ e. is_end (pick e) c) es) ≤ length (filter (λ e. is_end (pick e) c) (map (joined_edge j) es))) × (length (filter (λ e. is_end (pick e) c) (map (joined_edge j) es)) ≤ length (filter (λ e. is_end (pick e) c) es) + length (filter gets es)) → (length (cond p (e ∷ filter (λ e. is_end (pick e) c) es) (filter (λ e. is_end (pick e) c) es)) ≤ length (cond q (joined_edge j e ∷ filter (λ e. is_end (pick e) c) (map (joined_edge j) es)) (filter (λ e. is_end (pick e) c) (map (joined_edge j) es)))) × (length (cond q (joined_edge j e ∷ filter (λ e. is_end (pick e) c) (map (joined_edge j) es)) (filter (λ e. is_end (pick e) c) (map (joined_edge j) es))) ≤ length (cond p (e ∷ filter (λ e. is_end (pick e) c) es) (filter (λ e. is_end (pick e) c) es)) + length (cond r (e ∷ filter gets es) (filter gets es)))
       step true true true f h rest = (omega (arith, rest.0), omega (arith, rest.1))
       step true true false f h rest = (omega (arith, rest.0), omega (arith, rest.1))
       step true false r f h rest = absurd (false≢true (f refl))
@@ -265,21 +214,58 @@ module _ (g : Graph) (j : Join) (wired : IsWired g) (free : is_joined g j.source
       step false false true f h rest = (omega (arith, rest.0), omega (arith, rest.1))
       step false false false f h rest = (omega (arith, rest.0), omega (arith, rest.1))
 
-  one-source : length (filter (λ e. e.buffer == j.source) g.edges) ≤ 1
-  one-source = by (one-key (λ (e : Edge). e.buffer) j.source (λ e. Unit {0}) g.edges wired.buffers (all-any (λ (e : Edge). Unit {0}) (λ e. tt) g.edges))
+  never-end : (o : Option ℕ) (c : ℕ) → is_some o ≡ false → is_end o c ≡ true → ⊥
+  never-end None c e is = false≢true is
+  never-end (Some n) c e is = true≢false e
+
+  sink-more : (c : ℕ) (e : Edge) → IsFree g j e → (is_end e.sink c ≡ true → is_end (joined_edge j e).sink c ≡ true) × (is_end (joined_edge j e).sink c ≡ true → (is_end e.sink c ≡ true) ⊎ ((e.buffer == j.source) ≡ true))
+  sink-more c e fr = (kept (e.buffer == j.source) refl (e.buffer == j.sink), set (e.buffer == j.source) (e.buffer == j.sink))
     where
-      by : (filter (λ e. e.buffer == j.source) g.edges ≡ []) ⊎ ((e : Edge) × Unit {0} × ((e.buffer == j.source) ≡ true) × (filter (λ e. e.buffer == j.source) g.edges ≡ e ∷ [])) → length (filter (λ e. e.buffer == j.source) g.edges) ≤ 1
-      by (inl none) = let is : length (filter (λ e. e.buffer == j.source) g.edges) ≡ 0 = ap (λ (es : List Edge). length es) none in omega (arith, is)
-      by (inr one) = let is : length (filter (λ e. e.buffer == j.source) g.edges) ≡ 1 = ap (λ (es : List Edge). length es) one.3 in omega (arith, is)
+      kept : (h : Bool) → (e.buffer == j.source) ≡ h → (k : Bool) → is_end e.sink c ≡ true → is_end (sided h k j e).sink c ≡ true
+      kept true same k is = absurd (never-end e.sink c (fr.from same).0 is)
+      kept false same true is = is
+      kept false same false is = is
+
+      set : (h k : Bool) → is_end (sided h k j e).sink c ≡ true → (is_end e.sink c ≡ true) ⊎ (h ≡ true)
+      set true k is = inr refl
+      set false true is = inl is
+      set false false is = inl is
+
+  source-more : (c : ℕ) (e : Edge) → IsFree g j e → (is_end e.source c ≡ true → is_end (joined_edge j e).source c ≡ true) × (is_end (joined_edge j e).source c ≡ true → (is_end e.source c ≡ true) ⊎ ((e.buffer == j.sink) ≡ true))
+  source-more c e fr = (kept (e.buffer == j.source) (e.buffer == j.sink) refl, set (e.buffer == j.source) (e.buffer == j.sink))
+    where
+      kept : (h k : Bool) → (e.buffer == j.sink) ≡ k → is_end e.source c ≡ true → is_end (sided h k j e).source c ≡ true
+      kept true k same is = is
+      kept false true same is = absurd (never-end e.source c (fr.to same).0 is)
+      kept false false same is = is
+
+      set : (h k : Bool) → is_end (sided h k j e).source c ≡ true → (is_end e.source c ≡ true) ⊎ (k ≡ true)
+      set true k is = inl is
+      set false true is = inr refl
+      set false false is = inl is
+
+  one-buffer : (n : ℕ) → length (filter (λ e. e.buffer == n) g.edges) ≤ 1
+  one-buffer n = by (one-key (λ (e : Edge). e.buffer) n (λ e. Unit {0}) g.edges wired.buffers (all-any (λ (e : Edge). Unit {0}) (λ e. tt) g.edges))
+    where
+      by : (filter (λ e. e.buffer == n) g.edges ≡ []) ⊎ ((e : Edge) × Unit {0} × ((e.buffer == n) ≡ true) × (filter (λ e. e.buffer == n) g.edges ≡ e ∷ [])) → length (filter (λ e. e.buffer == n) g.edges) ≤ 1
+      by (inl none) = let is : length (filter (λ e. e.buffer == n) g.edges) ≡ 0 = ap (λ (es : List Edge). length es) none in omega (arith, is)
+      by (inr one) = let is : length (filter (λ e. e.buffer == n) g.edges) ≡ 1 = ap (λ (es : List Edge). length es) one.3 in omega (arith, is)
 
   ins-more : (c : ℕ) → (length (ins g c) ≤ length (ins wired_on c)) × (length (ins wired_on c) ≤ length (ins g c) + 1)
   ins-more c =
-      let n = counted-sinks c g.edges frees in
+      let n = counted-more (λ e. e.sink) (λ e. e.buffer == j.source) c g.edges (all-by (IsFree g j) (λ e. (is_end e.sink c ≡ true → is_end (joined_edge j e).sink c ≡ true) × (is_end (joined_edge j e).sink c ≡ true → (is_end e.sink c ≡ true) ⊎ ((e.buffer == j.source) ≡ true))) (sink-more c) g.edges frees) in
       let old_ins = ends-agree (λ (e : Edge). e.sink) c g.edges wired.buffers in
       let new_ins = ends-agree (λ (e : Edge). e.sink) c (map (joined_edge j) g.edges) distinct in
-      (omega (arith, n.0, old_ins, new_ins), omega (arith, n.1, old_ins, new_ins, one-source))
+      (omega (arith, n.0, old_ins, new_ins), omega (arith, n.1, old_ins, new_ins, one-buffer j.source))
 
-  -- where the join goes to a component, it takes one more in; and one that is ready takes no more out
+  outs-more : (c : ℕ) → (length (outs g c) ≤ length (outs wired_on c)) × (length (outs wired_on c) ≤ length (outs g c) + 1)
+  outs-more c =
+      let n = counted-more (λ e. e.source) (λ e. e.buffer == j.sink) c g.edges (all-by (IsFree g j) (λ e. (is_end e.source c ≡ true → is_end (joined_edge j e).source c ≡ true) × (is_end (joined_edge j e).source c ≡ true → (is_end e.source c ≡ true) ⊎ ((e.buffer == j.sink) ≡ true))) (source-more c) g.edges frees) in
+      let old_outs = ends-agree (λ (e : Edge). e.source) c g.edges wired.buffers in
+      let new_outs = ends-agree (λ (e : Edge). e.source) c (map (joined_edge j) g.edges) distinct in
+      (omega (arith, n.0, old_outs, new_outs), omega (arith, n.1, old_outs, new_outs, one-buffer j.sink))
+
+  -- where the join goes to a component, it takes one more in; and where it comes from one, one more out
   room-in : (c : Comp) → find (λ x. x.id == c.id) g.comps ≡ Some c → leads_out g j.source j.sink ≡ true → (j.sink == c.id) ≡ true → nat_le (length (ins g c.id) + 1) (kind_ins c.kind) ≡ true
   room-in c found out same =
       let is : j.sink ≡ c.id = eqb-true j.sink c.id same in
@@ -287,26 +273,33 @@ module _ (g : Graph) (j : Join) (wired : IsWired g) (free : is_joined g j.source
       let room : has_free_in g j.sink (kind_at g j.sink) ≡ true = (and_parts (leads_out g j.source j.sink) (has_free_in g j.sink (kind_at g j.sink)) (sym (ap (λ h. (h && has_free_out g j.source (kind_at g j.source)) || (leads_out g j.source j.sink && has_free_in g j.sink (kind_at g j.sink))) no_in) ∙ takes)).1 in
       sym (ap (λ n. has_free_in g n (kind_at g n)) is ∙ ap (λ (o : Option Comp). has_free_in g c.id (option_map (λ c. c.kind) o)) found) ∙ room
 
-  full-source : (c : Comp) → find (λ x. x.id == c.id) g.comps ≡ Some c → is_ready_comp g c ≡ true → leads_in g j.source j.sink ≡ true → (j.source == c.id) ≡ false
-  full-source c found ready into = false_from_ne_true (j.source == c.id) (λ same.
+  room-out : (c : Comp) → find (λ x. x.id == c.id) g.comps ≡ Some c → leads_in g j.source j.sink ≡ true → (j.source == c.id) ≡ true → nat_le (length (outs g c.id) + 1) (kind_outs c.kind) ≡ true
+  room-out c found into same =
       let is : j.source ≡ c.id = eqb-true j.source c.id same in
       let no_out : leads_out g j.source j.sink ≡ false = false_from_ne_true (leads_out g j.source j.sink) (λ out. leads-apart into out) in
       let room : has_free_out g j.source (kind_at g j.source) ≡ true = first (leads_in g j.source j.sink) (has_free_out g j.source (kind_at g j.source)) (sym (ap (λ h. (leads_in g j.source j.sink && has_free_out g j.source (kind_at g j.source)) || (h && has_free_in g j.sink (kind_at g j.sink))) no_out) ∙ takes) in
-      let here : has_free_out g c.id (Some c.kind) ≡ true = sym (ap (λ n. has_free_out g n (kind_at g n)) is ∙ ap (λ (o : Option Comp). has_free_out g c.id (option_map (λ c. c.kind) o)) found) ∙ room in
-      full-out c.kind (length (ins g c.id)) (length (outs g c.id)) (fits-comp g c ready) here)
+      sym (ap (λ n. has_free_out g n (kind_at g n)) is ∙ ap (λ (o : Option Comp). has_free_out g c.id (option_map (λ c. c.kind) o)) found) ∙ room
     where
       first : (a b : Bool) → ((a && b) || false) ≡ true → b ≡ true
       first true true e = refl
       first true false e = absurd (false≢true e)
       first false b e = absurd (false≢true e)
 
-  comp-joined : (c : Comp) → find (λ x. x.id == c.id) g.comps ≡ Some c → is_ready_comp g c ≡ true → is_ready_comp wired_on c ≡ true
-  comp-joined c found ready = and_from (is_complete g c.pipe) _ (complete-comp g c ready) (ap (fits_kind c.kind (length (ins wired_on c.id))) (outs-joined c.id (full-source c found ready)) ∙ by (leads_out g j.source j.sink) refl (j.sink == c.id) refl)
+  ins-fit : (c : Comp) → find (λ x. x.id == c.id) g.comps ≡ Some c → is_ready_comp g c ≡ true → fits_kind c.kind (length (ins wired_on c.id)) (length (outs g c.id)) ≡ true
+  ins-fit c found ready = by (leads_out g j.source j.sink) refl (j.sink == c.id) refl
     where
       by : (h : Bool) → leads_out g j.source j.sink ≡ h → (k : Bool) → (j.sink == c.id) ≡ k → fits_kind c.kind (length (ins wired_on c.id)) (length (outs g c.id)) ≡ true
       by true out true same = let n = ins-more c.id in fits-more c.kind (length (ins g c.id)) (length (outs g c.id)) (length (ins wired_on c.id)) n.0 n.1 (room-in c found out same) (fits-comp g c ready)
       by true out false other = ap (λ m. fits_kind c.kind m (length (outs g c.id))) (ins-joined c.id (λ leads. other)) ∙ fits-comp g c ready
       by false out k is = ap (λ m. fits_kind c.kind m (length (outs g c.id))) (ins-joined c.id (λ leads. absurd (true≢false (sym leads ∙ out)))) ∙ fits-comp g c ready
+
+  comp-joined : (c : Comp) → find (λ x. x.id == c.id) g.comps ≡ Some c → is_ready_comp g c ≡ true → is_ready_comp wired_on c ≡ true
+  comp-joined c found ready = and_from (is_complete g c.pipe) _ (complete-comp g c ready) (by (leads_in g j.source j.sink) refl (j.source == c.id) refl)
+    where
+      by : (h : Bool) → leads_in g j.source j.sink ≡ h → (k : Bool) → (j.source == c.id) ≡ k → fits_kind c.kind (length (ins wired_on c.id)) (length (outs wired_on c.id)) ≡ true
+      by true into true same = let n = outs-more c.id in fits-more_out c.kind (length (ins wired_on c.id)) (length (outs g c.id)) (length (outs wired_on c.id)) n.0 n.1 (room-out c found into same) (ins-fit c found ready)
+      by true into false other = ap (fits_kind c.kind (length (ins wired_on c.id))) (outs-joined c.id (λ leads. other)) ∙ ins-fit c found ready
+      by false into k is = ap (fits_kind c.kind (length (ins wired_on c.id))) (outs-joined c.id (λ leads. absurd (true≢false (sym leads ∙ into)))) ∙ ins-fit c found ready
 
   edge-joined : (e : Edge) → is_ready_edge g e ≡ true → is_ready_edge wired_on (joined_edge j e) ≡ true
   edge-joined e ready = by (e.buffer == j.source) (e.buffer == j.sink)
@@ -368,47 +361,12 @@ module _ (g : Graph) (j : Join) (wired : IsWired g) (free : is_joined g j.source
   sets-joined [] hold sets = tt
   sets-joined (s ∷ xs) hold sets = (set-joined s hold.0 sets.0, sets-joined xs hold.1 sets.1)
 
-  -- ---- streams agree
-
-  touch-less : (s t : StreamView) → Holds s → Holds t → is_some s.params ≡ true → is_some t.params ≡ true → touch g s.host t.host ≡ false → touch wired_on s.host t.host ≡ false
-  touch-less s t hold_s hold_t has_s has_t apart =
-      ap (λ (ids : List ℕ). list_any (λ x. on_way wired_on s.host x && on_way wired_on t.host x) (components g ++ ids)) (buffers-joined j g.edges)
-      ∙ any-less (λ x. on_way wired_on s.host x && on_way wired_on t.host x) (λ x. on_way g s.host x && on_way g t.host x) nodes nodes
-      (λ x there e. sym (ap (λ (p : Bool × Bool). p.0 && p.1) (λ i. (hold_s has_s x there i, hold_t has_t x there i))) ∙ e)
-      (λ x there. there) apart
-
-  cells : (s : StreamView) → Holds s → (ts : List StreamView) → AllByRecursion Holds ts → list_all (λ t. not (touch g s.host t.host) || same_shape s.params t.params) ts ≡ true → list_all (λ t. not (touch wired_on s.host t.host) || same_shape s.params t.params) ts ≡ true
-  cells s hold_s [] hold is = refl
-  cells s hold_s (t ∷ ts) hold is =
-      let parts = and_parts (not (touch g s.host t.host) || same_shape s.params t.params) (list_all (λ t. not (touch g s.host t.host) || same_shape s.params t.params) ts) is in
-      and_from _ _ (by (same_shape s.params t.params) refl parts.0) (cells s hold_s ts hold.1 parts.1)
-    where
-      at : (h : Bool) → (not h || false) ≡ true → h ≡ false
-      at true e = absurd (false≢true e)
-      at false e = refl
-
-      by : (h : Bool) → same_shape s.params t.params ≡ h → (not (touch g s.host t.host) || h) ≡ true → (not (touch wired_on s.host t.host) || h) ≡ true
-      by true e is = or_right (not (touch wired_on s.host t.host)) true refl
-      by false e is =
-          let has = both-some s.params t.params e in
-          ap (λ h. not h || false) (touch-less s t hold_s hold.0 has.0 has.1 (at (touch g s.host t.host) is))
-
-  rows : (xs : List StreamView) → AllByRecursion Holds xs → list_all (λ s. list_all (λ t. not (touch g s.host t.host) || same_shape s.params t.params) ss) xs ≡ true → list_all (λ s. list_all (λ t. not (touch wired_on s.host t.host) || same_shape s.params t.params) ss) xs ≡ true
-  rows [] hold is = refl
-  rows (s ∷ xs) hold is =
-      let parts = and_parts (list_all (λ t. not (touch g s.host t.host) || same_shape s.params t.params) ss) (list_all (λ s. list_all (λ t. not (touch g s.host t.host) || same_shape s.params t.params) ss) xs) is in
-      and_from _ _ (cells s hold.0 ss ways parts.0) (rows xs hold.1 parts.1)
-
-  agree-joined : agree new ≡ true
-  unfolding agree
-  agree-joined = rows ss ways played.agreed
-
   pub played-joined : AreStreamsPlayable new
   played-joined = record {
     hosts = played.hosts;
     owned = played.owned;
     each = sets-joined ss ways played.each;
-    agreed = agree-joined;
+    agreed = tests.1;
   }
 
   -- ---- what flows

@@ -2,6 +2,7 @@ pub mod Acyclic
 pub mod Ascending
 pub mod BootKept
 pub mod ChangeKept
+pub mod Echoes
 pub mod Fewer
 pub mod FewerComps
 pub mod FewerEdges
@@ -31,10 +32,12 @@ pub mod SeenKept
 pub mod Settings
 pub mod Sides
 pub mod Stagings
+pub mod Staying
 pub mod Stays
 pub mod StreamLaws
 pub mod StreamsKept
 pub mod TickKept
 pub mod Tiling
+pub mod Touching
 pub mod Trips
 pub mod Unreached

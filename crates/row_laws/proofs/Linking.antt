@@ -11,7 +11,7 @@ use Rattle.stream_law.specs.declared.graph.Graph.{Graph}
 use Rattle.stream_law.specs.declared.stream.StreamView.{StreamView}
 use Rattle.stream_law.specs.Placed.{placed}
 use Rattle.stream_law.specs.Ways.{is_end, leads}
-use Rattle.stream_law.specs.Joins.{joined_edge, with_join, would_cycle, would_grow}
+use Rattle.stream_law.specs.Joins.{joined_edge, with_join, would_cycle, would_stay}
 use Rattle.stream_law.proofs.Placing.{list_any-placed}
 use Rattle.mbox_link.specs.Step.{has_comp, has_edge, leads_in, leads_out, is_joined, takes_join}
 use Rattle.row_laws.specs.Wired.{IsWired, HasJoinedSides, IsJoinedFrom, IsJoinedTo, is_at}
@@ -77,7 +77,7 @@ linked-other g pipes linked = record {
 
 -- ---- a join more
 
-module _ (g : Graph) (j : Join) (wired : IsWired g) (free : is_joined g j.source j.sink ≡ false) (takes : takes_join g j.source j.sink ≡ true) (ss : List StreamView) (played : AreStreamsPlayable (record { graph = g; streams = ss })) (grow : would_grow g ss j.source j.sink ≡ false) (linked : HasJoinedSides g) where
+module _ (g : Graph) (j : Join) (wired : IsWired g) (free : is_joined g j.source j.sink ≡ false) (takes : takes_join g j.source j.sink ≡ true) (ss : List StreamView) (played : AreStreamsPlayable (record { graph = g; streams = ss })) (stay : would_stay (record { graph = g; streams = ss }) j.source j.sink ≡ true) (linked : HasJoinedSides g) where
   abbrev linked_on : Graph
   linked_on = with_join g j
 
@@ -87,7 +87,7 @@ module _ (g : Graph) (j : Join) (wired : IsWired g) (free : is_joined g j.source
       (cond to (record { buffer = e.buffer; pipe = e.pipe; size = e.size; source = Some j.source; sink = e.sink }) e)
 
   free-edges : AllByRecursion (IsFree g j) g.edges
-  free-edges = frees g j wired free takes ss played grow
+  free-edges = frees g j wired free takes ss played stay
 
   none-end : (o : Option ℕ) (c : ℕ) → is_some o ≡ false → is_end o c ≡ false
   none-end None c e = refl
@@ -126,7 +126,7 @@ module _ (g : Graph) (j : Join) (wired : IsWired g) (free : is_joined g j.source
   at-in into (e ∷ es) fr there = by (or_cases (e.buffer == j.sink) (list_any (λ e. e.buffer == j.sink) es) there) (at-in into es fr.1)
     where
       new : (h t : Bool) → (e.buffer == j.source) ≡ h → (e.buffer == j.sink) ≡ t → t ≡ true → is_at j (sided h t e) ≡ true
-      new true t from to so = absurd (leads-apart g j wired free takes ss played grow into (fr.0.from from).2)
+      new true t from to so = absurd (leads-apart g j wired free takes ss played stay into (fr.0.from from).2)
       new false true from to so = or_left (e.buffer == j.sink && (j.source == j.source)) _ (and_from (e.buffer == j.sink) (j.source == j.source) to (eq-eqb j.source j.source refl))
       new false false from to so = absurd (false≢true so)
 

@@ -1,7 +1,8 @@
 -- What one buffer more, and other pipelines, keep of views.
-use Rattle.std.proofs.Common.{◌≡◌, refl, sym, ap, ◌∙◌, ℕ, suc, List, [], ◌∷◌, map, filter, length, Option, Some, None, Bool, true, false, cond, not, ◌==◌, ◌&&◌, ◌||◌}
-use Rattle.std.proofs.lemmas.Bool.{or_from, or_parts, or_left, or_right, and_parts, and_from, eq-eqb}
+use Rattle.std.proofs.Common.{◌≡◌, refl, sym, ap, ◌∙◌, ℕ, suc, List, [], ◌∷◌, ◌++◌, map, filter, length, Option, Some, None, Bool, true, false, cond, not, ◌==◌, ◌&&◌, ◌||◌}
+use Rattle.std.proofs.lemmas.Bool.{true≢false, or_from, or_parts, or_left, or_right, and_parts, and_from, eqb-true, eq-eqb}
 use Rattle.std.specs.Prelude.{nat_lt, is_some, option_and_then}
+use Rattle.std.specs.Option.{option_map_or}
 use Rattle.std.specs.List.{list_any, list_all, AllByRecursion}
 use Rattle.sof_base.specs.declared.format.Params.{Params}
 use Rattle.stream_law.specs.declared.graph.Comp.{Comp}
@@ -11,8 +12,9 @@ use Rattle.stream_law.specs.declared.graph.Graph.{Graph}
 use Rattle.stream_law.specs.declared.stream.StreamView.{StreamView}
 use Rattle.stream_law.specs.Placed.{placed, HasDistinct}
 use Rattle.stream_law.specs.State.{View}
-use Rattle.stream_law.specs.Ways.{edge_of, source_of, sink_of, ins, outs, is_end, reaches, on_way, live, live_end, rate_of, channels_of, touch, same_shape, agree}
+use Rattle.stream_law.specs.Ways.{edge_of, components, buffers, source_of, sink_of, ins, outs, is_end, reaches, is_echo, way_joins, ways_to, on_way, is_live_phase, live, live_end, rate_of, channels_of, touch, same_shape, agree}
 use Rattle.stream_law.specs.Joins.{fits_kind}
+use Rattle.stream_law.specs.Order.{is_among}
 use Rattle.stream_law.specs.Seen.{flows}
 use Rattle.stream_law.proofs.Placing.{list_any-placed, find-placed_apart, find-placed_there, HasDistinct-placed}
 use Rattle.ipc3_model.specs.Allowed.{is_period_allowed}
@@ -21,8 +23,10 @@ use Rattle.row_laws.specs.Wired.{IsWired, IsSide, IsBetween, is_node}
 use Rattle.row_laws.specs.Played.{AreStreamsPlayable, IsStreamSet, IsSetBy, is_idle}
 use Rattle.row_laws.proofs.Ids.{any-ids}
 use Rattle.row_laws.proofs.Found.{ends-agree}
-use Rattle.row_laws.proofs.Unreached.{eqb-turned, IsApart, apart, off-way}
-use Rattle.row_laws.proofs.Growing.{all-placed, list_all-placed, all-by, any-same, all-same, hosts-apart}
+use Rattle.row_laws.proofs.Unreached.{eqb-turned, IsApart, apart, edge-lost, off-way}
+use Rattle.row_laws.proofs.Echoes.{ends-apart, echo-same, way-same}
+use Rattle.row_laws.proofs.Touching.{touch-by, test-kept}
+use Rattle.row_laws.proofs.Growing.{all-placed, list_all-placed, all-by, any-same, find-same, all-same, hosts-apart}
 
 -- ---- a buffer more, which is joined to nothing
 
@@ -60,24 +64,58 @@ module _ (g : Graph) (id pipe size : ℕ) (gone : is_node g id ≡ false) (wired
   clear : IsApart id g.joins
   clear = apart g id gone g.joins wired.ends
 
-  way-same : (n x : ℕ) → on_way longer n x ≡ on_way g n x
-  unfolding on_way reaches
-  way-same n x = refl
-
-  pub live-longer : (x : ℕ) → live new x ≡ live old x
-  unfolding live on_way reaches
-  live-longer x = refl
-
-  pub channels-longer : (x : ℕ) → channels_of new x ≡ channels_of old x
-  unfolding channels_of on_way reaches
-  channels-longer x = refl
-
-  pub rate-longer : (x : ℕ) → rate_of new x ≡ rate_of old x
-  unfolding rate_of on_way reaches
-  rate-longer x = refl
+  no-comp : has_comp g id ≡ false
+  no-comp = (or_parts (has_comp g id) (has_edge g id) gone).0
 
   edge-other : (b : ℕ) → (b == id) ≡ false → edge_of longer b ≡ edge_of g b
   edge-other b other = find-placed_apart (λ e. e.buffer == b) (λ e. e.buffer) fresh g.edges (eqb-turned b id other)
+
+  edge-new : edge_of longer id ≡ Some fresh
+  edge-new = find-placed_there (λ e. e.buffer == id) (λ e. e.buffer) fresh g.edges (eq-eqb id id refl) no-edge
+
+  -- a side of a buffer is what it was: the new one has none
+  side-was : (pick : Edge → Option ℕ) → pick fresh ≡ None → (b : ℕ) → option_and_then pick (edge_of g b) ≡ option_and_then pick (edge_of longer b)
+  side-was pick none b = by (b == id) refl
+    where
+      by : (h : Bool) → (b == id) ≡ h → option_and_then pick (edge_of g b) ≡ option_and_then pick (edge_of longer b)
+      by true same =
+          let is : b ≡ id = eqb-true b id same in
+          ap (λ n. option_and_then pick (edge_of g n)) is ∙ ap (λ (o : Option Edge). option_and_then pick o) (edge-lost g id no-edge) ∙ sym (ap (λ n. option_and_then pick (edge_of longer n)) is ∙ ap (λ (o : Option Edge). option_and_then pick o) edge-new ∙ none)
+      by false other = ap (λ (o : Option Edge). option_and_then pick o) (sym (edge-other b other))
+
+  source-was : (b : ℕ) → source_of g b ≡ source_of longer b
+  source-was = side-was (λ e. e.source) refl
+
+  sink-was : (b : ℕ) → sink_of g b ≡ sink_of longer b
+  sink-was = side-was (λ e. e.sink) refl
+
+  ends : (b : ℕ) → (is_end (source_of g b) id ≡ false) × (is_end (sink_of g b) id ≡ false)
+  ends = ends-apart g id no-comp wired.sides
+
+  echo-longer : (b : ℕ) → is_echo longer b ≡ true → (is_echo g b ≡ true) × (source_of longer b ≡ source_of g b) × (sink_of longer b ≡ sink_of g b)
+  echo-longer b is = (echo-same g longer id refl clear source-was sink-was ends (λ sort c other. refl) b ∙ is, sym (source-was b), sym (sink-was b))
+
+  way-longer : (n x : ℕ) → (n == id) ≡ false → on_way longer n x ≡ on_way g n x
+  way-longer n x other = sym (way-same g longer id refl clear source-was sink-was ends (λ sort c other. refl) n x other)
+
+  tests : (x : ℕ) → AllByRecursion (λ s. (is_live_phase s.phase && on_way longer s.host x) ≡ (is_live_phase s.phase && on_way g s.host x)) ss
+  tests x = all-by (λ s. (s.host == id) ≡ false) (λ s. (is_live_phase s.phase && on_way longer s.host x) ≡ (is_live_phase s.phase && on_way g s.host x)) (λ s e. ap (λ h. is_live_phase s.phase && h) (way-longer s.host x e)) ss far
+
+  pub live-longer : (x : ℕ) → live new x ≡ live old x
+  unfolding live
+  live-longer x = any-same (λ s. is_live_phase s.phase && on_way longer s.host x) (λ s. is_live_phase s.phase && on_way g s.host x) ss (tests x)
+
+  pub channels-longer : (x : ℕ) → channels_of new x ≡ channels_of old x
+  unfolding channels_of
+  channels-longer x =
+      ap (λ (o : Option StreamView). option_map_or (λ (p : Params). p.channels) (option_and_then (λ s. s.params) o) 0)
+      (find-same (λ s. is_live_phase s.phase && on_way longer s.host x) (λ s. is_live_phase s.phase && on_way g s.host x) ss (tests x))
+
+  pub rate-longer : (x : ℕ) → rate_of new x ≡ rate_of old x
+  unfolding rate_of
+  rate-longer x =
+      ap (λ (o : Option StreamView). option_map_or (λ (p : Params). p.rate) (option_and_then (λ s. s.params) o) 0)
+      (find-same (λ s. is_live_phase s.phase && on_way longer s.host x) (λ s. is_live_phase s.phase && on_way g s.host x) ss (tests x))
 
   end-longer : (o : Option ℕ) → live_end new o ≡ live_end old o
   end-longer None = refl
@@ -92,7 +130,7 @@ module _ (g : Graph) (id pipe size : ℕ) (gone : is_node g id ≡ false) (wired
   pub flows-fresh : flows new id ≡ false
   unfolding flows
   flows-fresh =
-      ap (λ (o : Option Edge). (live new id && live_end new (option_and_then (λ e. e.source) o)) && live_end new (option_and_then (λ e. e.sink) o)) (find-placed_there (λ e. e.buffer == id) (λ e. e.buffer) fresh g.edges (eq-eqb id id refl) no-edge)
+      ap (λ (o : Option Edge). (live new id && live_end new (option_and_then (λ e. e.source) o)) && live_end new (option_and_then (λ e. e.sink) o)) edge-new
       ∙ by (live new id)
     where
       by : (h : Bool) → ((h && false) && false) ≡ false
@@ -121,15 +159,15 @@ module _ (g : Graph) (id pipe size : ℕ) (gone : is_node g id ≡ false) (wired
       and_from _ _
       (all-same (λ x. not (on_way longer n x.id) || is_ready_comp longer x) (λ x. not (on_way g n x.id) || is_ready_comp g x) g.comps (each-comp g.comps) ∙ parts.0)
       (list_all-placed (λ e. not (on_way longer n e.buffer) || is_ready_edge g e) (λ e. e.buffer) fresh g.edges
-      ∙ and_from _ _ (ap (λ h. not h || is_ready_edge g fresh) (way-same n id ∙ off-way g n id other clear)) (all-same (λ e. not (on_way longer n e.buffer) || is_ready_edge g e) (λ e. not (on_way g n e.buffer) || is_ready_edge g e) g.edges (each-edge g.edges) ∙ parts.1))
+      ∙ and_from _ _ (ap (λ h. not h || is_ready_edge g fresh) (way-longer n id other ∙ off-way g n id other no-edge clear)) (all-same (λ e. not (on_way longer n e.buffer) || is_ready_edge g e) (λ e. not (on_way g n e.buffer) || is_ready_edge g e) g.edges (each-edge g.edges) ∙ parts.1))
     where
       each-comp : (xs : List Comp) → AllByRecursion (λ x. (not (on_way longer n x.id) || is_ready_comp longer x) ≡ (not (on_way g n x.id) || is_ready_comp g x)) xs
       each-comp [] = tt
-      each-comp (x ∷ xs) = (ap (λ (p : Bool × ℕ × ℕ). not p.0 || (is_complete g x.pipe && fits_kind x.kind p.1 p.2)) (λ i. (way-same n x.id i, ins-longer x.id i, outs-longer x.id i)), each-comp xs)
+      each-comp (x ∷ xs) = (ap (λ (p : Bool × ℕ × ℕ). not p.0 || (is_complete g x.pipe && fits_kind x.kind p.1 p.2)) (λ i. (way-longer n x.id other i, ins-longer x.id i, outs-longer x.id i)), each-comp xs)
 
       each-edge : (es : List Edge) → AllByRecursion (λ e. (not (on_way longer n e.buffer) || is_ready_edge g e) ≡ (not (on_way g n e.buffer) || is_ready_edge g e)) es
       each-edge [] = tt
-      each-edge (e ∷ es) = (ap (λ h. not h || is_ready_edge g e) (way-same n e.buffer), each-edge es)
+      each-edge (e ∷ es) = (ap (λ h. not h || is_ready_edge g e) (way-longer n e.buffer other), each-edge es)
 
   set-longer : (n : ℕ) (idle : Bool) (o : Option Params) → (n == id) ≡ false → IsSetBy g n idle o → IsSetBy longer n idle o
   set-longer n idle None other is_set = is_set
@@ -139,40 +177,32 @@ module _ (g : Graph) (id pipe size : ℕ) (gone : is_node g id ≡ false) (wired
   sets-longer [] apart sets = tt
   sets-longer (s ∷ xs) apart sets = (set-longer s.host (is_idle s.phase) s.params apart.0 sets.0, sets-longer xs apart.1 sets.1)
 
-  touch-longer : (s t : StreamView) → (s.host == id) ≡ false → touch longer s.host t.host ≡ touch g s.host t.host
-  touch-longer s t s-far =
-      any-ids (λ x. on_way longer s.host x && on_way longer t.host x) g.comps (placed (λ e. e.buffer) fresh g.edges)
-      ∙ ap (λ (p : Bool × Bool). p.0 || p.1) (λ i. (any-same (λ x. on_way longer s.host x.id && on_way longer t.host x.id) (λ x. on_way g s.host x.id && on_way g t.host x.id) g.comps (each-comp g.comps) i, edge-part i))
-      ∙ sym (any-ids (λ x. on_way g s.host x && on_way g t.host x) g.comps g.edges)
+  -- all but the new buffer was there
+  node-was : (a x : ℕ) → (a == id) ≡ false → is_among (components longer ++ buffers longer) x ≡ true → on_way g a x ≡ true → is_among (components g ++ buffers g) x ≡ true
+  node-was a x other there on = any-ids (λ n. n == x) g.comps g.edges ∙ by (id == x) refl (sym (ap (λ h. has_comp g x || h) (list_any-placed (λ e. e.buffer == x) (λ e. e.buffer) fresh g.edges)) ∙ sym (any-ids (λ n. n == x) g.comps (placed (λ e. e.buffer) fresh g.edges)) ∙ there)
     where
-      both : (x : ℕ) → (on_way longer s.host x && on_way longer t.host x) ≡ (on_way g s.host x && on_way g t.host x)
-      both x = ap (λ (p : Bool × Bool). p.0 && p.1) (λ i. (way-same s.host x i, way-same t.host x i))
+      by : (h : Bool) → (id == x) ≡ h → (has_comp g x || (h || has_edge g x)) ≡ true → is_node g x ≡ true
+      by true same is = absurd (true≢false (sym on ∙ ap (on_way g a) (sym (eqb-true id x same)) ∙ off-way g a id other no-edge clear))
+      by false apart is = is
 
-      each-comp : (xs : List Comp) → AllByRecursion (λ x. (on_way longer s.host x.id && on_way longer t.host x.id) ≡ (on_way g s.host x.id && on_way g t.host x.id)) xs
-      each-comp [] = tt
-      each-comp (x ∷ xs) = (both x.id, each-comp xs)
+  touch-longer : (s t : StreamView) → (s.host == id) ≡ false → (t.host == id) ≡ false → touch longer s.host t.host ≡ true → touch g s.host t.host ≡ true
+  touch-longer s t s-far t-far = touch-by g longer echo-longer s.host t.host (λ x. node-was s.host x s-far) (λ x. way-longer s.host x s-far) (λ x. way-longer t.host x t-far)
 
-      each-edge : (es : List Edge) → AllByRecursion (λ e. (on_way longer s.host e.buffer && on_way longer t.host e.buffer) ≡ (on_way g s.host e.buffer && on_way g t.host e.buffer)) es
-      each-edge [] = tt
-      each-edge (e ∷ es) = (both e.buffer, each-edge es)
+  cells : (s : StreamView) → (s.host == id) ≡ false → (ts : List StreamView) → AllByRecursion (λ t. (t.host == id) ≡ false) ts → list_all (λ t. not (touch g s.host t.host) || same_shape s.params t.params) ts ≡ true → list_all (λ t. not (touch longer s.host t.host) || same_shape s.params t.params) ts ≡ true
+  cells s s-far [] apart is = refl
+  cells s s-far (t ∷ ts) apart is =
+      let parts = and_parts (not (touch g s.host t.host) || same_shape s.params t.params) (list_all (λ t. not (touch g s.host t.host) || same_shape s.params t.params) ts) is in
+      and_from _ _ (test-kept (touch longer s.host t.host) (touch g s.host t.host) (same_shape s.params t.params) (touch-longer s t s-far apart.0) parts.0) (cells s s-far ts apart.1 parts.1)
 
-      edge-part : list_any (λ e. on_way longer s.host e.buffer && on_way longer t.host e.buffer) (placed (λ e. e.buffer) fresh g.edges) ≡ list_any (λ e. on_way g s.host e.buffer && on_way g t.host e.buffer) g.edges
-      edge-part =
-          list_any-placed (λ e. on_way longer s.host e.buffer && on_way longer t.host e.buffer) (λ e. e.buffer) fresh g.edges
-          ∙ ap (λ h. (h && on_way longer t.host id) || list_any (λ e. on_way longer s.host e.buffer && on_way longer t.host e.buffer) g.edges) (way-same s.host id ∙ off-way g s.host id s-far clear)
-          ∙ any-same (λ e. on_way longer s.host e.buffer && on_way longer t.host e.buffer) (λ e. on_way g s.host e.buffer && on_way g t.host e.buffer) g.edges (each-edge g.edges)
-
-  cells : (s : StreamView) → (s.host == id) ≡ false → (ts : List StreamView) → AllByRecursion (λ t. (not (touch longer s.host t.host) || same_shape s.params t.params) ≡ (not (touch g s.host t.host) || same_shape s.params t.params)) ts
-  cells s s-far [] = tt
-  cells s s-far (t ∷ ts) = (ap (λ h. not h || same_shape s.params t.params) (touch-longer s t s-far), cells s s-far ts)
-
-  rows : (xs : List StreamView) → AllByRecursion (λ s. (s.host == id) ≡ false) xs → AllByRecursion (λ s. list_all (λ t. not (touch longer s.host t.host) || same_shape s.params t.params) ss ≡ list_all (λ t. not (touch g s.host t.host) || same_shape s.params t.params) ss) xs
-  rows [] apart = tt
-  rows (s ∷ xs) apart = (all-same (λ t. not (touch longer s.host t.host) || same_shape s.params t.params) (λ t. not (touch g s.host t.host) || same_shape s.params t.params) ss (cells s apart.0 ss), rows xs apart.1)
+  rows : (xs : List StreamView) → AllByRecursion (λ s. (s.host == id) ≡ false) xs → list_all (λ s. list_all (λ t. not (touch g s.host t.host) || same_shape s.params t.params) ss) xs ≡ true → list_all (λ s. list_all (λ t. not (touch longer s.host t.host) || same_shape s.params t.params) ss) xs ≡ true
+  rows [] apart is = refl
+  rows (s ∷ xs) apart is =
+      let parts = and_parts (list_all (λ t. not (touch g s.host t.host) || same_shape s.params t.params) ss) (list_all (λ s. list_all (λ t. not (touch g s.host t.host) || same_shape s.params t.params) ss) xs) is in
+      and_from _ _ (cells s apart.0 ss far parts.0) (rows xs apart.1 parts.1)
 
   agree-longer : agree new ≡ true
   unfolding agree
-  agree-longer = all-same (λ s. list_all (λ t. not (touch longer s.host t.host) || same_shape s.params t.params) ss) (λ s. list_all (λ t. not (touch g s.host t.host) || same_shape s.params t.params) ss) ss (rows ss far) ∙ played.agreed
+  agree-longer = rows ss far played.agreed
 
   pub played-longer : AreStreamsPlayable new
   played-longer = record {
@@ -242,7 +272,7 @@ module _ (g : Graph) (pipes : List Pipe) (ss : List StreamView) (played : AreStr
         by false e = refl
 
     ready-other : (n : ℕ) → is_way_ready g n ≡ true → is_way_ready other n ≡ true
-    unfolding is_way_ready on_way reaches
+    unfolding is_way_ready on_way ways_to way_joins is_echo reaches
     ready-other n ready =
         let parts = and_parts (list_all (λ x. not (on_way g n x.id) || is_ready_comp g x) g.comps) (list_all (λ e. not (on_way g n e.buffer) || is_ready_edge g e) g.edges) ready in
         and_from _ _
@@ -254,7 +284,7 @@ module _ (g : Graph) (pipes : List Pipe) (ss : List StreamView) (played : AreStr
     set-other n idle (Some p) is_set = (is_set.0, is_set.1, is_set.2, ready-other n is_set.3)
 
     pub played-other : AreStreamsPlayable (record { graph = other; streams = ss })
-    unfolding agree on_way reaches
+    unfolding agree on_way ways_to way_joins is_echo reaches
     played-other = record {
       hosts = played.hosts;
       owned = played.owned;
@@ -263,19 +293,19 @@ module _ (g : Graph) (pipes : List Pipe) (ss : List StreamView) (played : AreStr
     }
 
   pub live-other : (x : ℕ) → live (record { graph = other; streams = ss }) x ≡ live (record { graph = g; streams = ss }) x
-  unfolding live on_way reaches
+  unfolding live on_way ways_to way_joins is_echo reaches
   live-other x = refl
 
   pub channels-other : (x : ℕ) → channels_of (record { graph = other; streams = ss }) x ≡ channels_of (record { graph = g; streams = ss }) x
-  unfolding channels_of on_way reaches
+  unfolding channels_of on_way ways_to way_joins is_echo reaches
   channels-other x = refl
 
   pub rate-other : (x : ℕ) → rate_of (record { graph = other; streams = ss }) x ≡ rate_of (record { graph = g; streams = ss }) x
-  unfolding rate_of on_way reaches
+  unfolding rate_of on_way ways_to way_joins is_echo reaches
   rate-other x = refl
 
   pub flows-other : (b : ℕ) → flows (record { graph = other; streams = ss }) b ≡ flows (record { graph = g; streams = ss }) b
-  unfolding flows live on_way reaches
+  unfolding flows live on_way ways_to way_joins is_echo reaches
   flows-other b = refl
 
   side-other : (o : Option ℕ) → IsSide g o → IsSide other o

@@ -1,7 +1,7 @@
 -- What is ready on the way of a host, and the edges and joins at components and buffers.
 use Rattle.std.proofs.Common.{◌≡◌, refl, sym, ap, ◌∙◌, subst, ℕ, List, [], ◌∷◌, map, filter, length, Option, Some, None, Bool, true, false, cond, not, inl, inr, ◌⊎◌, ◌==◌, ◌&&◌, ◌||◌, ◌≤◌, arith}
 use Rattle.std.proofs.lemmas.Bool.{true≢false, false≢true, false_from_ne_true, or_left, or_right, or_cases, and_parts, eqb-true, eq-eqb}
-use Rattle.std.specs.Prelude.{find, option_and_then, nat_le}
+use Rattle.std.specs.Prelude.{find, option_and_then}
 use Rattle.std.specs.List.{list_any, list_all}
 use Rattle.stream_law.specs.declared.graph.Kind.{Kind}
 use Rattle.stream_law.specs.declared.graph.Kind.TheVariants.{HostPlay, HostCapture}
@@ -9,16 +9,17 @@ use Rattle.stream_law.specs.declared.graph.Comp.{Comp}
 use Rattle.stream_law.specs.declared.graph.Edge.{Edge}
 use Rattle.stream_law.specs.declared.graph.Join.{Join}
 use Rattle.stream_law.specs.declared.graph.Graph.{Graph}
-use Rattle.stream_law.specs.Ways.{edge_of, source_of, sink_of, ins, outs, buffers, is_end, leads, on_way, is_capture}
-use Rattle.stream_law.specs.Joins.{kind_ins, kind_outs, fits_kind}
+use Rattle.stream_law.specs.Ways.{edge_of, source_of, sink_of, ins, outs, buffers, is_end, leads, is_echo, on_way, is_capture}
+use Rattle.stream_law.specs.Joins.{kind_ins, fits_kind}
 use Rattle.stream_law.specs.Moves.{is_choosy}
 use Rattle.stream_law.specs.Order.{is_among}
-use Rattle.mbox_link.specs.Step.{has_comp, is_host, is_complete, is_ready_comp, is_ready_edge, is_way_ready}
+use Rattle.mbox_link.specs.Step.{has_comp, has_edge, is_host, is_complete, is_ready_comp, is_ready_edge, is_way_ready}
 use Rattle.row_laws.specs.Wired.{IsWired, HasJoinedSides, IsSide, IsJoinedFrom, IsJoinedTo, IsOpen, is_at}
 use Rattle.row_laws.proofs.Found.{found-each}
-use Rattle.stream_law.proofs.EdgeNumbers.{right-most, right-ins, right-outs, most-outs, most-ins}
+use Rattle.stream_law.proofs.EdgeNumbers.{right-most, right-ins, most-ins}
 use Rattle.stream_law.proofs.Members.{IsIn, in-all, any-in, find-in}
 use Rattle.row_laws.proofs.Trips.{goes_from, trip-none, trip-first, trip-leads}
+use Rattle.row_laws.proofs.Unreached.{no-echo}
 
 -- ---- sides
 
@@ -73,11 +74,7 @@ pub no-id : (ids : List ℕ) (a : ℕ) → length ids ≡ 0 → is_among ids a �
 no-id [] a none here = false≢true here
 no-id (x ∷ ids) a none here = omega (arith, none)
 
--- what is ready has at most one edge out
-pub fits-out : (k : Kind) (m n : ℕ) → fits_kind k m n ≡ true → n ≤ 1
-fits-out k m n fits = let few = right-most (kind_outs k) n (right-outs k m n fits) in let most = most-outs k in omega (arith, few, most)
-
--- and one edge in, where it does not choose
+-- what is ready has at most one edge in, where it does not choose
 pub fits-in : (k : Kind) (m n : ℕ) → is_choosy k ≡ false → fits_kind k m n ≡ true → m ≤ 1
 fits-in k m n plain fits = let few = right-most (kind_ins k) m (right-ins k m n fits) in let most = most-ins k plain in omega (arith, few, most)
 
@@ -120,11 +117,15 @@ module _ (g : Graph) (wired : IsWired g) (linked : HasJoinedSides g) where
   pub source-comp : (e : Edge) (c : ℕ) → IsIn e g.edges → is_end e.source c ≡ true → has_comp g c ≡ true
   source-comp e c there is = side-comp e.source c (in-all (λ e. IsSide g e.source × IsSide g e.sink) g.edges e wired.sides there).0 is
 
-  sink-comp : (e : Edge) (c : ℕ) → IsIn e g.edges → is_end e.sink c ≡ true → has_comp g c ≡ true
+  pub sink-comp : (e : Edge) (c : ℕ) → IsIn e g.edges → is_end e.sink c ≡ true → has_comp g c ≡ true
   sink-comp e c there is = side-comp e.sink c (in-all (λ e. IsSide g e.source × IsSide g e.sink) g.edges e wired.sides there).1 is
 
   pub no-comp : (e : Edge) → IsIn e g.edges → has_comp g e.buffer ≡ true → ⊥
   no-comp e there is = true≢false (sym is ∙ in-all (λ e. has_comp g e.buffer ≡ false) g.edges e wired.apart there)
+
+  -- so a component is no echo edge
+  pub plain-comp : (c : ℕ) → has_comp g c ≡ true → is_echo g c ≡ false
+  plain-comp c there = no-echo g c (false_from_ne_true (has_edge g c) (λ is. let found = any-in (λ (e : Edge). e.buffer == c) g.edges is in no-comp found.0 found.1 (ap (has_comp g) (eqb-true found.0.buffer c found.2) ∙ there)))
 
   -- an edge is told by its buffer
   one-edge : (e f : Edge) → IsIn e g.edges → IsIn f g.edges → e.buffer ≡ f.buffer → e ≡ f
@@ -141,13 +142,7 @@ module _ (g : Graph) (wired : IsWired g) (linked : HasJoinedSides g) where
   pub in-ins : (e : Edge) (c : ℕ) → IsIn e g.edges → is_end e.sink c ≡ true → is_among (ins g c) e.buffer ≡ true
   in-ins e c there is = among-filter (λ b. is_end (sink_of g b) c) (buffers g) e.buffer (in-buffers g.edges e there) (ap (λ (o : Option Edge). is_end (option_and_then (λ e. e.sink) o) c) (at-buffer e there) ∙ is)
 
-  pub in-outs : (e : Edge) (c : ℕ) → IsIn e g.edges → is_end e.source c ≡ true → is_among (outs g c) e.buffer ≡ true
-  in-outs e c there is = among-filter (λ b. is_end (source_of g b) c) (buffers g) e.buffer (in-buffers g.edges e there) (ap (λ (o : Option Edge). is_end (option_and_then (λ e. e.source) o) c) (at-buffer e there) ∙ is)
-
-  -- edges out of what has at most one are one, and so are edges into it
-  pub one-out : (c : ℕ) → length (outs g c) ≤ 1 → (e f : Edge) → IsIn e g.edges → IsIn f g.edges → is_end e.source c ≡ true → is_end f.source c ≡ true → e ≡ f
-  one-out c few e f at_e at_f end_e end_f = one-edge e f at_e at_f (one-id (outs g c) e.buffer f.buffer few (in-outs e c at_e end_e) (in-outs f c at_f end_f))
-
+  -- edges into what has at most one are one
   pub one-in : (c : ℕ) → length (ins g c) ≤ 1 → (e f : Edge) → IsIn e g.edges → IsIn f g.edges → is_end e.sink c ≡ true → is_end f.sink c ≡ true → e ≡ f
   one-in c few e f at_e at_f end_e end_f = one-edge e f at_e at_f (one-id (ins g c) e.buffer f.buffer few (in-ins e c at_e end_e) (in-ins f c at_f end_f))
 

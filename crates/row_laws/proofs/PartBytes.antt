@@ -10,7 +10,8 @@ use Rattle.ipc3_model.specs.declared.message.Message.{Message}
 use Rattle.ipc3_model.specs.declared.message.Message.TheVariants as messages
 use Rattle.ipc3_model.specs.Commands.{command_number}
 use Rattle.ipc3_model.specs.ControlWords.{control_slots, part_slots}
-use Rattle.ipc3_model.specs.Messages.{Means, size_of, command_of}
+use Rattle.ipc3_model.specs.Messages.{size_of, command_of}
+use Rattle.ipc3_model.specs.Meanings.{Means}
 use Rattle.row_laws.specs.RowLaws.{HasBytes}
 
 -- ---- lists of bytes

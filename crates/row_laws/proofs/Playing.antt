@@ -1,34 +1,36 @@
 -- What components that are Active find at their edges.
-use Rattle.std.proofs.Common.{◌≡◌, refl, sym, ap, ◌∙◌, subst, ℕ, ◌/◌, ◌≤◌, List, [], ◌∷◌, ◌++◌, length, Option, Some, None, Bool, true, false, cond, not, inl, inr, ◌⊎◌, ◌==◌, ◌&&◌, ◌||◌, arith}
-use Rattle.std.proofs.lemmas.Bool.{true≢false, false≢true, or_left, or_right, and_parts, and_from, eqb-true, eq-eqb, leb-true}
-use Rattle.std.specs.Prelude.{find, is_some, option_map, option_and_then, nat_le}
+use Rattle.std.proofs.Common.{◌≡◌, refl, sym, ap, ◌∙◌, subst, ℕ, ◌/◌, ◌≤◌, List, [], ◌∷◌, ◌++◌, filter, length, Option, Some, None, Bool, true, false, cond, not, inl, inr, ◌⊎◌, ◌==◌, ◌&&◌, ◌||◌, arith}
+use Rattle.std.proofs.lemmas.Bool.{true≢false, false≢true, or_left, or_right, or_cases, and_parts, and_from, eqb-true, eq-eqb, leb-true}
+use Rattle.std.specs.Prelude.{find, option_map, option_and_then, nat_le}
 use Rattle.std.specs.Option.{option_map_or}
 use Rattle.std.specs.List.{list_any, AllByRecursion}
 use Rattle.sof_base.specs.declared.format.Params.{Params}
 use Rattle.stream_law.specs.declared.graph.Comp.{Comp}
 use Rattle.stream_law.specs.declared.graph.Edge.{Edge}
+use Rattle.stream_law.specs.declared.graph.Join.{Join}
 use Rattle.stream_law.specs.declared.graph.Pipe.{Pipe}
 use Rattle.stream_law.specs.declared.graph.Graph.{Graph}
 use Rattle.stream_law.specs.declared.stream.Phase.{Phase}
 use Rattle.stream_law.specs.declared.stream.Phase.TheVariants.{Idle, Prepared, Running, Paused}
 use Rattle.stream_law.specs.declared.stream.StreamView.{StreamView}
 use Rattle.stream_law.specs.State.{View}
-use Rattle.stream_law.specs.Ways.{comp_of, pipe_of, source_of, ins, outs, components, buffers, is_end, reaches, on_way, is_capture, is_live_phase, is_running_phase, live, live_end, active, active_end, channels_of, touch}
+use Rattle.stream_law.specs.Ways.{comp_of, pipe_of, source_of, sink_of, ins, outs, components, buffers, is_end, is_of, is_capture, enters_capture, is_echo, way_joins, ways_to, on_way, is_end_on_way, is_live_phase, is_running_phase, live, active, channels_of}
 use Rattle.stream_law.specs.Joins.{fits_kind}
 use Rattle.stream_law.specs.Moves.{period, is_choosy, chooses}
 use Rattle.stream_law.specs.Order.{is_among}
-use Rattle.stream_law.specs.Seen.{flows}
 use Rattle.ipc3_model.specs.Allowed.{is_period_allowed}
-use Rattle.mbox_link.specs.Step.{has_comp, has_kind, kind_at, is_host, is_complete, is_ready_comp, is_way_ready}
+use Rattle.mbox_link.specs.Step.{has_comp, has_kind, kind_at, is_host, is_ready_comp, is_way_ready}
 use Rattle.row_laws.specs.Wired.{IsWired, HasJoinedSides}
 use Rattle.row_laws.specs.Played.{AreStreamsPlayable, IsStreamSet, IsSetBy, is_idle}
+use Rattle.row_laws.proofs.Fewer.{not-true}
 use Rattle.row_laws.proofs.Found.{found-each}
 use Rattle.row_laws.proofs.Growing.{some-found}
 use Rattle.row_laws.proofs.Joined.{among-left, among-right}
-use Rattle.stream_law.proofs.Members.{IsIn, in-all, in-any, any-in}
-use Rattle.row_laws.proofs.Stays.{IsOf, heard, all-of, find-some, find-any, live-idle, given, touching, list_any-at, one-shape}
-use Rattle.row_laws.proofs.Trips.{goes_from, Trip, trip-first, trip-last, trip-end, trip-start, trip-reached, reached-trip}
-use Rattle.row_laws.proofs.Near.{AtEnd, end-some, complete-comp, fits-comp, ready-comp, ready-edge, no-id, fits-out, fits-in, play-in, capture-out, in-buffers, in-comps, no-comp, at-buffer, source-comp, in-ins, in-outs, one-out, one-in, source-goes, sink-goes, edge-into, edge-outof, goes-source, goes-sink}
+use Rattle.stream_law.proofs.Members.{IsIn, in-all, in-any, any-in, kept-in}
+use Rattle.row_laws.proofs.Stays.{IsOf, IsHeard, heard, all-of, find-some, find-any, live-idle, touching, one-shape}
+use Rattle.row_laws.proofs.Touching.{echo-sides, touch-at, touch-echo}
+use Rattle.row_laws.proofs.Trips.{goes_from, Trip, trip-first, trip-last, trip-end, trip-start, trip-ways, ways-trip, way-goes, goes-way}
+use Rattle.row_laws.proofs.Near.{end-some, complete-comp, fits-comp, ready-comp, no-id, fits-in, play-in, in-buffers, in-comps, no-comp, plain-comp, at-buffer, source-comp, sink-comp, in-ins, one-in, source-goes, sink-goes, edge-into, goes-source, goes-sink}
 
 running-live : (phase : Phase) → is_running_phase phase ≡ true → is_live_phase phase ≡ true
 running-live Running e = refl
@@ -78,95 +80,123 @@ module _ (v : View) (wired : IsWired v.graph) (linked : HasJoinedSides v.graph) 
   host-apart : (h : ℕ) → has_kind is_host (kind_at v.graph h) ≡ true → (e : Edge) → IsIn e v.graph.edges → h ≡ e.buffer → ⊥
   host-apart h host e there same = no-comp v.graph wired linked e there (ap (has_comp v.graph) (sym same) ∙ some-found is_host v.graph.comps h host)
 
-  -- an edge is on the way of a host, and so are its ends
-  abbrev Covers : ℕ → Edge → Type 0
-  Covers h e = (on_way v.graph h e.buffer ≡ true) × ((x : ℕ) → AtEnd e x → on_way v.graph h x ≡ true)
+  -- what is at a side of the edge is there, and it is one
+  at-side : (f : ℕ → Bool) (o : Option ℕ) (c : ℕ) → is_end o c ≡ true → option_map_or f o false ≡ f c
+  at-side f None c is = absurd (false≢true is)
+  at-side f (Some n) c is = ap f (eqb-true n c is)
 
-  -- whose stream is a capture or not
+  -- a join of a way is between what is no echo edge
+  way-plain : (a b : ℕ) → goes_from (way_joins v.graph) a b ≡ true → (is_echo v.graph a ≡ false) × (is_echo v.graph b ≡ false)
+  unfolding way_joins
+  way-plain a b goes =
+      let found = any-in (λ (j : Join). j.source == a && j.sink == b) (filter (λ j. not (is_echo v.graph j.source) && not (is_echo v.graph j.sink)) v.graph.joins) goes in
+      let j : Join = found.0 in
+      let ends = and_parts (j.source == a) (j.sink == b) found.2 in
+      let plain = and_parts (not (is_echo v.graph j.source)) (not (is_echo v.graph j.sink)) (kept-in (λ (k : Join). not (is_echo v.graph k.source) && not (is_echo v.graph k.sink)) v.graph.joins j found.1).1 in
+      (ap (is_echo v.graph) (sym (eqb-true j.source a ends.0)) ∙ not-true (is_echo v.graph j.source) plain.0, ap (is_echo v.graph) (sym (eqb-true j.sink b ends.1)) ∙ not-true (is_echo v.graph j.sink) plain.1)
+
+  -- the way of a host whose stream is a capture's or not
   module _ (h : ℕ) (host : has_kind is_host (kind_at v.graph h) ≡ true) (e : Edge) (at : IsIn e v.graph.edges) where
-    abbrev captures : Bool
-    captures = option_map_or (λ c. is_capture c.kind) (comp_of v.graph h) false
-
-    -- from the host to the buffer, and on to its sink; and the way there leads through its source
-    reached : Trip v.graph.joins h e.buffer → (x : ℕ) → AtEnd e x → Trip v.graph.joins h x
-    reached t x (inr to) = trip-last v.graph.joins h e.buffer x t (sink-goes v.graph wired linked e at x to)
-    reached t x (inl from) = before (trip-end v.graph.joins h e.buffer t)
-      where
-        before : (h ≡ e.buffer) ⊎ ((b : ℕ) × Trip v.graph.joins h b × (goes_from v.graph.joins b e.buffer ≡ true)) → Trip v.graph.joins h x
-        before (inl same) = absurd (host-apart h host e at same)
-        before (inr last) = subst (Trip v.graph.joins h) (same-end e.source last.0 x (goes-source v.graph wired linked e at last.0 last.2) from) last.1
-
-    reaching : Trip v.graph.joins e.buffer h → (x : ℕ) → AtEnd e x → Trip v.graph.joins x h
-    reaching t x (inl from) = trip-first v.graph.joins x e.buffer h (source-goes v.graph wired linked e at x from) t
-    reaching t x (inr to) = after (trip-start v.graph.joins e.buffer h t)
-      where
-        after : (e.buffer ≡ h) ⊎ ((b : ℕ) × (goes_from v.graph.joins e.buffer b ≡ true) × Trip v.graph.joins b h) → Trip v.graph.joins x h
-        after (inl same) = absurd (host-apart h host e at (sym same))
-        after (inr first) = subst (λ n. Trip v.graph.joins n h) (same-end e.sink first.0 x (goes-sink v.graph wired linked e at first.0 first.1) to) first.2
-
-    -- the trips of a component and of the edge's buffer, by the side of the host
-    abbrev TripAt : Bool → ℕ → Type 0
-    TripAt true x = Trip v.graph.joins x h
-    TripAt false x = Trip v.graph.joins h x
-
-    covers : ((t : Bool) → captures ≡ t → TripAt t e.buffer) → Covers h e
+    split : (t : Bool) → is_of v.graph is_capture h ≡ t → (x : ℕ) → on_way v.graph h x ≡ cond t (ways_to v.graph x h || (is_echo v.graph x && option_map_or (λ c. ways_to v.graph c h) (sink_of v.graph x) false)) (ways_to v.graph h x)
     unfolding on_way
-    covers trip = by captures refl
+    split t is x = ap (λ k. cond k (ways_to v.graph x h || (is_echo v.graph x && option_map_or (λ c. ways_to v.graph c h) (sink_of v.graph x) false)) (ways_to v.graph h x)) is
+
+    -- from the way by walks without an echo edge
+    on-capture : is_of v.graph is_capture h ≡ true → (x : ℕ) → ways_to v.graph x h ≡ true → on_way v.graph h x ≡ true
+    on-capture is x to = split true is x ∙ or_left (ways_to v.graph x h) _ to
+
+    on-play : is_of v.graph is_capture h ≡ false → (x : ℕ) → ways_to v.graph h x ≡ true → on_way v.graph h x ≡ true
+    on-play is x from = split false is x ∙ from
+
+    -- and of an echo edge
+    on-echo : is_of v.graph is_capture h ≡ true → is_echo v.graph e.buffer ≡ true → (c : ℕ) → is_end e.sink c ≡ true → ways_to v.graph c h ≡ true → on_way v.graph h e.buffer ≡ true
+    on-echo is echo c to on =
+        split true is e.buffer
+        ∙ or_right (ways_to v.graph e.buffer h) _ (and_from (is_echo v.graph e.buffer) _ echo (at-side (λ c. ways_to v.graph c h) (sink_of v.graph e.buffer) c (ap (λ (o : Option Edge). is_end (option_and_then (λ e. e.sink) o) c) (at-buffer v.graph wired linked e at) ∙ to) ∙ on))
+
+    -- a component is on it by such a walk
+    comp-to : is_of v.graph is_capture h ≡ true → (c : ℕ) → has_comp v.graph c ≡ true → on_way v.graph h c ≡ true → ways_to v.graph c h ≡ true
+    comp-to is c comp on = by (or_cases (ways_to v.graph c h) (is_echo v.graph c && option_map_or (λ c. ways_to v.graph c h) (sink_of v.graph c) false) (sym (split true is c) ∙ on))
       where
-        by : (t : Bool) → captures ≡ t → (cond t (reaches v.graph e.buffer h) (reaches v.graph h e.buffer) ≡ true) × ((x : ℕ) → AtEnd e x → cond t (reaches v.graph x h) (reaches v.graph h x) ≡ true)
-        by true side = let t = trip true side in (reached-trip v.graph e.buffer h t, λ x end. reached-trip v.graph x h (reaching t x end))
-        by false side = let t = trip false side in (reached-trip v.graph h e.buffer t, λ x end. reached-trip v.graph h x (reached t x end))
+        by : (ways_to v.graph c h ≡ true) ⊎ ((is_echo v.graph c && option_map_or (λ c. ways_to v.graph c h) (sink_of v.graph c) false) ≡ true) → ways_to v.graph c h ≡ true
+        by (inl e) = e
+        by (inr e) = absurd (true≢false (sym (and_parts (is_echo v.graph c) _ e).0 ∙ plain-comp v.graph wired linked c comp))
 
-    -- where a component is on the way of the host, so is its only edge out, and its only edge in
-    module _ (c : Comp) (there : IsIn c v.graph.comps) (ready : is_ready_comp v.graph c ≡ true) (on : on_way v.graph h c.id ≡ true) where
-      fits : fits_kind c.kind (length (ins v.graph c.id)) (length (outs v.graph c.id)) ≡ true
-      fits = fits-comp v.graph c ready
+    -- where an edge is on the way, so is what it goes to
+    pub on-sink : on_way v.graph h e.buffer ≡ true → (x : ℕ) → is_end e.sink x ≡ true → on_way v.graph h x ≡ true
+    on-sink on x to = by (is_of v.graph is_capture h) refl
+      where
+        next : is_of v.graph is_capture h ≡ true → (e.buffer ≡ h) ⊎ ((y : ℕ) × (goes_from (way_joins v.graph) e.buffer y ≡ true) × Trip (way_joins v.graph) y h) → on_way v.graph h x ≡ true
+        next is (inl same) = absurd (host-apart h host e at (sym same))
+        next is (inr r) = on-capture is x (ways-trip v.graph x h (subst (λ n. Trip (way_joins v.graph) n h) (same-end e.sink r.0 x (goes-sink v.graph wired linked e at r.0 (way-goes v.graph e.buffer r.0 r.1)) to) r.2))
 
-      -- the host's own kind, where it is the component
-      own : h ≡ c.id → comp_of v.graph h ≡ Some c
-      own same = ap (comp_of v.graph) same ∙ comp-at c there
+        capture : is_of v.graph is_capture h ≡ true → (ways_to v.graph e.buffer h ≡ true) ⊎ ((is_echo v.graph e.buffer && option_map_or (λ c. ways_to v.graph c h) (sink_of v.graph e.buffer) false) ≡ true) → on_way v.graph h x ≡ true
+        capture is (inl walks) = next is (trip-start (way_joins v.graph) e.buffer h (trip-ways v.graph e.buffer h walks))
+        capture is (inr echoes) =
+            on-capture is x (sym (at-side (λ c. ways_to v.graph c h) (sink_of v.graph e.buffer) x (ap (λ (o : Option Edge). is_end (option_and_then (λ e. e.sink) o) x) (at-buffer v.graph wired linked e at) ∙ to)) ∙ (and_parts (is_echo v.graph e.buffer) _ echoes).1)
 
-      own-host : h ≡ c.id → is_host c.kind ≡ true
-      own-host same = ap (λ (o : Option Comp). has_kind is_host (option_map (λ c. c.kind) o)) (sym (own same)) ∙ host
+        play : is_of v.graph is_capture h ≡ false → (h ≡ e.buffer) ⊎ ((a : ℕ) × Trip (way_joins v.graph) h a × (goes_from (way_joins v.graph) a e.buffer ≡ true)) → Trip (way_joins v.graph) h e.buffer → on_way v.graph h x ≡ true
+        play is (inl same) trip = absurd (host-apart h host e at same)
+        play is (inr r) trip =
+            on-play is x (ways-trip v.graph h x (trip-last (way_joins v.graph) h e.buffer x trip (goes-way v.graph e.buffer x (way-plain r.0 e.buffer r.2).1 (plain-comp v.graph wired linked x (sink-comp v.graph wired linked e x at to)) (sink-goes v.graph wired linked e at x to))))
 
-      own-side : (t : Bool) → captures ≡ t → h ≡ c.id → is_capture c.kind ≡ t
-      own-side t is same = ap (λ (o : Option Comp). option_map_or (λ c. is_capture c.kind) o false) (sym (own same)) ∙ is
+        by : (t : Bool) → is_of v.graph is_capture h ≡ t → on_way v.graph h x ≡ true
+        by true is = capture is (or_cases (ways_to v.graph e.buffer h) _ (sym (split true is e.buffer) ∙ on))
+        by false is = let trip = trip-ways v.graph h e.buffer (sym (split false is e.buffer) ∙ on) in play is (trip-end (way_joins v.graph) h e.buffer trip) trip
 
-      trip-at : (t : Bool) → captures ≡ t → TripAt t c.id
-      unfolding on_way
-      trip-at t is = by t (ap (λ k. cond k (reaches v.graph c.id h) (reaches v.graph h c.id)) (sym is) ∙ on)
-        where
-          by : (t : Bool) → cond t (reaches v.graph c.id h) (reaches v.graph h c.id) ≡ true → TripAt t c.id
-          by true on = trip-reached v.graph c.id h on
-          by false on = trip-reached v.graph h c.id on
+    -- and what it comes from, or it is an echo edge
+    pub on-source : on_way v.graph h e.buffer ≡ true → (x : ℕ) → is_end e.source x ≡ true → (on_way v.graph h x ≡ true) ⊎ (is_echo v.graph e.buffer ≡ true)
+    on-source on x from = by (is_of v.graph is_capture h) refl
+      where
+        next : is_of v.graph is_capture h ≡ true → (e.buffer ≡ h) ⊎ ((y : ℕ) × (goes_from (way_joins v.graph) e.buffer y ≡ true) × Trip (way_joins v.graph) y h) → Trip (way_joins v.graph) e.buffer h → on_way v.graph h x ≡ true
+        next is (inl same) trip = absurd (host-apart h host e at (sym same))
+        next is (inr r) trip =
+            on-capture is x (ways-trip v.graph x h (trip-first (way_joins v.graph) x e.buffer h (goes-way v.graph x e.buffer (plain-comp v.graph wired linked x (source-comp v.graph wired linked e x at from)) (way-plain e.buffer r.0 r.1).0 (source-goes v.graph wired linked e at x from)) trip))
 
-      covers-out : is_end e.source c.id ≡ true → Covers h e
-      covers-out from = covers by
-        where
-          by : (t : Bool) → captures ≡ t → TripAt t e.buffer
-          by false side = trip-last v.graph.joins h c.id e.buffer (trip-at false side) (source-goes v.graph wired linked e at c.id from)
-          by true side = next (trip-start v.graph.joins c.id h (trip-at true side))
-            where
-              next : (c.id ≡ h) ⊎ ((b : ℕ) × (goes_from v.graph.joins c.id b ≡ true) × Trip v.graph.joins b h) → Trip v.graph.joins e.buffer h
-              next (inl same) = absurd (no-id (outs v.graph c.id) e.buffer (capture-out c.kind (length (ins v.graph c.id)) (length (outs v.graph c.id)) (own-side true side (sym same)) fits) (in-outs v.graph wired linked e c.id at from))
-              next (inr first) =
-                  let f = edge-outof v.graph wired linked c.id first.0 (is-comp c there) first.1 in
-                  let only = one-out v.graph wired linked c.id (fits-out c.kind (length (ins v.graph c.id)) (length (outs v.graph c.id)) fits) f.0 e f.1 at f.3 from in
-                  subst (λ n. Trip v.graph.joins n h) (sym f.2 ∙ ap (λ (y : Edge). y.buffer) only) first.2
+        capture : is_of v.graph is_capture h ≡ true → (ways_to v.graph e.buffer h ≡ true) ⊎ ((is_echo v.graph e.buffer && option_map_or (λ c. ways_to v.graph c h) (sink_of v.graph e.buffer) false) ≡ true) → (on_way v.graph h x ≡ true) ⊎ (is_echo v.graph e.buffer ≡ true)
+        capture is (inl walks) = let trip = trip-ways v.graph e.buffer h walks in inl (next is (trip-start (way_joins v.graph) e.buffer h trip) trip)
+        capture is (inr echoes) = inr (and_parts (is_echo v.graph e.buffer) _ echoes).0
 
-      covers-in : is_choosy c.kind ≡ false → is_end e.sink c.id ≡ true → Covers h e
-      covers-in plain to = covers by
-        where
-          by : (t : Bool) → captures ≡ t → TripAt t e.buffer
-          by true side = trip-first v.graph.joins e.buffer c.id h (sink-goes v.graph wired linked e at c.id to) (trip-at true side)
-          by false side = next (trip-end v.graph.joins h c.id (trip-at false side))
-            where
-              next : (h ≡ c.id) ⊎ ((b : ℕ) × Trip v.graph.joins h b × (goes_from v.graph.joins b c.id ≡ true)) → Trip v.graph.joins h e.buffer
-              next (inl same) = absurd (no-id (ins v.graph c.id) e.buffer (play-in c.kind (length (ins v.graph c.id)) (length (outs v.graph c.id)) (own-host same) (own-side false side same) fits) (in-ins v.graph wired linked e c.id at to))
-              next (inr last) =
-                  let f = edge-into v.graph wired linked last.0 c.id (is-comp c there) last.2 in
-                  let only = one-in v.graph wired linked c.id (fits-in c.kind (length (ins v.graph c.id)) (length (outs v.graph c.id)) plain fits) f.0 e f.1 at f.3 to in
-                  subst (Trip v.graph.joins h) (sym f.2 ∙ ap (λ (y : Edge). y.buffer) only) last.1
+        play : is_of v.graph is_capture h ≡ false → (h ≡ e.buffer) ⊎ ((a : ℕ) × Trip (way_joins v.graph) h a × (goes_from (way_joins v.graph) a e.buffer ≡ true)) → on_way v.graph h x ≡ true
+        play is (inl same) = absurd (host-apart h host e at same)
+        play is (inr r) = on-play is x (ways-trip v.graph h x (subst (Trip (way_joins v.graph) h) (same-end e.source r.0 x (goes-source v.graph wired linked e at r.0 (way-goes v.graph r.0 e.buffer r.2)) from) r.1))
+
+        by : (t : Bool) → is_of v.graph is_capture h ≡ t → (on_way v.graph h x ≡ true) ⊎ (is_echo v.graph e.buffer ≡ true)
+        by true is = capture is (or_cases (ways_to v.graph e.buffer h) _ (sym (split true is e.buffer) ∙ on))
+        by false is = inl (play is (trip-end (way_joins v.graph) h e.buffer (trip-ways v.graph h e.buffer (sym (split false is e.buffer) ∙ on))))
+
+    -- where a component with one edge in is on the way, so is that edge
+    on-in : (c : Comp) → IsIn c v.graph.comps → is_ready_comp v.graph c ≡ true → is_choosy c.kind ≡ false → is_end e.sink c.id ≡ true → on_way v.graph h c.id ≡ true → on_way v.graph h e.buffer ≡ true
+    on-in c there ready plain to on = by (is_of v.graph is_capture h) refl
+      where
+        fits : fits_kind c.kind (length (ins v.graph c.id)) (length (outs v.graph c.id)) ≡ true
+        fits = fits-comp v.graph c ready
+
+        -- the host's own kind, where it is the component
+        own : h ≡ c.id → comp_of v.graph h ≡ Some c
+        own same = ap (comp_of v.graph) same ∙ comp-at c there
+
+        own-host : h ≡ c.id → is_host c.kind ≡ true
+        own-host same = ap (λ (o : Option Comp). has_kind is_host (option_map (λ c. c.kind) o)) (sym (own same)) ∙ host
+
+        own-side : is_of v.graph is_capture h ≡ false → h ≡ c.id → is_capture c.kind ≡ false
+        own-side is same = ap (λ (o : Option Comp). option_map_or (λ c. is_capture c.kind) o false) (sym (own same)) ∙ is
+
+        capture : is_of v.graph is_capture h ≡ true → (k : Bool) → is_echo v.graph e.buffer ≡ k → ways_to v.graph c.id h ≡ true → on_way v.graph h e.buffer ≡ true
+        capture is true echo walks = on-echo is echo c.id to walks
+        capture is false flat walks =
+            on-capture is e.buffer (ways-trip v.graph e.buffer h (trip-first (way_joins v.graph) e.buffer c.id h (goes-way v.graph e.buffer c.id flat (plain-comp v.graph wired linked c.id (is-comp c there)) (sink-goes v.graph wired linked e at c.id to)) (trip-ways v.graph c.id h walks)))
+
+        play : is_of v.graph is_capture h ≡ false → (h ≡ c.id) ⊎ ((b : ℕ) × Trip (way_joins v.graph) h b × (goes_from (way_joins v.graph) b c.id ≡ true)) → on_way v.graph h e.buffer ≡ true
+        play is (inl same) = absurd (no-id (ins v.graph c.id) e.buffer (play-in c.kind (length (ins v.graph c.id)) (length (outs v.graph c.id)) (own-host same) (own-side is same) fits) (in-ins v.graph wired linked e c.id at to))
+        play is (inr r) =
+            let f = edge-into v.graph wired linked r.0 c.id (is-comp c there) (way-goes v.graph r.0 c.id r.2) in
+            let only = one-in v.graph wired linked c.id (fits-in c.kind (length (ins v.graph c.id)) (length (outs v.graph c.id)) plain fits) f.0 e f.1 at f.3 to in
+            on-play is e.buffer (ways-trip v.graph h e.buffer (subst (Trip (way_joins v.graph) h) (sym f.2 ∙ ap (λ (y : Edge). y.buffer) only) r.1))
+
+        by : (t : Bool) → is_of v.graph is_capture h ≡ t → on_way v.graph h e.buffer ≡ true
+        by true is = capture is (is_echo v.graph e.buffer) refl (comp-to is c.id (is-comp c there) on)
+        by false is = play is (trip-end (way_joins v.graph) h c.id (trip-ways v.graph h c.id (sym (split false is c.id) ∙ on)))
 
   -- ---- what is Active
 
@@ -183,9 +213,7 @@ module _ (v : View) (wired : IsWired v.graph) (linked : HasJoinedSides v.graph) 
   channels-by : (s : StreamView) → IsOf s v.streams → is_live_phase s.phase ≡ true → (p : Params) → s.params ≡ Some p → (x : ℕ) → is_among (components v.graph ++ buffers v.graph) x ≡ true → on_way v.graph s.host x ≡ true → channels_of v x ≡ p.channels
   channels-by s among lives p has x there on =
       let b = heard v x played (live-by s among lives x on) in
-      let touches : touch v.graph s.host b.stream.host ≡ true =
-      list_any-at (λ y. on_way v.graph s.host y && on_way v.graph b.stream.host y) (components v.graph ++ buffers v.graph) x there
-      (and_from (on_way v.graph s.host x) (on_way v.graph b.stream.host x) on b.way) in
+      let touches = touch-at v.graph s.host b.stream.host x there on b.way in
       b.channels ∙ sym (one-shape p b.params s.params b.stream.params has b.has (touching v played.agreed s b.stream among b.among touches))
 
   awake : (s : StreamView) → is_running_phase s.phase ≡ true → is_idle s.phase ≡ false
@@ -200,95 +228,82 @@ module _ (v : View) (wired : IsWired v.graph) (linked : HasJoinedSides v.graph) 
   pub active-live : (x : ℕ) → active v x ≡ true → live v x ≡ true
   active-live x now = let r = run v x now in live-by r.stream r.among (running-live r.stream.phase r.phase) x r.way
 
-  -- a Running stream on whose way an edge and its ends are
-  record Shared (e : Edge) : Type 0 where
-    stream : StreamView
-    among : IsOf stream v.streams
-    phase : is_running_phase stream.phase ≡ true
-    covered : Covers stream.host e
+  is-node : (c : Comp) → IsIn c v.graph.comps → is_among (components v.graph ++ buffers v.graph) c.id ≡ true
+  is-node c there = among-left (components v.graph) (buffers v.graph) c.id (in-comps v.graph.comps c there)
 
-  -- frames flow along such an edge
-  shared-flows : (e : Edge) → IsIn e v.graph.edges → Shared e → flows v e.buffer ≡ true
-  unfolding flows
-  shared-flows e at r =
-      let s : StreamView = r.stream in
-      let is_set = all-of (IsStreamSet v.graph) v.streams s played.each r.among in
-      let lives = running-live s.phase r.phase in
-      let way = set-way v.graph s (awake s r.phase) is_set in
-      let ready = ready-edge v.graph s.host way e at r.covered.0 in
-      let both = and_parts (is_complete v.graph e.pipe && is_some e.source) (is_some e.sink) ready in
-      let ends : (live_end v e.source ≡ true) × (live_end v e.sink ≡ true) = (
-        some-live e.source (λ n is. live-by s r.among lives n (r.covered.1 n (inl is))) (and_parts (is_complete v.graph e.pipe) (is_some e.source) both.0).1,
-        some-live e.sink (λ n is. live-by s r.among lives n (r.covered.1 n (inr is))) both.1,
-      ) in
-      and_from _ _ (and_from _ _ (live-by s r.among lives e.buffer r.covered.0) (ap (λ (o : Option Edge). live_end v (option_and_then (λ e. e.source) o)) (at-buffer v.graph wired linked e at) ∙ ends.0)) (ap (λ (o : Option Edge). live_end v (option_and_then (λ e. e.sink) o)) (at-buffer v.graph wired linked e at) ∙ ends.1)
-    where
-      some-live : (o : Option ℕ) → ((n : ℕ) → is_end o n ≡ true → live v n ≡ true) → is_some o ≡ true → live_end v o ≡ true
-      some-live None f e = absurd (false≢true e)
-      some-live (Some n) f e = f n (eq-eqb n n refl)
+  is-buffer : (e : Edge) → IsIn e v.graph.edges → is_among (components v.graph ++ buffers v.graph) e.buffer ≡ true
+  is-buffer e at = among-right (components v.graph) (buffers v.graph) e.buffer (in-buffers v.graph.edges e at)
 
-  -- in the channels of its ends
-  shared-channels : (e : Edge) → IsIn e v.graph.edges → Shared e → (c : Comp) → IsIn c v.graph.comps → AtEnd e c.id → channels_of v e.buffer ≡ channels_of v c.id
-  shared-channels e at r c there end =
-      let s : StreamView = r.stream in
-      let is_set = all-of (IsStreamSet v.graph) v.streams s played.each r.among in
-      let lives = running-live s.phase r.phase in
-      let p = given v.graph s (awake s r.phase) is_set in
-      channels-by s r.among lives p.0 p.1 e.buffer (among-right (components v.graph) (buffers v.graph) e.buffer (in-buffers v.graph.edges e at)) r.covered.0
-      ∙ sym (channels-by s r.among lives p.0 p.1 c.id (among-left (components v.graph) (buffers v.graph) c.id (in-comps v.graph.comps c there)) (r.covered.1 c.id end))
-
-  -- the edge out of a component that is Active is such an edge
-  shared-out : (c : Comp) → IsIn c v.graph.comps → active v c.id ≡ true → (e : Edge) → IsIn e v.graph.edges → is_end e.source c.id ≡ true → Shared e
-  shared-out c there now e at from =
-      let r = run v c.id now in
-      record { stream = r.stream; among = r.among; phase = r.phase; covered = covers-out r.stream.host (host-kind r.stream r.among) e at c there (active-ready c there now) r.way from }
-
-  -- and so is the edge into it, unless it chooses
-  shared-in : (c : Comp) → IsIn c v.graph.comps → active v c.id ≡ true → is_choosy c.kind ≡ false → (e : Edge) → IsIn e v.graph.edges → is_end e.sink c.id ≡ true → Shared e
-  shared-in c there now plain e at to =
-      let r = run v c.id now in
-      record { stream = r.stream; among = r.among; phase = r.phase; covered = covers-in r.stream.host (host-kind r.stream r.among) e at c there (active-ready c there now) r.way plain to }
-
-  -- and an edge into it whose source is Active
-  shared-fed : (e : Edge) → IsIn e v.graph.edges → active_end v e.source ≡ true → Shared e
-  shared-fed e at now = by e.source refl now
-    where
-      by : (o : Option ℕ) → e.source ≡ o → option_map_or (active v) o false ≡ true → Shared e
-      by None is now = absurd (false≢true now)
-      by (Some a) is now =
-          let from : is_end e.source a ≡ true = ap (λ (o : Option ℕ). is_end o a) is ∙ eq-eqb a a refl in
-          let found = any-in (λ (x : Comp). x.id == a) v.graph.comps (source-comp v.graph wired linked e a at from) in
-          let x : Comp = found.0 in
-          let same : x.id ≡ a = eqb-true x.id a found.2 in
-          shared-out x found.1 (ap (active v) same ∙ now) e at (ap (is_end e.source) same ∙ from)
-
-  -- what a component that is Active finds at an edge
+  -- what a component that is Active finds at an edge: it is Live, in the channels of the component
   pub record IsAlong (c b : ℕ) : Type 0 where
     pub edge : Edge
     pub among : IsIn edge v.graph.edges
     pub is : b ≡ edge.buffer
-    pub flow : flows v edge.buffer ≡ true
+    pub lives : live v edge.buffer ≡ true
     pub channels : channels_of v edge.buffer ≡ channels_of v c
 
-  -- at the edge out of it
-  pub along-out : (c : Comp) → IsIn c v.graph.comps → active v c.id ≡ true → (e : Edge) → IsIn e v.graph.edges → is_end e.source c.id ≡ true → IsAlong c.id e.buffer
-  along-out c there now e at from =
-      let r = shared-out c there now e at from in
-      record { edge = e; among = at; is = refl; flow = shared-flows e at r; channels = shared-channels e at r c there (inl from) }
+  -- at an edge out of it that is Live: on the way of whose stream the edge is, that is on it too, or the edge is an echo edge between two
+  -- ways, and their streams touch
+  pub along-out : (c : Comp) → IsIn c v.graph.comps → active v c.id ≡ true → (e : Edge) → IsIn e v.graph.edges → is_end e.source c.id ≡ true → live v e.buffer ≡ true → IsAlong c.id e.buffer
+  along-out c there now e at from lives =
+      record { edge = e; among = at; is = refl; lives = lives; channels = by (on-source b.stream.host (host-kind b.stream b.among) e at b.way c.id from) }
+    where
+      b : IsHeard v e.buffer
+      b = heard v e.buffer played lives
+
+      own : IsHeard v c.id
+      own = heard v c.id played (active-live c.id now)
+
+      side : source_of v.graph e.buffer ≡ e.source
+      side = ap (λ (o : Option Edge). option_and_then (λ e. e.source) o) (at-buffer v.graph wired linked e at)
+
+      goal : sink_of v.graph e.buffer ≡ e.sink
+      goal = ap (λ (o : Option Edge). option_and_then (λ e. e.sink) o) (at-buffer v.graph wired linked e at)
+
+      on-end : (o : Option ℕ) → ((x : ℕ) → is_end o x ≡ true → on_way v.graph b.stream.host x ≡ true) → option_map_or (enters_capture v.graph) o false ≡ true → is_end_on_way v.graph b.stream.host o ≡ true
+      on-end None on enters = absurd (false≢true enters)
+      on-end (Some x) on enters = on x (eq-eqb x x refl)
+
+      by : (on_way v.graph b.stream.host c.id ≡ true) ⊎ (is_echo v.graph e.buffer ≡ true) → channels_of v e.buffer ≡ channels_of v c.id
+      by (inl on) =
+          channels-by b.stream b.among b.phase b.params b.has e.buffer (is-buffer e at) b.way
+          ∙ sym (channels-by b.stream b.among b.phase b.params b.has c.id (is-node c there) on)
+      by (inr echo) =
+          let starts : is_end_on_way v.graph own.stream.host (source_of v.graph e.buffer) ≡ true = ap (is_end_on_way v.graph own.stream.host) side ∙ at-side (on_way v.graph own.stream.host) e.source c.id from ∙ own.way in
+          let ends = on-end (sink_of v.graph e.buffer) (λ x to. on-sink b.stream.host (host-kind b.stream b.among) e at b.way x (ap (λ o. is_end o x) (sym goal) ∙ to)) (echo-sides v.graph e.buffer echo).1 in
+          let touches = touch-echo v.graph own.stream.host b.stream.host e.buffer echo starts ends in
+          b.channels ∙ sym (one-shape own.params b.params own.stream.params b.stream.params own.has b.has (touching v played.agreed own.stream b.stream own.among b.among touches)) ∙ sym own.channels
 
   pub chooses-kind : (c : Comp) → IsIn c v.graph.comps → chooses v c.id ≡ is_choosy c.kind
   unfolding chooses
   chooses-kind c there = ap (λ (o : Option Comp). option_map_or (λ x. is_choosy x.kind) o false) (comp-at c there)
 
-  -- and at an edge that it may take frames from
-  pub along-in : (c : Comp) → IsIn c v.graph.comps → active v c.id ≡ true → (e : Edge) → IsIn e v.graph.edges → is_end e.sink c.id ≡ true → (not (chooses v c.id) || active_end v (source_of v.graph e.buffer)) ≡ true → IsAlong c.id e.buffer
+  -- the one edge into a component that does not choose is Live
+  live-in : (c : Comp) → IsIn c v.graph.comps → active v c.id ≡ true → is_choosy c.kind ≡ false → (e : Edge) → IsIn e v.graph.edges → is_end e.sink c.id ≡ true → live v e.buffer ≡ true
+  live-in c there now plain e at to =
+      let r = run v c.id now in
+      live-by r.stream r.among (running-live r.stream.phase r.phase) e.buffer (on-in r.stream.host (host-kind r.stream r.among) e at c there (active-ready c there now) plain to r.way)
+
+  -- and at such an edge, or at any edge into it that is Live
+  pub along-in : (c : Comp) → IsIn c v.graph.comps → active v c.id ≡ true → (e : Edge) → IsIn e v.graph.edges → is_end e.sink c.id ≡ true → (not (chooses v c.id) || live v e.buffer) ≡ true → IsAlong c.id e.buffer
   along-in c there now e at to takes =
-      let r = by (is_choosy c.kind) refl (sym (ap (λ h. not h || active_end v (source_of v.graph e.buffer)) (chooses-kind c there)) ∙ takes) in
-      record { edge = e; among = at; is = refl; flow = shared-flows e at r; channels = shared-channels e at r c there (inr to) }
+      record {
+        edge = e;
+        among = at;
+        is = refl;
+        lives = lives;
+        channels =
+            let b = heard v e.buffer played lives in
+            channels-by b.stream b.among b.phase b.params b.has e.buffer (is-buffer e at) b.way
+            ∙ sym (channels-by b.stream b.among b.phase b.params b.has c.id (is-node c there) (on-sink b.stream.host (host-kind b.stream b.among) e at b.way c.id to));
+      }
     where
-      by : (h : Bool) → is_choosy c.kind ≡ h → (not h || active_end v (source_of v.graph e.buffer)) ≡ true → Shared e
-      by false plain is = shared-in c there now plain e at to
-      by true some is = shared-fed e at (sym (ap (λ (o : Option Edge). active_end v (option_and_then (λ e. e.source) o)) (at-buffer v.graph wired linked e at)) ∙ is)
+      by : (h : Bool) → is_choosy c.kind ≡ h → (not h || live v e.buffer) ≡ true → live v e.buffer ≡ true
+      by false plain is = live-in c there now plain e at to
+      by true some is = is
+
+      lives : live v e.buffer ≡ true
+      lives = by (is_choosy c.kind) refl (sym (ap (λ h. not h || live v e.buffer) (chooses-kind c there)) ∙ takes)
 
   -- its pipeline has a period
   pub active-period : AllByRecursion (λ p. is_period_allowed p.period ≡ true) v.graph.pipes → (c : Comp) → IsIn c v.graph.comps → active v c.id ≡ true → 1 ≤ period v c.id

@@ -19,14 +19,15 @@ use Rattle.stream_law.specs.declared.stream.Phase.{Phase}
 use Rattle.stream_law.specs.declared.stream.Phase.TheVariants.{Idle, Prepared, Running, Paused}
 use Rattle.stream_law.specs.State.{FwState, Staging, view_of}
 use Rattle.stream_law.specs.Ways.{comp_of, is_of, agree, is_live_phase, is_running_phase}
-use Rattle.stream_law.specs.Joins.{would_cycle, would_reach, would_grow, with_join}
+use Rattle.stream_law.specs.Joins.{crosses, stays, would_cycle, would_stay, with_join}
 use Rattle.stream_law.specs.Seen.{is_equaliser, is_volume, keeps_numbers, seen}
 use Rattle.ipc3_model.specs.Allowed.{is_buffer_size, is_period_allowed, is_channels}
 use Rattle.ipc3_model.specs.declared.message.Message.{Message}
 use Rattle.ipc3_model.specs.declared.message.Message.TheVariants as messages
 use Rattle.ipc3_model.specs.declared.fault.CodecFault.{CodecFault}
-use Rattle.ipc3_model.specs.Messages.{decoded, IsMessage, IsAllowed, Means}
-use Rattle.mbox_link.specs.Step.{row, row_of, body, body_of, replied, step, kind_of, first_setting, first_ramp, no_memory, busy, no_device, invalid, is_used, is_complete, has_index, has_comp, has_edge, has_hole, comp_bytes, buffer_bytes, pipe_bytes, with_comp, comp_new, with_buffer, buffer_new, with_pipe, pipe_new, with_pipes, completed, complete_pipe, pipe_complete, is_joined, takes_join, is_refused_join, connect, has_complete_pipe, touches, is_held, is_index_held, without_comp, comp_free, without_buffer, buffer_free, without_pipe, free_pipe, pipe_free, new_setting, with_setting_at, value_set, set_value, control_values_at, get_value, staging_at, keeps_order, staged_bytes, with_staged, blob_installed, part_staged, set_data, part_at, get_data, has_kind, is_stream_phase, is_host, goes, is_rate, is_way_ready, kind_at, phase_at, is_prepared, is_paused, set_stream, set_phase, with_params, pcm_params, is_refused_params, pcm_free, trigger}
+use Rattle.ipc3_model.specs.Messages.{decoded}
+use Rattle.ipc3_model.specs.Meanings.{IsMessage, IsAllowed, Means}
+use Rattle.mbox_link.specs.Step.{row, row_of, body, body_of, replied, step, kind_of, first_setting, first_ramp, no_memory, busy, no_device, invalid, is_used, is_complete, has_index, has_comp, has_edge, has_hole, comp_bytes, buffer_bytes, pipe_bytes, with_comp, comp_new, with_buffer, buffer_new, with_pipe, pipe_new, with_pipes, completed, complete_pipe, pipe_complete, is_joined, takes_join, is_refused_join, connect, has_complete_pipe, touches, is_held, is_index_held, without_comp, comp_free, without_edge, without_buffer, buffer_free, without_pipe, free_pipe, pipe_free, new_setting, with_setting_at, value_set, set_value, control_values_at, get_value, staging_at, keeps_order, staged_bytes, with_staged, blob_installed, part_staged, set_data, part_at, get_data, has_kind, is_stream_phase, is_host, goes, is_rate, is_way_ready, kind_at, phase_at, is_prepared, is_paused, set_stream, set_phase, with_params, pcm_params, is_refused_params, pcm_free, trigger}
 use Rattle.row_laws.specs.Played.{is_idle}
 use Rattle.row_laws.specs.Kept.{IsKeptState, IsSettingOf, IsRampOf, IsStaged}
 use Rattle.row_laws.specs.RowLaws.{IsPart, HasBytes}
@@ -93,10 +94,9 @@ connect-kept source sink f g kept is =
     let used = pass (not (is_used f.graph source && is_used f.graph sink)) no_device (cond (is_joined f.graph source sink) (Err busy) (cond (is_refused_join f source sink) (Err invalid) (Ok new))) g is in
     let free = pass (is_joined f.graph source sink) busy (cond (is_refused_join f source sink) (Err invalid) (Ok new)) g used.1 in
     let right = pass (is_refused_join f source sink) invalid (Ok new) g free.1 in
-    let grow = or_parts ((not (takes_join f.graph source sink) || would_cycle f.graph source sink) || would_reach f.graph source sink) (would_grow f.graph f.streams source sink) right.0 in
-    let reach = or_parts (not (takes_join f.graph source sink) || would_cycle f.graph source sink) (would_reach f.graph source sink) grow.0 in
-    let cycle = or_parts (not (takes_join f.graph source sink)) (would_cycle f.graph source sink) reach.0 in
-    done new g right.1 (kept-join f kept j free.0 (not-false (takes_join f.graph source sink) cycle.0) cycle.1 grow.1)
+    let stay = or_parts (not (takes_join f.graph source sink) || would_cycle f.graph source sink) (not (would_stay (view_of f) source sink)) right.0 in
+    let cycle = or_parts (not (takes_join f.graph source sink)) (would_cycle f.graph source sink) stay.0 in
+    done new g right.1 (kept-join f kept j free.0 (not-false (takes_join f.graph source sink) cycle.0) cycle.1 (not-false (would_stay (view_of f) source sink) stay.1))
 
 pub pipe_complete-kept : (id : ℕ) (f g : FwState) → IsKeptState f → pipe_complete f id ≡ Ok g → IsKeptState g
 pipe_complete-kept id f g kept is =
@@ -127,12 +127,13 @@ comp_free-kept id f g kept is =
 pub buffer_free-kept : (id : ℕ) (f g : FwState) → IsKeptState f → buffer_free f id ≡ Ok g → IsKeptState g
 buffer_free-kept id f g kept is =
     let new : FwState = without_buffer id f in
-    let wrong : Bool = not (has_edge f.graph id) || is_held f.graph f.streams id in
+    let wrong : Bool = (not (has_edge f.graph id) || is_held f.graph f.streams id) || not (stays (view_of f) (without_edge id f.graph)) in
     let used = pass (not (is_used f.graph id)) no_device (cond (has_complete_pipe f.graph id) (Err busy) (cond wrong (Err invalid) (Ok new))) g is in
     let still = pass (has_complete_pipe f.graph id) busy (cond wrong (Err invalid) (Ok new)) g used.1 in
     let right = pass wrong invalid (Ok new) g still.1 in
-    let parts = or_parts (not (has_edge f.graph id)) (is_held f.graph f.streams id) right.0 in
-    done new g right.1 (kept-buffer_free f kept id (not-false (has_edge f.graph id) parts.0) parts.1)
+    let stay = or_parts (not (has_edge f.graph id) || is_held f.graph f.streams id) (not (stays (view_of f) (without_edge id f.graph))) right.0 in
+    let parts = or_parts (not (has_edge f.graph id)) (is_held f.graph f.streams id) stay.0 in
+    done new g right.1 (kept-buffer_free f kept id (not-false (has_edge f.graph id) parts.0) parts.1 (not-false (stays (view_of f) (without_edge id f.graph)) stay.1))
 
 pub pipe_free-kept : (id : ℕ) (f g : FwState) → IsKeptState f → pipe_free f id ≡ Ok g → IsKeptState g
 pipe_free-kept id f g kept is =
@@ -218,7 +219,7 @@ pcm_params-kept host direction p few f g kept is =
     let wrong : Bool = is_refused_params (view_of f) host direction p (is_stream_phase is_live_phase (phase_at f host)) in
     let used = pass (not (is_used f.graph host)) no_device (cond wrong (Err invalid) (Ok new)) g is in
     let right = pass wrong invalid (Ok new) g used.1 in
-    let tests = params-pass (has_kind (λ kind. goes kind direction) (kind_at f.graph host)) (is_stream_phase is_live_phase (phase_at f host)) (is_rate p.rate) (is_way_ready f.graph host) (agree (with_params f host p)) right.0 in
+    let tests = params-pass (has_kind (λ kind. goes kind direction) (kind_at f.graph host)) (is_stream_phase is_live_phase (phase_at f host)) (is_rate p.rate) (is_way_ready f.graph host) (crosses f.graph) (agree (with_params f host p)) right.0 in
     let bounds = and_parts (nat_le 1 p.channels) (nat_le p.channels 8) few in
     done new g right.1 (kept-streams f kept (set_stream host Prepared (Some p)) (keeps-params host p f.streams kept.played.hosts tests.1)
     (played-params f.graph host p f.streams (leb-true 1 p.channels bounds.0, leb-true p.channels 8 bounds.1) tests.2 tests.3 tests.4 kept.played))

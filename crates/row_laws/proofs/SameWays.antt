@@ -1,20 +1,21 @@
 -- Views in which streams without parameters are gone, and the ways of those with parameters are the same.
-use Rattle.std.proofs.Common.{◌≡◌, refl, sym, ap, ◌∙◌, ℕ, List, [], ◌∷◌, ◌++◌, filter, Option, Some, None, Bool, true, false, cond, not, inl, inr, ◌⊎◌, ◌==◌, ◌&&◌, ◌||◌}
-use Rattle.std.proofs.lemmas.Bool.{true≢false, false≢true, or_right, or_left, or_cases, and_from}
+use Rattle.std.proofs.Common.{◌≡◌, refl, sym, ap, ◌∙◌, ℕ, List, [], ◌∷◌, ◌++◌, filter, Option, Some, None, Bool, true, false, cond, not, inl, inr, ◌⊎◌, ◌&&◌, ◌||◌}
+use Rattle.std.proofs.lemmas.Bool.{true≢false, and_from}
 use Rattle.std.specs.Prelude.{is_some, option_and_then}
 use Rattle.std.specs.Option.{option_map_or}
-use Rattle.std.specs.List.{list_any, list_all, AllByRecursion}
+use Rattle.std.specs.List.{list_all, AllByRecursion}
 use Rattle.sof_base.specs.declared.format.Params.{Params}
 use Rattle.stream_law.specs.declared.graph.Graph.{Graph}
 use Rattle.stream_law.specs.declared.stream.StreamView.{StreamView}
 use Rattle.stream_law.specs.State.{View}
-use Rattle.stream_law.specs.Ways.{components, buffers, source_of, sink_of, on_way, is_live_phase, live, live_end, rate_of, channels_of, touch, same_shape, agree}
+use Rattle.stream_law.specs.Ways.{components, buffers, source_of, sink_of, is_echo, on_way, is_live_phase, live, live_end, rate_of, channels_of, touch, same_shape, agree}
 use Rattle.stream_law.specs.Seen.{flows}
 use Rattle.stream_law.specs.Order.{is_among}
 use Rattle.mbox_link.specs.Step.{has_kind, is_host, kind_at, is_way_ready}
 use Rattle.row_laws.specs.Played.{AreStreamsPlayable, IsStreamSet, IsSetBy, is_idle}
-use Rattle.row_laws.proofs.Stays.{IsOf, all-of, list_any-at, touching, live-idle, given}
-use Rattle.row_laws.proofs.Fewer.{all-kept, all-both, any-kept, find-kept, distinct-filter, eq-refl}
+use Rattle.row_laws.proofs.Stays.{IsOf, all-of, touching, live-idle, given}
+use Rattle.row_laws.proofs.Touching.{touch-by}
+use Rattle.row_laws.proofs.Fewer.{all-kept, all-both, any-kept, find-kept, distinct-filter}
 
 -- ---- members of lists
 
@@ -33,14 +34,6 @@ of-kept keep (t ∷ ts) s here = by (keep t) refl here (of-kept keep ts s)
 each-of : (p : StreamView → Bool) (ss : List StreamView) → ((s : StreamView) → IsOf s ss → p s ≡ true) → list_all p ss ≡ true
 each-of p [] f = refl
 each-of p (s ∷ ss) f = and_from (p s) (list_all p ss) (f s (inl refl)) (each-of p ss (λ t there. f t (inr there)))
-
-some-among : (p : ℕ → Bool) (ids : List ℕ) → list_any p ids ≡ true → (x : ℕ) × (is_among ids x ≡ true) × (p x ≡ true)
-some-among p [] e = absurd (false≢true e)
-some-among p (i ∷ ids) e = by (or_cases (p i) (list_any p ids) e) (some-among p ids)
-  where
-    by : (p i ≡ true) ⊎ (list_any p ids ≡ true) → (list_any p ids ≡ true → (x : ℕ) × (is_among ids x ≡ true) × (p x ≡ true)) → (x : ℕ) × (is_among (i ∷ ids) x ≡ true) × (p x ≡ true)
-    by (inl here) rest = (i, or_left (i == i) _ (eq-refl i), here)
-    by (inr more) rest = let r = rest more in (r.0, or_right (i == r.0) _ r.1, r.2)
 
 -- a stream that is set and Live has parameters
 pub live-some : (g : Graph) (s : StreamView) → is_live_phase s.phase ≡ true → IsStreamSet g s → is_some s.params ≡ true
@@ -115,12 +108,9 @@ module _ (g g' : Graph) (keep : StreamView → Bool) (ss : List StreamView) (pla
       none-right (Some p) = refl
   shape-none_right o (Some p) e = absurd (true≢false e)
 
-  module _ (nodes : (x : ℕ) → is_among (components g' ++ buffers g') x ≡ true → is_among (components g ++ buffers g) x ≡ true) where
+  module _ (nodes : (x : ℕ) → is_among (components g' ++ buffers g') x ≡ true → is_among (components g ++ buffers g) x ≡ true) (echoes : (x : ℕ) → is_echo g' x ≡ true → (is_echo g x ≡ true) × (source_of g' x ≡ source_of g x) × (sink_of g' x ≡ sink_of g x)) where
     touches : (s t : StreamView) → ((x : ℕ) → on_way g' s.host x ≡ on_way g s.host x) → ((x : ℕ) → on_way g' t.host x ≡ on_way g t.host x) → touch g' s.host t.host ≡ true → touch g s.host t.host ≡ true
-    touches s t s-way t-way e =
-        let x = some-among (λ x. on_way g' s.host x && on_way g' t.host x) (components g' ++ buffers g') e in
-        list_any-at (λ x. on_way g s.host x && on_way g t.host x) (components g ++ buffers g) x.0 (nodes x.0 x.1)
-        (sym (ap (λ (p : Bool × Bool). p.0 && p.1) (λ i. (s-way x.0 i, t-way x.0 i))) ∙ x.2)
+    touches s t s-way t-way e = touch-by g g' echoes s.host t.host (λ x there on. nodes x there) s-way t-way e
 
     cell : (s t : StreamView) → IsOf s (filter keep ss) → IsOf t (filter keep ss) → (not (touch g' s.host t.host) || same_shape s.params t.params) ≡ true
     cell s t in_s in_t =
@@ -136,21 +126,21 @@ module _ (g g' : Graph) (keep : StreamView → Bool) (ss : List StreamView) (pla
         by true p-is false q-is true e s-way t-way s-of t-of = shape-none_right s.params t.params q-is
         by true p-is true q-is true e s-way t-way s-of t-of = touching old played.agreed s t s-of t-of (touches s t (s-way p-is) (t-way q-is) e)
 
-    agree-same : agree new ≡ true
+    pub agree-same : agree new ≡ true
     unfolding agree
     agree-same = each-of (λ s. list_all (λ t. not (touch g' s.host t.host) || same_shape s.params t.params) (filter keep ss)) (filter keep ss) (λ s in_s. each-of (λ t. not (touch g' s.host t.host) || same_shape s.params t.params) (filter keep ss) (λ t in_t. cell s t in_s in_t))
 
-    set-same : (s : StreamView) → (is_some s.params ≡ true → is_way_ready g' s.host ≡ true) → IsStreamSet g s → IsStreamSet g' s
-    set-same s ready is_set = by (is_idle s.phase) s.params ready is_set
-      where
-        by : (idle : Bool) (o : Option Params) → (is_some o ≡ true → is_way_ready g' s.host ≡ true) → IsSetBy g s.host idle o → IsSetBy g' s.host idle o
-        by idle None ready is_set = is_set
-        by idle (Some p) ready is_set = (is_set.0, is_set.1, is_set.2, ready refl)
+  set-same : (s : StreamView) → (is_some s.params ≡ true → is_way_ready g' s.host ≡ true) → IsStreamSet g s → IsStreamSet g' s
+  set-same s ready is_set = by (is_idle s.phase) s.params ready is_set
+    where
+      by : (idle : Bool) (o : Option Params) → (is_some o ≡ true → is_way_ready g' s.host ≡ true) → IsSetBy g s.host idle o → IsSetBy g' s.host idle o
+      by idle None ready is_set = is_set
+      by idle (Some p) ready is_set = (is_set.0, is_set.1, is_set.2, ready refl)
 
-    pub played-same : AllByRecursion (λ s. keep s ≡ true → has_kind is_host (kind_at g' s.host) ≡ true) ss → AllByRecursion (λ s. keep s ≡ true → is_some s.params ≡ true → is_way_ready g' s.host ≡ true) ss → AreStreamsPlayable new
-    played-same owned ready = record {
-      hosts = distinct-filter (λ (s : StreamView). s.host) keep ss played.hosts;
-      owned = all-kept keep (λ s. keep s ≡ true → has_kind is_host (kind_at g' s.host) ≡ true) (λ s. has_kind is_host (kind_at g' s.host) ≡ true) (λ s e f. f e) ss owned;
-      each = all-kept keep (λ s. (keep s ≡ true → is_some s.params ≡ true → is_way_ready g' s.host ≡ true) × IsStreamSet g s) (IsStreamSet g') (λ s e both. set-same s (both.0 e) both.1) ss (all-both (λ s. keep s ≡ true → is_some s.params ≡ true → is_way_ready g' s.host ≡ true) (IsStreamSet g) ss ready played.each);
-      agreed = agree-same;
-    }
+  pub played-same : agree new ≡ true → AllByRecursion (λ s. keep s ≡ true → has_kind is_host (kind_at g' s.host) ≡ true) ss → AllByRecursion (λ s. keep s ≡ true → is_some s.params ≡ true → is_way_ready g' s.host ≡ true) ss → AreStreamsPlayable new
+  played-same agreed owned ready = record {
+    hosts = distinct-filter (λ (s : StreamView). s.host) keep ss played.hosts;
+    owned = all-kept keep (λ s. keep s ≡ true → has_kind is_host (kind_at g' s.host) ≡ true) (λ s. has_kind is_host (kind_at g' s.host) ≡ true) (λ s e f. f e) ss owned;
+    each = all-kept keep (λ s. (keep s ≡ true → is_some s.params ≡ true → is_way_ready g' s.host ≡ true) × IsStreamSet g s) (IsStreamSet g') (λ s e both. set-same s (both.0 e) both.1) ss (all-both (λ s. keep s ≡ true → is_some s.params ≡ true → is_way_ready g' s.host ≡ true) (IsStreamSet g) ss ready played.each);
+    agreed = agreed;
+  }

@@ -11,7 +11,7 @@ use Rattle.sof_base.proofs.RampLaws.{between}
 use Rattle.stream_law.specs.declared.graph.Kind.{Kind}
 use Rattle.stream_law.specs.declared.graph.Kind.TheVariants.{Volume}
 use Rattle.stream_law.specs.declared.graph.Setting.{Setting}
-use Rattle.stream_law.specs.declared.graph.Setting.TheVariants.{Nothing, Gains, Choice, Blob}
+use Rattle.stream_law.specs.declared.graph.Setting.TheVariants.{Nothing, Gains, Choice, Blob, Masks}
 use Rattle.stream_law.specs.declared.graph.Comp.{Comp}
 use Rattle.stream_law.specs.declared.graph.Graph.{Graph}
 use Rattle.stream_law.specs.State.{FwState, View, History, view_of}
@@ -62,6 +62,7 @@ low-set g settings c volume = by_comp (comp_of g c) refl volume
     by_kind Volume Nothing is fits = tt
     by_kind Volume (Choice k) is fits = tt
     by_kind Volume (Blob bytes) is fits = tt
+    by_kind Volume (Masks masks) is fits = tt
     by_kind kind setting is fits = absurd (false≢true is)
 
     by_comp : (o : Option Comp) → comp_of g c ≡ o → option_map_or (λ x. is_volume x.kind) o false ≡ true → AreLow (option_map_or (λ x. gains x.setting) o [])

@@ -2,7 +2,6 @@
 use Rattle.std.proofs.Common.{◌≡◌, refl, sym, ap, ◌∙◌, subst, ℕ, suc, ◌+◌, ◌<◌, ◌≤◌, List, [], ◌∷◌, ◌++◌, map, length, Option, Some, None, Bool, true, false, cond, not, ◌==◌, ◌&&◌, ◌||◌, arith}
 use Rattle.std.proofs.lemmas.Bool.{eqb-true, ltb-true, ltb-false, true≢false, false≢true, and_parts, and_from}
 use Rattle.std.specs.Prelude.{find, is_some, option_map, nat_lt, position, slice_set, slice_index_or}
-use Rattle.std.specs.Option.{option_map_or}
 use Rattle.std.specs.List.{list_any, list_all, AllByRecursion, IsDistinct, position_or_len}
 use Rattle.sof_base.specs.declared.format.Params.{Params}
 use Rattle.stream_law.specs.declared.graph.Kind.{Kind}
@@ -13,9 +12,11 @@ use Rattle.stream_law.specs.declared.graph.Graph.{Graph}
 use Rattle.stream_law.specs.declared.stream.StreamView.{StreamView}
 use Rattle.stream_law.specs.Placed.{HasDistinct}
 use Rattle.stream_law.specs.State.{HeapView}
-use Rattle.stream_law.specs.Ways.{comp_of, components, buffers, ins, outs, leads, reaches, on_way, is_capture}
+use Rattle.stream_law.specs.Ways.{comp_of, components, buffers, source_of, sink_of, ins, outs, is_echo, on_way}
 use Rattle.stream_law.specs.Joins.{fits_kind}
 use Rattle.stream_law.specs.Order.{is_among}
+use Rattle.stream_law.specs.Stays.{SameWays}
+use Rattle.stream_law.proofs.Shapes.{echo_same, on_way_same}
 use Rattle.mbox_link.specs.Step.{has_comp, has_edge, has_kind, is_host, kind_at, is_complete, is_ready_comp, is_ready_edge, is_way_ready, is_used, with_setting}
 use Rattle.row_laws.specs.Kept.{ArePieces, IsRampOf, has_piece}
 use Rattle.row_laws.specs.Wired.{IsWired, HasJoinedSides, IsSide, IsBetween, IsJoinedFrom, IsJoinedTo, is_node}
@@ -152,16 +153,14 @@ module _ (id : ℕ) (setting : Setting) where
         by None = refl
         by (Some c) = ap (λ k. Some k) (set-kind c)
 
-    capture-set : (n : ℕ) → option_map_or (λ c. is_capture c.kind) (comp_of after n) false ≡ option_map_or (λ c. is_capture c.kind) (comp_of g n) false
-    capture-set n = ap (λ (o : Option Comp). option_map_or (λ c. is_capture c.kind) o false) (comp-set n) ∙ by (comp_of g n)
-      where
-        by : (o : Option Comp) → option_map_or (λ c. is_capture c.kind) (option_map set o) false ≡ option_map_or (λ c. is_capture c.kind) o false
-        by None = refl
-        by (Some c) = ap is_capture (set-kind c)
+    same-ways : SameWays g after
+    same-ways = record { joins = refl; edges = refl; ids = sym (ids-set g.comps); kinds = λ c. sym (kind-set c) }
 
     way-set : (n x : ℕ) → on_way after n x ≡ on_way g n x
-    unfolding on_way reaches
-    way-set n x = ap (λ h. cond h (leads g.joins (length g.joins) x n) (leads g.joins (length g.joins) n x)) (capture-set n)
+    way-set n x = sym (on_way_same g after same-ways n x)
+
+    pub echo-set : (b : ℕ) → is_echo after b ≡ true → (is_echo g b ≡ true) × (source_of after b ≡ source_of g b) × (sink_of after b ≡ sink_of g b)
+    echo-set b is = (echo_same g after same-ways b ∙ is, refl, refl)
 
     pub ways-set : (ss : List StreamView) → AllByRecursion (λ s. true ≡ true → is_some s.params ≡ true → (x : ℕ) → on_way after s.host x ≡ on_way g s.host x) ss
     ways-set ss = all-any (λ (s : StreamView). true ≡ true → is_some s.params ≡ true → (x : ℕ) → on_way after s.host x ≡ on_way g s.host x) (λ s kept has x. way-set s.host x) ss

@@ -1,6 +1,6 @@
 -- What stays Live keeps its channels, since streams that touch agree.
 use Rattle.std.proofs.Common.{◌≡◌, refl, sym, ap, ◌∙◌, ℕ, ◌≤◌, List, [], ◌∷◌, ◌++◌, map, Option, Some, None, Bool, true, false, cond, not, inl, inr, ◌⊎◌, ◌==◌, ◌&&◌, ◌||◌, arith}
-use Rattle.std.proofs.lemmas.Bool.{false≢true, true≢false, and_parts, and_from, or_left, or_right, or_cases, eqb-true}
+use Rattle.std.proofs.lemmas.Bool.{false≢true, true≢false, and_parts, eqb-true}
 use Rattle.std.specs.Option.{option_map_or, option_and_then}
 use Rattle.std.specs.Prelude.{find}
 use Rattle.std.specs.List.{list_any, list_all, AllByRecursion}
@@ -13,6 +13,7 @@ use Rattle.stream_law.specs.State.{View}
 use Rattle.stream_law.specs.Ways.{components, buffers, on_way, live, rate_of, channels_of, is_live_phase, touch, same_shape, agree}
 use Rattle.stream_law.specs.Order.{is_among}
 use Rattle.row_laws.specs.Played.{IsStreamSet, IsSetBy, AreStreamsPlayable, KeepsLive, is_idle}
+use Rattle.row_laws.proofs.Touching.{touch-at}
 
 -- a stream is one of these
 abbrev pub IsOf : StreamView → List StreamView → Type 0
@@ -50,14 +51,6 @@ list_all-of : (p : StreamView → Bool) (ss : List StreamView) (s : StreamView) 
 list_all-of p [] s all here = absurd here
 list_all-of p (t ∷ ts) s all (inl e) = ap p e ∙ (and_parts (p t) (list_all p ts) all).0
 list_all-of p (t ∷ ts) s all (inr more) = list_all-of p ts s (and_parts (p t) (list_all p ts) all).1 more
-
-pub list_any-at : (p : ℕ → Bool) (ids : List ℕ) (x : ℕ) → is_among ids x ≡ true → p x ≡ true → list_any p ids ≡ true
-list_any-at p [] x there h = absurd (false≢true there)
-list_any-at p (i ∷ ids) x there h = by_place (or_cases (i == x) (is_among ids x) there) (list_any-at p ids x)
-  where
-    by_place : ((i == x) ≡ true) ⊎ (is_among ids x ≡ true) → (is_among ids x ≡ true → p x ≡ true → list_any p ids ≡ true) → (p i || list_any p ids) ≡ true
-    by_place (inl e) rest = or_left (p i) (list_any p ids) (ap p (eqb-true i x e) ∙ h)
-    by_place (inr e) rest = or_right (p i) (list_any p ids) (rest e h)
 
 -- streams that touch have one number of channels
 pub touching : (v : View) → agree v ≡ true → (s t : StreamView) → IsOf s v.streams → IsOf t v.streams → touch v.graph s.host t.host ≡ true → same_shape s.params t.params ≡ true
@@ -146,9 +139,7 @@ shape-stays g streams to keeps was played x there before after =
     let a = heard old x was before in
     let b = heard new x played after in
     let stay = all-of (λ s. ((to s).host ≡ s.host) × (is_live_phase s.phase ≡ true → (to s).params ≡ s.params)) streams a.stream keeps a.among in
-    let touches : touch g (to a.stream).host b.stream.host ≡ true =
-    list_any-at (λ y. on_way g (to a.stream).host y && on_way g b.stream.host y) (components g ++ buffers g) x there
-    (and_from (on_way g (to a.stream).host x) (on_way g b.stream.host x) (ap (λ host. on_way g host x) stay.0 ∙ a.way) b.way) in
+    let touches = touch-at g (to a.stream).host b.stream.host x there (ap (λ host. on_way g host x) stay.0 ∙ a.way) b.way in
     let shape = touching new played.agreed (to a.stream) b.stream (IsOf-map to a.stream streams a.among) b.among touches in
     let same = shape-parts a.params b.params (to a.stream).params b.stream.params (stay.1 a.phase ∙ a.has) b.has shape in
     (b.rate ∙ sym same.0 ∙ sym a.rate, b.channels ∙ sym same.1 ∙ sym a.channels)

@@ -234,10 +234,11 @@ played-free g host ss was =
     all (s ∷ xs) sets = (one s (s.host == host) sets.0, all xs sets.1)
 
 -- what is not refused passes each test
-pub params-pass : (a m r w g : Bool) → ((((not a || m) || not r) || not w) || not g) ≡ false → (a ≡ true) × (m ≡ false) × (r ≡ true) × (w ≡ true) × (g ≡ true)
-params-pass true false true true true e = (refl, refl, refl, refl, refl)
-params-pass false m r w g e = absurd (true≢false e)
-params-pass true true r w g e = absurd (true≢false e)
-params-pass true false false w g e = absurd (true≢false e)
-params-pass true false true false g e = absurd (true≢false e)
-params-pass true false true true false e = absurd (true≢false e)
+pub params-pass : (a m r w k g : Bool) → (((((not a || m) || not r) || not w) || k) || not g) ≡ false → (a ≡ true) × (m ≡ false) × (r ≡ true) × (w ≡ true) × (g ≡ true)
+params-pass true false true true false true e = (refl, refl, refl, refl, refl)
+params-pass false m r w k g e = absurd (true≢false e)
+params-pass true true r w k g e = absurd (true≢false e)
+params-pass true false false w k g e = absurd (true≢false e)
+params-pass true false true false k g e = absurd (true≢false e)
+params-pass true false true true true g e = absurd (true≢false e)
+params-pass true false true true false false e = absurd (true≢false e)

@@ -1,7 +1,7 @@
 -- A tick keeps what every state keeps.
 use Rattle.std.proofs.Common.{◌≡◌, refl, sym, ap, ◌∙◌, subst, ℕ, zero, suc, ◌+◌, ◌*◌, ◌≤◌, List, [], ◌∷◌, ◌++◌, length, map, drop, take, replicate, Option, Some, None, Bool, true, false, cond, inl, inr, ◌⊎◌, ◌==◌, ◌&&◌, ◌||◌, ℤ, pos, arith, length-append}
 use Rattle.std.proofs.lemmas.Bool.{true≢false, false≢true, and_parts, eqb-true, eq-eqb, or_left, or_right, cond-true, cond-false}
-use Rattle.std.proofs.lemmas.List.{length-replicate}
+use Rattle.std.proofs.lemmas.List.{length-replicate, nil_from_length}
 use Rattle.std.proofs.Math.Seq.{drop-nil}
 use Rattle.std.specs.Prelude.{find, slice_get}
 use Rattle.std.specs.Option.{option_map_or}
@@ -10,7 +10,7 @@ use Rattle.sof_base.specs.Equations.{Section, section_output}
 use Rattle.sof_base.specs.Samples.{Frame, frames_in, sample_of}
 use Rattle.sof_base.specs.Ports.{Io}
 use Rattle.stream_law.specs.declared.graph.Kind.{Kind}
-use Rattle.stream_law.specs.declared.graph.Kind.TheVariants.{Volume, Mux, Eq}
+use Rattle.stream_law.specs.declared.graph.Kind.TheVariants.{Volume, Mux, Eq, Demux}
 use Rattle.stream_law.specs.declared.graph.Setting.{Setting}
 use Rattle.stream_law.specs.declared.graph.Comp.{Comp}
 use Rattle.stream_law.specs.State.{FwState, View, RingView, History, view_of}
@@ -18,13 +18,14 @@ use Rattle.stream_law.specs.Table.{table, list_of, updated}
 use Rattle.stream_law.specs.Ways.{comp_of, is_of, source_of, sink_of, outs, is_end, live, live_end, active_end, channels_of, inputs}
 use Rattle.stream_law.specs.Moves.{fed, fed_by}
 use Rattle.stream_law.specs.Order.{is_among, order}
-use Rattle.stream_law.specs.Made.{Passing, gains, frames_made, frames_by, only_slice, chosen_slice}
+use Rattle.stream_law.specs.Made.{Passing, gains, frames_for, frames_made, frames_by, only_slice, chosen_slice}
 use Rattle.stream_law.specs.Endpoints.{format_of}
 use Rattle.stream_law.specs.Equaliser.{sections_of, passed_sections, passed_channels, passed_frames, numbers_after, next_inner, number_at}
 use Rattle.stream_law.specs.Ramps.{ramped_frames, ramp_place, ramp_numbers, numbers_from, numbers_place, ramped_on}
 use Rattle.stream_law.specs.Move.{Audio, after_move, after_moves, frames_moved, looked_now, fronts, made_now, numbers_moved, audio_of, audio_after, next_clock}
 use Rattle.stream_law.specs.Seen.{is_volume, flows, ring_seen, blob_in, gains_in, ramp_length, fresh_from, fresh_numbers}
 use Rattle.stream_law.proofs.Among.{is_among-filter}
+use Rattle.stream_law.proofs.Feeding.{length-frames_for}
 use Rattle.stream_law.proofs.Keyed.{keys-remade}
 use Rattle.stream_law.proofs.Silent.{active-live, frames_to_move-idle}
 use Rattle.stream_law.proofs.Tables.{value_of-updated_cases}
@@ -113,6 +114,7 @@ module _ (v : View) (t c : ℕ) (a : Audio) where
       by None = refl
       by (Some b) = none-chosen (looked_now v (blob_in v) t c a) a.rings b
   none-by Eq setting = ap (passed_frames _ _ (list_of a.numbers c)) (none-taken (looked_now v (blob_in v) t c a) a.rings)
+  none-by Demux setting = none-taken (looked_now v (blob_in v) t c a) a.rings
   none-by kind setting = refl
 
   made-none : frames_moved v (blob_in v) t c a ≡ 0 → made_now v (blob_in v) t c a ≡ []
@@ -148,7 +150,7 @@ dead-source true s true live heard dead = by s dead
 dead-source false s k live heard dead = absurd (false≢true live)
 dead-source true s false live heard dead = absurd (false≢true heard)
 
-abbrev AreEmpty : View → Audio → Type 0
+abbrev pub AreEmpty : View → Audio → Type 0
 AreEmpty v a = (b : ℕ) → flows v b ≡ false → list_of a.rings b ≡ []
 
 module _ (v : View) (t : ℕ) where
@@ -162,8 +164,13 @@ module _ (v : View) (t : ℕ) where
       let end = dead-source (live v b) (live_end v (source_of v.graph b)) (live_end v (sink_of v.graph b)) is_fed.0 (active-heard v (sink_of v.graph b) is_fed.1) dead in
       made-none v t c a (frames_to_move-idle v t _ _ c (active-live v c (dead-end v c (source_of v.graph b) from.0 end)))
 
+  parted-none : (c b : ℕ) (a : Audio) → is_among (fed_by v c) b ≡ true → flows v b ≡ false → frames_for v c b (made_now v (blob_in v) t c a) ≡ []
+  parted-none c b a there dead =
+      let none : length (made_now v (blob_in v) t c a) ≡ 0 = ap (λ (fs : List Frame). length fs) (feeds-none c b a there dead) in
+      nil_from_length (frames_for v c b (made_now v (blob_in v) t c a)) (length-frames_for v c b (made_now v (blob_in v) t c a) ∙ none)
+
   empty-one : (c : ℕ) (a : Audio) → AreEmpty v a → AreEmpty v (after_move v (blob_in v) t c a)
-  empty-one c a was b dead = fed-part (value_of-updated_cases [] (fed_by v c) (λ b. list_of a.rings b ++ made_now v (blob_in v) t c a) dropped b)
+  empty-one c a was b dead = fed-part (value_of-updated_cases [] (fed_by v c) (λ b. list_of a.rings b ++ frames_for v c b (made_now v (blob_in v) t c a)) dropped b)
     where
       dropped : List (ℕ × List Frame)
       dropped = updated (looked_now v (blob_in v) t c a) (λ b. drop (frames_moved v (blob_in v) t c a) (list_of a.rings b)) a.rings
@@ -172,11 +179,11 @@ module _ (v : View) (t : ℕ) where
       looked-part (inl p) = p.1 ∙ ap (drop (frames_moved v (blob_in v) t c a)) (was b dead) ∙ drop-nil (frames_moved v (blob_in v) t c a)
       looked-part (inr p) = p.1 ∙ was b dead
 
-      fed-part : ((is_among (fed_by v c) b ≡ true) × (list_of (after_move v (blob_in v) t c a).rings b ≡ list_of a.rings b ++ made_now v (blob_in v) t c a)) ⊎ ((is_among (fed_by v c) b ≡ false) × (list_of (after_move v (blob_in v) t c a).rings b ≡ list_of dropped b)) → list_of (after_move v (blob_in v) t c a).rings b ≡ []
-      fed-part (inl p) = p.1 ∙ ap (λ (q : List Frame × List Frame). q.0 ++ q.1) (λ i. (was b dead i, feeds-none c b a p.0 dead i))
+      fed-part : ((is_among (fed_by v c) b ≡ true) × (list_of (after_move v (blob_in v) t c a).rings b ≡ list_of a.rings b ++ frames_for v c b (made_now v (blob_in v) t c a))) ⊎ ((is_among (fed_by v c) b ≡ false) × (list_of (after_move v (blob_in v) t c a).rings b ≡ list_of dropped b)) → list_of (after_move v (blob_in v) t c a).rings b ≡ []
+      fed-part (inl p) = p.1 ∙ ap (λ (q : List Frame × List Frame). q.0 ++ q.1) (λ i. (was b dead i, parted-none c b a p.0 dead i))
       fed-part (inr p) = p.1 ∙ looked-part (value_of-updated_cases [] (looked_now v (blob_in v) t c a) (λ b. drop (frames_moved v (blob_in v) t c a) (list_of a.rings b)) a.rings b)
 
-  empty-all : (cs : List ℕ) (a : Audio) → AreEmpty v a → AreEmpty v (after_moves v (blob_in v) t cs a)
+  pub empty-all : (cs : List ℕ) (a : Audio) → AreEmpty v a → AreEmpty v (after_moves v (blob_in v) t cs a)
   empty-all [] a was = was
   empty-all (c ∷ cs) a was = empty-all cs (after_move v (blob_in v) t c a) (empty-one c a was)
 
@@ -199,7 +206,7 @@ module _ (v : View) (t : ℕ) where
 -- ---- a whole tick
 
 -- at the beginning
-empty-first : (v : View) (rs : List RingView) → AllByRecursion (λ r. ring_seen v r ≡ r) rs → (b : ℕ) → flows v b ≡ false → list_of (map (λ (r : RingView). (r.buffer, r.frames)) rs) b ≡ []
+pub empty-first : (v : View) (rs : List RingView) → AllByRecursion (λ r. ring_seen v r ≡ r) rs → (b : ℕ) → flows v b ≡ false → list_of (map (λ (r : RingView). (r.buffer, r.frames)) rs) b ≡ []
 empty-first v [] all b dead = refl
 empty-first v (r ∷ rs) all b dead = by (r.buffer == b) refl (empty-first v rs all.1 b dead)
   where

@@ -1,13 +1,13 @@
 -- Walks of joins as lists of the ids that they come to.
-use Rattle.std.proofs.Common.{◌≡◌, refl, sym, ap, ◌∙◌, subst, ℕ, zero, suc, List, [], ◌∷◌, length, Bool, true, inl, inr, ◌⊎◌, ◌==◌, ◌&&◌}
+use Rattle.std.proofs.Common.{◌≡◌, refl, sym, ap, ◌∙◌, subst, ℕ, zero, suc, List, [], ◌∷◌, filter, length, Bool, true, false, not, inl, inr, ◌⊎◌, ◌==◌, ◌&&◌}
 use Rattle.std.proofs.lemmas.Bool.{and_parts, and_from, eqb-true, eq-eqb}
 use Rattle.std.specs.List.{list_any}
 use Rattle.stream_law.specs.declared.graph.Join.{Join}
 use Rattle.stream_law.specs.declared.graph.Graph.{Graph}
-use Rattle.stream_law.specs.Ways.{leads, reaches}
-use Rattle.stream_law.proofs.Members.{any-in, in-any}
+use Rattle.stream_law.specs.Ways.{leads, reaches, is_echo, way_joins, ways_to}
+use Rattle.stream_law.proofs.Members.{any-in, in-any, in-kept}
 use Rattle.stream_law.proofs.Walking.{Path, Walks, path-of, walks-lead}
-use Rattle.row_laws.proofs.Fewer.{eq-refl}
+use Rattle.row_laws.proofs.Fewer.{any-of_kept, eq-refl}
 
 -- a join goes from a to c
 abbrev pub goes_from : List Join → ℕ → ℕ → Bool
@@ -87,3 +87,28 @@ trip-reached g a b e = trip-of g.joins (length g.joins) a b e
 pub reached-trip : (g : Graph) (a b : ℕ) → Trip g.joins a b → reaches g a b ≡ true
 unfolding reaches
 reached-trip g a b t = trip-leads g.joins a b t
+
+-- ---- without echo edges
+
+pub trip-ways : (g : Graph) (a b : ℕ) → ways_to g a b ≡ true → Trip (way_joins g) a b
+unfolding ways_to
+trip-ways g a b e = trip-of (way_joins g) (length (way_joins g)) a b e
+
+pub ways-trip : (g : Graph) (a b : ℕ) → Trip (way_joins g) a b → ways_to g a b ≡ true
+unfolding ways_to
+ways-trip g a b t = trip-leads (way_joins g) a b t
+
+-- a join of a way is a join, and one between what is no echo edge is a join of ways
+pub way-goes : (g : Graph) (a b : ℕ) → goes_from (way_joins g) a b ≡ true → goes_from g.joins a b ≡ true
+unfolding way_joins
+way-goes g a b e = any-of_kept (λ (j : Join). not (is_echo g j.source) && not (is_echo g j.sink)) (λ j. j.source == a && j.sink == b) g.joins e
+
+pub goes-way : (g : Graph) (a b : ℕ) → is_echo g a ≡ false → is_echo g b ≡ false → goes_from g.joins a b ≡ true → goes_from (way_joins g) a b ≡ true
+unfolding way_joins
+goes-way g a b from to e =
+    let found = any-in (λ (j : Join). j.source == a && j.sink == b) g.joins e in
+    let j : Join = found.0 in
+    let parts = and_parts (j.source == a) (j.sink == b) found.2 in
+    let plain : (not (is_echo g j.source) && not (is_echo g j.sink)) ≡ true =
+    and_from _ _ (ap (λ n. not (is_echo g n)) (eqb-true j.source a parts.0) ∙ ap not from) (ap (λ n. not (is_echo g n)) (eqb-true j.sink b parts.1) ∙ ap not to) in
+    in-any (λ (k : Join). k.source == a && k.sink == b) (filter (λ k. not (is_echo g k.source) && not (is_echo g k.sink)) g.joins) j (in-kept (λ (k : Join). not (is_echo g k.source) && not (is_echo g k.sink)) g.joins j found.1 plain) found.2

@@ -3,9 +3,9 @@ use Rattle.std.specs.Prelude.{◌≡◌, ◌⊎◌, ℕ, ◌+◌, ◌*◌, ◌<�
 use Rattle.std.specs.List.{list_any, AllByRecursion}
 use Rattle.sof_base.specs.BlobParts.{IsBlob}
 use Rattle.stream_law.specs.declared.graph.Kind.{Kind}
-use Rattle.stream_law.specs.declared.graph.Kind.TheVariants.{Volume, Mux, Eq}
+use Rattle.stream_law.specs.declared.graph.Kind.TheVariants.{Volume, Mux, Eq, Demux}
 use Rattle.stream_law.specs.declared.graph.Setting.{Setting}
-use Rattle.stream_law.specs.declared.graph.Setting.TheVariants.{Nothing, Gains, Choice, Blob}
+use Rattle.stream_law.specs.declared.graph.Setting.TheVariants.{Nothing, Gains, Choice, Blob, Masks}
 use Rattle.stream_law.specs.declared.graph.Graph.{Graph}
 use Rattle.stream_law.specs.Placed.{Ascends, HasDistinct}
 use Rattle.stream_law.specs.State.{FwState, HeapView, View, History, Staging, view_of}
@@ -35,7 +35,7 @@ pub record ArePieces (g : Graph) (heap : HeapView) : Type 0 where
 -- ---- settings
 
 -- what may be set at a component of a kind: 1 to 8 gains of at most 16777216 at a volume, a choice at a mux, a blob or none at an
--- equaliser, and nothing at any other
+-- equaliser, eight masks of at most 255 at a demux, and nothing at any other
 abbrev pub IsSettingOf : Kind → Setting → Type 0
 IsSettingOf Volume (Gains gains) = ((1 ≤ length gains) × (length gains ≤ 8)) × AllByRecursion (λ n. n ≤ 16777216) gains
 IsSettingOf Volume setting = ⊥
@@ -43,6 +43,8 @@ IsSettingOf Mux (Choice k) = Unit {0}
 IsSettingOf Mux setting = ⊥
 IsSettingOf Eq (Blob bytes) = (bytes ≡ []) ⊎ IsBlob bytes
 IsSettingOf Eq setting = ⊥
+IsSettingOf Demux (Masks masks) = (length masks ≡ 8) × AllByRecursion (λ n. n ≤ 255) masks
+IsSettingOf Demux setting = ⊥
 IsSettingOf kind Nothing = Unit {0}
 IsSettingOf kind setting = ⊥
 

@@ -11,7 +11,7 @@ use Rattle.stream_law.specs.Ways.{is_live_phase, is_running_phase}
 use Rattle.ipc3_model.specs.declared.message.Message.{Message}
 use Rattle.ipc3_model.specs.declared.message.Message.TheVariants.{SetData}
 use Rattle.ipc3_model.specs.Allowed.{is_buffer_size, is_period_allowed, is_channels}
-use Rattle.ipc3_model.specs.Messages.{IsAllowed}
+use Rattle.ipc3_model.specs.Meanings.{IsAllowed}
 use Rattle.mbox_link.specs.Step.{comp_new, comp_free, buffer_new, buffer_free, pipe_new, pipe_free, connect, pipe_complete, set_value, get_value, set_data, get_data, pcm_params, pcm_free, trigger, is_prepared, is_paused, row, step, fresh}
 use Rattle.mbox_link.specs.Exchange.{ticked}
 use Rattle.row_laws.specs.Kept.{IsKeptState, IsSettingOf, IsRampOf}

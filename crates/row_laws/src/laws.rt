@@ -8,8 +8,8 @@ use ipc3_model::messages_are_decoded;
 ///   pipeline is not complete.
 /// - COMP_FREE, BUFFER_FREE and PIPE_FREE: one less, with a component's stream, history and staged parts, or a buffer's joins and ring.
 /// - CONNECT: a join more, the last in order. PIPE_COMPLETE: a pipeline that is complete.
-/// - SET_VALUE: other gains of a volume, to which it ramps where it is Live, or another choice of a mux. SET_DATA: a part that is staged, or a blob that is in force, with an
-///   epoch of its own and nothing staged.
+/// - SET_VALUE: other gains of a volume, to which it ramps where it is Live, another choice of a mux, or other masks of a demux.
+///   SET_DATA: a part that is staged, or a blob that is in force, with an epoch of its own and nothing staged.
 /// - PCM_PARAMS: a stream that is Prepared with its parameters. PCM_FREE: one without parameters.
 /// - TRIG_START, TRIG_STOP, TRIG_PAUSE and TRIG_RELEASE: a stream in its next phase.
 /// - GET_VALUE, GET_DATA and CTX_SAVE: the state stays.

@@ -2,8 +2,12 @@
 use Rattle.std.proofs.Common.{◌≡◌, refl, sym, ap, ◌∙◌, subst, ℕ, zero, suc, ◌+◌, ◌-◌, ◌*◌, ◌<◌, ◌≤◌, true, List, [], ◌∷◌, ◌++◌, length, take, drop, get_or, arith, length-append}
 use Rattle.std.proofs.lemmas.List.{take_at}
 use Rattle.std.specs.List.{AllByRecursion, flat_map}
-use Rattle.sof_base.specs.Slots.{AreWords, words_bytes, word_at, words_at}
-use Rattle.sof_base.specs.Blob.{SectionFields, blob_magic, is_assignment, is_shift, signed, signed_at, blob_channels, blob_responses, assignment_at, response_at}
+use Rattle.sof_base.specs.Slots.{AreWords, words_bytes, word_at}
+use Rattle.sof_base.specs.Layouts.{words_at}
+use Rattle.sof_base.specs.Blob.{is_assignment, is_shift, signed_at, blob_channels, blob_responses, assignment_at, response_at}
+use Rattle.sof_base.specs.BlobParts.{blob_magic}
+use Rattle.sof_base.specs.BlobParts.{signed}
+use Rattle.sof_base.specs.BlobParts.{SectionFields}
 use Rattle.sof_base.specs.BlobParts.{ResponseFields, section_words, response_words, blob_words, IsResponse, IsBlob}
 use Rattle.sof_base.proofs.FieldLaws.{words_again, length-words_bytes}
 use Rattle.sof_base.proofs.BlobTests.{IsSound, counted}

@@ -3,7 +3,8 @@ use Rattle.std.proofs.Common.{◌≡◌, refl, ap, ◌∙◌, ℕ, ◌+◌, ◌-
 use Rattle.std.specs.Prelude.{None, nat_le, ◌==◌}
 use Rattle.std.proofs.lemmas.Bool.{leb-true, le-leb, eqb-true, eq-eqb, and_parts, and_from}
 use Rattle.sof_base.specs.Slots.{word_at}
-use Rattle.sof_base.specs.Blob.{blob_magic, is_count, is_assignment, is_shift, signed_at, blob_channels, blob_responses, assignment_at, response_at, section_count, section_place}
+use Rattle.sof_base.specs.Blob.{is_count, is_assignment, is_shift, signed_at, blob_channels, blob_responses, assignment_at, response_at, section_count, section_place}
+use Rattle.sof_base.specs.BlobParts.{blob_magic}
 use Rattle.sof_base.specs.BlobFaults.{BlobFault, Size, Magic, HeaderSize, Channels, Responses, Assignment, Sections, Shift, Length, BlobTest, first_fault, head_tests, assignment_tests, section_tests, counts_tests, response_tests, blob_fault}
 use Rattle.sof_base.proofs.FirstFaults.{tests_of, first-append, first-both, first-each, first-none}
 

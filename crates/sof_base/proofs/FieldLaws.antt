@@ -6,7 +6,8 @@ use Rattle.std.proofs.Math.Seq.{take-add}
 use Rattle.std.proofs.lemmas.Nat.{le_bytes_2, le_bytes_4, le_bytes_8, from_le_bytes-to_le_bytes_8, from_le_bytes-to_le_bytes_2, from_le_bytes-to_le_bytes_4}
 use Rattle.std.specs.Int.{w16, w32, w64, from_le_bytes, to_le_bytes}
 use Rattle.sof_base.specs.Cells.{fixed, loose, Fits}
-use Rattle.sof_base.specs.Slots.{Slot, Word, Half, Long, Size, Label, Words, Raw, Spare, zeros, words_bytes, slot_cells, slots_cells, NoZero, AreWords, IsSlot, AreSlots, part, until_zero, has_zero, word_at, half_at, long_at, name_at, has_name, words_at}
+use Rattle.sof_base.specs.Slots.{Slot, Word, Half, Long, Size, Label, Words, Raw, Spare, zeros, words_bytes, slot_cells, slots_cells, NoZero, AreWords, IsSlot, AreSlots, part, until_zero, has_zero, word_at, half_at, has_name}
+use Rattle.sof_base.specs.Layouts.{long_at, name_at, words_at}
 use Rattle.sof_base.specs.Layouts.{Shape, A_word, A_half, A_long, A_size, A_name, A_words, Bytes, A_spare, shape_width, slot_at, name_ends, widths, slots_from, all_named, shape_of, shapes_of}
 use Rattle.sof_base.proofs.Fitting.{Fits-length, Fits-append, Fits-split, Fits-fixed, is_fixed, Fits-loose}
 

@@ -1,7 +1,8 @@
 -- Reading words one after the other, as a loop does.
 use Rattle.std.proofs.Common.{◌≡◌, ℕ, zero, suc, ◌+◌, ◌*◌, ◌<◌, List, [], ◌∷◌, ◌++◌, length, take, set, refl, sym, ap, ◌∙◌, arith}
 use Rattle.std.proofs.lemmas.List.{take_more_set}
-use Rattle.sof_base.specs.Slots.{word_at, words_at}
+use Rattle.sof_base.specs.Slots.{word_at}
+use Rattle.sof_base.specs.Layouts.{words_at}
 
 pub words_more : (n : ℕ) (bytes : List ℕ) (at : ℕ) → words_at (n + 1) bytes at ≡ words_at n bytes at ++ word_at bytes (at + 4 * n) ∷ []
 unfolding words_at

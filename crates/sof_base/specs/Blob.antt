@@ -5,23 +5,7 @@ use Rattle.std.specs.Int.{w32, cast_signed}
 use Rattle.sof_base.specs.Slots.{word_at}
 use Rattle.sof_base.specs.Equations.{Section}
 
--- ---- the fields; reserved words, the header's type and abi and the head's size are not looked at: nothing restricts them
-
--- a section: its coefficients, shift and gain
-pub record SectionFields : Type 0 where
-  pub a2 : ℕ
-  pub a1 : ℕ
-  pub b2 : ℕ
-  pub b1 : ℕ
-  pub b0 : ℕ
-  pub shift : ℕ
-  pub gain : ℕ
-
--- ---- their words, one after the other
-
--- the magic word, "SOF" and a zero
-abbrev pub blob_magic : ℕ
-blob_magic = 4607827
+-- Reserved words, the header's type and abi and the head's size are not looked at: nothing restricts them.
 
 -- ---- the ranges
 
@@ -37,17 +21,11 @@ is_assignment n assignment = int_le (negsuc 0) assignment && int_lt assignment (
 abbrev pub is_shift : ℤ → Bool
 is_shift shift = int_le (negsuc 12) shift && int_le shift (pos 31)
 
--- a word as a signed number
-abbrev pub signed : ℕ → ℤ
-signed word = cast_signed w32 word
-
--- ---- blobs
-
 -- ---- where the parts of a blob lie
 
 -- the signed number at a place
 abbrev pub signed_at : List ℕ → ℕ → ℤ
-signed_at b place = signed (word_at b place)
+signed_at b place = cast_signed w32 (word_at b place)
 
 -- how many channels have an assignment, and how many responses there are
 abbrev pub blob_channels : List ℕ → ℕ

@@ -1,9 +1,9 @@
 -- Why bytes are no blob: the tests that they have to pass, in the order in which they are read, each with the fault of bytes that
 -- fail it.
-use Rattle.std.specs.Prelude.{◌≡◌, ℕ, ◌+◌, ◌-◌, ◌*◌, List, [], ◌∷◌, ◌++◌, length, Bool, ◌&&◌, ◌==◌, nat_le, Option, Some, None, is_none, if◌then◌else◌}
+use Rattle.std.specs.Prelude.{ℕ, ◌+◌, ◌-◌, ◌*◌, List, [], ◌∷◌, ◌++◌, length, Bool, ◌&&◌, ◌==◌, nat_le, Option, Some, None, is_none, if◌then◌else◌}
 use Rattle.std.specs.List.{flat_map, range_with_len}
 use Rattle.sof_base.specs.Slots.{word_at}
-use Rattle.sof_base.specs.Blob.{blob_magic, is_count, is_assignment, is_shift, signed_at, blob_channels, blob_responses, assignment_at, response_at, section_count, section_place}
+use Rattle.sof_base.specs.Blob.{is_count, is_assignment, is_shift, signed_at, blob_channels, blob_responses, assignment_at, response_at, section_count, section_place}
 
 -- an assignment by its channel, section counts by their response, a shift by response and section
 pub data BlobFault : Type 0 where
@@ -32,11 +32,11 @@ reach b end = (Length, nat_le end (length b))
 
 -- ---- the tests
 
--- the header and the head
+-- the header, of which the magic word is "SOF" and a zero, and the head
 abbrev pub head_tests : List ℕ → List BlobTest
 head_tests b =
     (Size, nat_le 60 (length b) && nat_le (length b) 1024)
-    ∷ (Magic, word_at b 0 == blob_magic)
+    ∷ (Magic, word_at b 0 == 4607827)
     ∷ (HeaderSize, word_at b 8 == length b - 32)
     ∷ (Channels, is_count (blob_channels b))
     ∷ (Responses, is_count (blob_responses b))
@@ -80,9 +80,6 @@ blob_tests b =
 -- the first fault of bytes, none where they are a blob
 unfoldable pub blob_fault : List ℕ → Option BlobFault
 blob_fault b = first_fault (blob_tests b)
-
-abbrev pub IsBlobFault : List ℕ → BlobFault → Type 0
-IsBlobFault b fault = blob_fault b ≡ Some fault
 
 -- the number of a fault
 abbrev pub fault_number : BlobFault → ℕ

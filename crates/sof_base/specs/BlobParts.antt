@@ -1,8 +1,27 @@
 -- A blob of an equaliser, word by word.
 use Rattle.std.specs.Prelude.{◌≡◌, ℕ, ◌+◌, ◌-◌, ◌≤◌, List, [], ◌∷◌, ◌++◌, length, true, ℤ}
+use Rattle.std.specs.Int.{w32, cast_signed}
 use Rattle.std.specs.List.{AllByRecursion, flat_map}
 use Rattle.sof_base.specs.Slots.{AreWords, words_bytes}
-use Rattle.sof_base.specs.Blob.{SectionFields, blob_magic, is_count, is_assignment, is_shift, signed}
+use Rattle.sof_base.specs.Blob.{is_count, is_assignment, is_shift}
+
+-- the magic word, "SOF" and a zero
+abbrev pub blob_magic : ℕ
+blob_magic = 4607827
+
+-- a word as a signed number
+abbrev pub signed : ℕ → ℤ
+signed word = cast_signed w32 word
+
+-- a section: its coefficients, shift and gain
+pub record SectionFields : Type 0 where
+  pub a2 : ℕ
+  pub a1 : ℕ
+  pub b2 : ℕ
+  pub b1 : ℕ
+  pub b0 : ℕ
+  pub shift : ℕ
+  pub gain : ℕ
 
 -- a response: four reserved words, and its sections, all of them in series
 pub record ResponseFields : Type 0 where

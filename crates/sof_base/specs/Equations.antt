@@ -1,7 +1,7 @@
 -- What a volume, a mixer, a mux and a section of an equaliser make of samples.
-use Rattle.std.specs.Prelude.{ℕ, zero, suc, ◌-◌, List, [], ◌∷◌, ◌++◌, map, get_or, length, min, ℤ, pos, ◌+ℤ◌, ◌*ℤ◌, nat_abs, if◌then◌else◌, nat_le, Option, Some, None}
+use Rattle.std.specs.Prelude.{ℕ, zero, suc, ◌-◌, List, [], ◌∷◌, ◌++◌, map, get_or, length, min, ℤ, pos, ◌+ℤ◌, ◌*ℤ◌, nat_abs, if◌then◌else◌, nat_le}
 use Rattle.std.specs.List.{range_with_len}
-use Rattle.sof_base.specs.Samples.{Frame, sat, rounded, sample_of, silence}
+use Rattle.sof_base.specs.Samples.{Frame, sat, rounded, sample_of}
 
 -- ---- volume
 
@@ -27,11 +27,6 @@ exact_sum k (frame ∷ frames) = sample_of frame k +ℤ exact_sum k frames
 -- frames, one of each input, mixed: the exact sum is held once
 abbrev pub mixed : ℕ → List Frame → Frame
 mixed channels frames = map (λ k. sat 32 (exact_sum k frames)) (range_with_len 0 channels)
-
--- the chosen input's frame, or zeros where none is looked at
-abbrev pub chosen : ℕ → Option Frame → Frame
-chosen channels (Some frame) = frame
-chosen channels None = silence channels
 
 -- ---- a section of an equaliser, over all inputs of an epoch
 

@@ -2,7 +2,7 @@
 use Rattle.std.specs.Prelude.{◌≡◌, ℕ, zero, suc, ◌+◌, List, [], ◌∷◌, ◌++◌, take, drop, length, ℤ, if◌then◌else◌, ◌==◌, Option, Some, None}
 use Rattle.sof_base.specs.declared.format.Format.{Format}
 use Rattle.sof_base.specs.declared.format.Format.TheVariants.{S16, S24, S32}
-use Rattle.sof_base.specs.Samples.{Frame}
+use Rattle.sof_base.specs.Samples.{Frame, silence}
 
 abbrev pub format_numbered : ℕ → Option Format
 format_numbered n = if n == 0 then Some S16 else (if n == 1 then Some S24 else (if n == 2 then Some S32 else None))
@@ -21,3 +21,8 @@ frames_of channels (suc n) samples = take channels samples ∷ frames_of channel
 abbrev pub samples_of : List Frame → List ℤ
 samples_of [] = []
 samples_of (frame ∷ frames) = frame ++ samples_of frames
+
+-- the chosen input's frame, or zeros where none is looked at
+abbrev pub chosen : ℕ → Option Frame → Frame
+chosen channels (Some frame) = frame
+chosen channels None = silence channels

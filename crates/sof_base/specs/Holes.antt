@@ -1,5 +1,6 @@
 -- The free parts of a heap as a list, and what carving and giving back make of it. Places and sizes are in bytes.
-use Rattle.std.specs.Prelude.{ℕ, ◌+◌, ◌-◌, ◌*◌, ◌/◌, Bool, false, ◌||◌, List, [], ◌∷◌, ◌==◌, nat_le, nat_lt, if◌then◌else◌}
+use Rattle.std.specs.Prelude.{ℕ, ◌+◌, ◌-◌, ◌*◌, ◌/◌, Bool, List, [], ◌∷◌, ◌==◌, nat_le, nat_lt, if◌then◌else◌}
+use Rattle.std.specs.List.{list_any}
 use Rattle.sof_base.specs.declared.hole.Hole.{Hole}
 
 -- n, up to a multiple of 16
@@ -16,8 +17,7 @@ fresh_holes n = if n == 0 then [] else record { place = 0; size = n } ∷ []
 
 -- some hole has n bytes
 abbrev pub fits : ℕ → List Hole → Bool
-fits n [] = false
-fits n (h ∷ hs) = nat_le n h.size || fits n hs
+fits n hs = list_any (λ (h : Hole). nat_le n h.size) hs
 
 -- the place of the first hole that has n bytes
 abbrev pub first_fit : ℕ → List Hole → ℕ

@@ -1,7 +1,21 @@
 -- Kinds of fields, read and written one after the other.
-use Rattle.std.specs.Prelude.{ℕ, ◌+◌, ◌*◌, Bool, true, ◌&&◌, List, [], ◌∷◌, ◌++◌, length}
+use Rattle.std.specs.Prelude.{ℕ, ◌+◌, ◌*◌, Bool, true, ◌&&◌, List, [], ◌∷◌, ◌++◌, length, zero, suc}
 use Rattle.sof_base.specs.Cells.{Cell, written}
-use Rattle.sof_base.specs.Slots.{Slot, slot_cells, part, word_at, half_at, long_at, name_at, has_name, words_at, Word, Half, Long, Size, Label, Words, Raw, Spare}
+use Rattle.sof_base.specs.Slots.{Slot, slot_cells, part, word_at, half_at, has_name, Word, Half, Long, Size, Label, Words, Raw, Spare, until_zero}
+use Rattle.std.specs.Int.{w64, from_le_bytes}
+
+-- of eight
+unfoldable pub long_at : List ℕ → ℕ → ℕ
+long_at bytes at = from_le_bytes w64 (part bytes at 8)
+
+-- the name in the 44 bytes from a place on
+unfoldable pub name_at : List ℕ → ℕ → List ℕ
+name_at bytes at = until_zero (part bytes at 44)
+
+-- n words of four bytes from a place on
+unfoldable pub words_at : ℕ → List ℕ → ℕ → List ℕ
+words_at zero bytes at = []
+words_at (suc n) bytes at = word_at bytes at ∷ words_at n bytes (at + 4)
 
 -- bytes, and a field behind them
 unfoldable pub wrote : List ℕ → Slot → List ℕ

@@ -1,4 +1,5 @@
 pub mod Cells
+pub mod LoosePlaces
 pub mod Slots
 pub mod Layouts
 pub mod Samples
@@ -6,9 +7,11 @@ pub mod FrameLists
 pub mod Rates
 pub mod Equations
 pub mod Ramps
+pub mod Masks
 pub mod Holes
 pub mod Spacing
 pub mod Ports
+pub mod DrainedOutputs
 pub mod Blob
 pub mod BlobParts
 pub mod BlobFaults

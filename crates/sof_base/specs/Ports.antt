@@ -27,8 +27,3 @@ moved_on position n = min (position + n) (2 ^ 64 - 1)
 abbrev pub HasRoom : ℕ → List OutputView → Type 0
 HasRoom n [] = Unit {0}
 HasRoom n (output ∷ outputs) = (length output.bytes + n ≤ OUTPUT_BYTES) × HasRoom n outputs
-
--- the outputs with no bytes
-abbrev pub drained : List OutputView → List OutputView
-drained [] = []
-drained (output ∷ outputs) = record { slot = output.slot; bytes = [] } ∷ drained outputs

@@ -1,7 +1,7 @@
 -- Samples: their numbers inside the firmware, and their bytes in the three formats. Full scale is the range of 32 bits.
-use Rattle.std.specs.Prelude.{ℕ, ◌+◌, ◌-◌, ◌*◌, ◌%◌, ◌^◌, List, [], ◌∷◌, ◌++◌, map, get_or, ℤ, pos, ◌+ℤ◌, ◌-ℤ◌, ◌*ℤ◌, if◌then◌else◌, nat_lt}
+use Rattle.std.specs.Prelude.{ℕ, ◌+◌, ◌-◌, ◌*◌, ◌%◌, ◌^◌, List, map, get_or, ℤ, pos, ◌+ℤ◌, ◌-ℤ◌, ◌*ℤ◌, if◌then◌else◌, nat_lt}
 use Rattle.std.specs.Int.{w16, w32, to_le_bytes, cast_unsigned, saturate_to_bits, int_div_euclid}
-use Rattle.std.specs.List.{range_with_len}
+use Rattle.std.specs.List.{flat_map, range_with_len}
 use Rattle.sof_base.specs.declared.format.Format.{Format}
 use Rattle.sof_base.specs.declared.format.Format.TheVariants.{S16, S24, S32}
 use Rattle.sof_base.specs.Slots.{half_at, word_at}
@@ -21,8 +21,7 @@ signed_of bits n = if nat_lt n (2 ^ (bits - 1)) then pos n else pos n -ℤ pos (
 -- how many bytes a sample has
 abbrev pub width : Format → ℕ
 width S16 = 2
-width S24 = 4
-width S32 = 4
+width _ = 4
 
 -- the number of a format in a message, and the format of a number
 abbrev pub frame_format : Format → ℕ
@@ -65,9 +64,7 @@ frames_in format channels bytes place n = map (λ j. frame_in format channels by
 
 -- the bytes of a frame, and of frames
 abbrev pub frame_out : Format → Frame → List ℕ
-frame_out format [] = []
-frame_out format (x ∷ xs) = sample_out_of format x ++ frame_out format xs
+frame_out format frame = flat_map (sample_out_of format) frame
 
 abbrev pub frames_out : Format → List Frame → List ℕ
-frames_out format [] = []
-frames_out format (f ∷ fs) = frame_out format f ++ frames_out format fs
+frames_out format frames = flat_map (frame_out format) frames

@@ -75,11 +75,9 @@ unfoldable pub IsSlot : Slot → Type 0
 IsSlot (Word n) = n < 2 ^ 32
 IsSlot (Half n) = n < 2 ^ 16
 IsSlot (Long n) = n < 2 ^ 64
-IsSlot (Size n) = Unit {0}
 IsSlot (Label name) = IsName name
 IsSlot (Words ns) = AreWords ns
-IsSlot (Raw bytes) = Unit {0}
-IsSlot (Spare bytes) = Unit {0}
+IsSlot _ = Unit {0}
 
 -- and those of fields
 unfoldable pub AreSlots : List Slot → Type 0
@@ -100,19 +98,6 @@ word_at bytes at = from_le_bytes w32 (part bytes at 4)
 unfoldable pub half_at : List ℕ → ℕ → ℕ
 half_at bytes at = from_le_bytes w16 (part bytes at 2)
 
--- of eight
-unfoldable pub long_at : List ℕ → ℕ → ℕ
-long_at bytes at = from_le_bytes w64 (part bytes at 8)
-
--- the name in the 44 bytes from a place on
-unfoldable pub name_at : List ℕ → ℕ → List ℕ
-name_at bytes at = until_zero (part bytes at 44)
-
 -- these have a 0
 unfoldable pub has_name : List ℕ → ℕ → Bool
 has_name bytes at = has_zero (part bytes at 44)
-
--- n words of four bytes from a place on
-unfoldable pub words_at : ℕ → List ℕ → ℕ → List ℕ
-words_at zero bytes at = []
-words_at (suc n) bytes at = word_at bytes at ∷ words_at n bytes (at + 4)

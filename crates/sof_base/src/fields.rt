@@ -1,6 +1,7 @@
 // Numbers, names and bytes at a place.
 ghost use Rattle.std.specs.Prelude.{◌≡◌, ◌≤◌, ◌+◌, ◌*◌, length, Some, None, nat_le, if◌then◌else◌};
 ghost use Rattle.sof_base.specs.Slots as slots;
+ghost use Rattle.sof_base.specs.Layouts as layouts;
 
 use crate::name::Name44;
 use byteorder::{ByteOrder, LittleEndian};
@@ -34,19 +35,19 @@ pub fn half(bytes: &[u8], at: usize) -> u16
 }
 
 /// The little-endian number of the eight bytes from a place on.
-#[tactic(auto, unfolding(crate::specs::Slots::long_at))]
+#[tactic(auto, unfolding(crate::specs::Layouts::long_at))]
 pub fn long(bytes: &[u8], at: usize) -> u64
     requires { at + 8 ≤ length bytes.now }
-    ensures { result ≡ slots.long_at bytes.now at }
+    ensures { result ≡ layouts.long_at bytes.now at }
 {
     LittleEndian::read_u64(&bytes[at..at + 8])
 }
 
 /// The name in the field of 44 bytes from a place on; none where the field has no 0.
-#[tactic(auto, unfolding(crate::specs::Slots::has_name, crate::specs::Slots::name_at))]
+#[tactic(auto, unfolding(crate::specs::Slots::has_name, crate::specs::Layouts::name_at))]
 pub fn label(bytes: &[u8], at: usize) -> Option<Name44>
     requires { at + 44 ≤ length bytes.now }
-    ensures { result ≡ (if slots.has_name bytes.now at then Some (slots.name_at bytes.now at) else None) }
+    ensures { result ≡ (if slots.has_name bytes.now at then Some (layouts.name_at bytes.now at) else None) }
 {
     Name44::before_zero(&bytes[at..at + 44])
 }
@@ -54,7 +55,7 @@ pub fn label(bytes: &[u8], at: usize) -> Option<Name44>
 /// The N words of four bytes from a place on.
 pub fn words_at<const N: usize>(bytes: &[u8], at: usize) -> [u32; N]
     requires { at + 4 * N ≤ length bytes.now }
-    ensures { result ≡ slots.words_at N bytes.now at }
+    ensures { result ≡ layouts.words_at N bytes.now at }
 {
     let mut words = [0; N];
     for i in 0..N {

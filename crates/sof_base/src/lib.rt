@@ -33,4 +33,4 @@ pub use memory::NoMemory;
 pub use name::Name44;
 pub use part::{Part, PartBytes};
 pub use ramps::ramp_of;
-pub use worked::{hole_rows, ramp_rows, sample_rows};
+pub use worked::{hole_rows, mask_rows, ramp_rows, sample_rows};

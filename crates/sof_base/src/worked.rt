@@ -3,6 +3,7 @@ ghost use Rattle.std.specs.Prelude.{◌≡◌, [], ◌∷◌, pos, negsuc, false
 ghost use Rattle.sof_base.specs.Samples.{sample_in_of, sample_out_of};
 ghost use Rattle.sof_base.specs.Equations.{amplified, mixed, after_section};
 ghost use Rattle.sof_base.specs.Ramps.{ramp_of, ramp_frames, ramp_gain, ramped_of};
+ghost use Rattle.sof_base.specs.Masks.{kept_of};
 ghost use Rattle.sof_base.specs.Holes.{rounded, fresh_holes, fits, first_fit, carved, given};
 
 use crate::format::Format;
@@ -37,6 +38,13 @@ pub fn ramp_rows()
     ensures falling { ramp_gain 100 0 48 0 ≡ 97 }
     ensures other { ramp_of 1 20 ≡ 0 }
     ensures long { ramp_of 0 20000 ≡ 10000 }
+{}
+
+/// Rows of a demux's masks; nothing runs here. By mask 2 the second of two channels is kept, by 255 both, by 4 neither.
+pub fn mask_rows()
+    ensures second { kept_of 2 2 (pos 2147418112 ∷ pos 2147418112 ∷ []) ≡ pos 0 ∷ pos 2147418112 ∷ [] }
+    ensures all { kept_of 2 255 (pos 5 ∷ pos 7 ∷ []) ≡ pos 5 ∷ pos 7 ∷ [] }
+    ensures none { kept_of 2 4 (pos 5 ∷ pos 7 ∷ []) ≡ pos 0 ∷ pos 0 ∷ [] }
 {}
 
 /// Rows of a heap of 64 bytes; nothing runs here. 17 bytes take 32, 32 take the rest, and then 1 is refused. Once the

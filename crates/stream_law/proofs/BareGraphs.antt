@@ -6,7 +6,8 @@ use Rattle.stream_law.specs.declared.graph.Comp.{Comp}
 use Rattle.stream_law.specs.declared.graph.Edge.{Edge}
 use Rattle.stream_law.specs.declared.graph.Graph.{Graph}
 use Rattle.stream_law.specs.Ways.{components}
-use Rattle.stream_law.specs.Order.{is_ready, least_of, without, placed_from, order, bare}
+use Rattle.stream_law.specs.Order.{is_ready, least_of, without, placed_from, order}
+use Rattle.stream_law.specs.BareOrder.{bare}
 use Rattle.stream_law.specs.Walks.{Walk, HasAll, HasCycle, HasEnds}
 
 module _ (g : Graph) where

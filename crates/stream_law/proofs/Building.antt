@@ -7,7 +7,8 @@ use Rattle.std.specs.Option.{option_map_or}
 use Rattle.stream_law.specs.Table.{number_of, list_of, updated, table}
 use Rattle.sof_base.specs.Samples.{Frame}
 use Rattle.stream_law.specs.State.{View, FwState, view_of, RingView}
-use Rattle.stream_law.specs.Ways.{components, buffers, source_of, sink_of, live, live_end, agree, is_silent}
+use Rattle.stream_law.specs.Ways.{components, buffers, source_of, sink_of, live, live_end, agree}
+use Rattle.stream_law.specs.Silence.{is_silent}
 use Rattle.stream_law.specs.Moves.{quota}
 use Rattle.stream_law.specs.Counts.{Counts, frames_held, frames_free, moved_by, put_after, taken_after, is_looked_at}
 use Rattle.stream_law.specs.Order.{is_among, order}
@@ -17,7 +18,8 @@ use Rattle.stream_law.specs.Made.{only_slice}
 use Rattle.sof_base.specs.Ports.{Io, InputView}
 use Rattle.stream_law.specs.Stands.{left_of, is_bound, KeepsCounts, lying, Holds, HasRead, Stands}
 use Rattle.stream_law.specs.Viewing.{StandsBuilding, BothSilent, SeesSilent}
-use Rattle.stream_law.specs.Move.{Audio, audio_of, audio_after, state_after, io_after, next_clock, Move}
+use Rattle.stream_law.specs.Move.{Audio, audio_of, audio_after, state_after, io_after, next_clock}
+use Rattle.stream_law.specs.TickMoves.{Move}
 use Rattle.stream_law.specs.Seen.{flows, remembers, blob_in}
 use Rattle.stream_law.proofs.Among.{value_of-updated_kept}
 use Rattle.stream_law.proofs.Silent.{silent-dead, silent-fed, silent-runs, HasPlaces, Unmoved, unmoved-all}

@@ -1,9 +1,9 @@
 -- How many edges a component of a kind may have, and which of more or fewer are right.
-use Rattle.std.proofs.Common.{◌≡◌, ℕ, zero, suc, ◌+◌, ◌≤◌, true, false, ◌&&◌, arith}
+use Rattle.std.proofs.Common.{◌≡◌, ℕ, zero, suc, ◌+◌, ◌≤◌, true, false, arith}
 use Rattle.std.proofs.lemmas.Bool.{true≢false, and_parts, and_from, eqb-true, eq-eqb, leb-true, le-leb}
 use Rattle.std.specs.Prelude.{nat_le}
 use Rattle.stream_law.specs.declared.graph.Kind.{Kind}
-use Rattle.stream_law.specs.declared.graph.Kind.TheVariants.{HostPlay, HostCapture, DaiPlay, DaiCapture, Mixer, Mux}
+use Rattle.stream_law.specs.declared.graph.Kind.TheVariants.{HostPlay, DaiCapture, Mixer, Mux}
 use Rattle.stream_law.specs.Joins.{kind_ins, kind_outs, is_right_number, fits_kind}
 use Rattle.stream_law.specs.Moves.{is_choosy}
 
@@ -28,12 +28,6 @@ fewer-right (suc (suc more)) m l some fewer right =
     let few = leb-true m (suc (suc more)) (and_parts (nat_le 1 m) (nat_le m (suc (suc more))) right).1 in
     and_from _ _ (le-leb 1 l some) (le-leb l (suc (suc more)) (omega (arith, few, fewer)))
 
--- where at most one may be, a right number leaves no room for one more
-pub full-right : (most n : ℕ) → most ≤ 1 → is_right_number most n ≡ true → n + 1 ≤ most → ⊥
-full-right zero n few right room = omega (arith, room)
-full-right (suc zero) n few right room = let one = eqb-true n 1 right in omega (arith, room, one)
-full-right (suc (suc more)) n few right room = omega (arith, few)
-
 -- the two numbers of a component that may play
 pub right-ins : (k : Kind) (m n : ℕ) → fits_kind k m n ≡ true → is_right_number (kind_ins k) m ≡ true
 right-ins k m n fits = (and_parts (is_right_number (kind_ins k) m) (is_right_number (kind_outs k) n) fits).0
@@ -41,12 +35,7 @@ right-ins k m n fits = (and_parts (is_right_number (kind_ins k) m) (is_right_num
 pub right-outs : (k : Kind) (m n : ℕ) → fits_kind k m n ≡ true → is_right_number (kind_outs k) n ≡ true
 right-outs k m n fits = (and_parts (is_right_number (kind_ins k) m) (is_right_number (kind_outs k) n) fits).1
 
--- no kind has more than one edge out, and only those that choose have more than one in
-pub most-outs : (k : Kind) → kind_outs k ≤ 1
-most-outs HostCapture = omega arith
-most-outs (DaiPlay format) = omega arith
-most-outs kind = omega arith
-
+-- only kinds that choose have more than one edge in
 pub most-ins : (k : Kind) → is_choosy k ≡ false → kind_ins k ≤ 1
 most-ins Mixer plain = absurd (true≢false plain)
 most-ins Mux plain = absurd (true≢false plain)

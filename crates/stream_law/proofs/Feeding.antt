@@ -1,20 +1,22 @@
 -- What an edge is fed and what is taken from it, and when a component is at its turn.
-use Rattle.std.proofs.Common.{◌≡◌, refl, sym, ap, ◌∙◌, ℕ, ◌+◌, ◌-◌, List, [], ◌∷◌, ◌++◌, length, Option, Some, None, Bool, true, false, cond, arith, ◌^◌, min}
+use Rattle.std.proofs.Common.{◌≡◌, refl, sym, ap, ◌∙◌, ℕ, ◌+◌, ◌-◌, List, [], ◌∷◌, ◌++◌, length, Option, Some, None, Bool, true, false, cond, ◌==◌, get_or, arith, ◌^◌, min}
 use Rattle.std.proofs.lemmas.Bool.{eq-eqb, and_parts, and_from, true_from_ne_false}
-use Rattle.std.proofs.lemmas.List.{append-nil}
+use Rattle.std.proofs.lemmas.List.{append-nil, length-map}
 use Rattle.std.specs.Option.{option_map_or, option_and_then}
+use Rattle.std.specs.List.{position_or_len}
 use Rattle.stream_law.specs.declared.graph.Graph.{Graph}
 use Rattle.stream_law.specs.Table.{number_of, list_of, updated}
 use Rattle.sof_base.specs.Samples.{Frame}
+use Rattle.sof_base.specs.Masks.{kept_of}
 use Rattle.sof_base.specs.Ports.{moved_on}
 use Rattle.stream_law.specs.State.{View}
-use Rattle.stream_law.specs.Ways.{comp_of, components, buffers, source_of, sink_of, is_end, is_of, ins, outs, channels_of, live}
+use Rattle.stream_law.specs.Ways.{comp_of, components, buffers, source_of, sink_of, is_end, is_of, ins, outs, outputs, channels_of, live}
 use Rattle.stream_law.specs.Moves.{fed, fed_by, looks, looked_at, frames_to_move}
 use Rattle.stream_law.specs.Counts.{Counts, Counting, moved_by, put_after}
 use Rattle.stream_law.specs.Past.{Past, frames_now, frames_put, made_after, slices}
-use Rattle.stream_law.specs.Made.{Passing, frames_made, frames_by, frames_for, gains, blob, only_slice}
+use Rattle.stream_law.specs.Made.{Passing, frames_made, frames_by, frames_for, frames_at_output, gains, blob, masks, only_slice}
 use Rattle.stream_law.specs.declared.graph.Kind.{Kind}
-use Rattle.stream_law.specs.declared.graph.Kind.TheVariants.{Volume, Eq}
+use Rattle.stream_law.specs.declared.graph.Kind.TheVariants.{Volume, Eq, Demux}
 use Rattle.stream_law.specs.declared.graph.Setting.{Setting}
 use Rattle.stream_law.specs.declared.graph.Comp.{Comp}
 use Rattle.stream_law.specs.Order.{is_among}
@@ -82,7 +84,16 @@ frames_made_same v c n read slices f g p q same alike = by_comp (comp_of v.graph
 
 -- an edge gets as many frames as its source makes
 pub length-frames_for : (v : View) (a b : ℕ) (frames : List Frame) → length (frames_for v a b frames) ≡ length frames
-length-frames_for v a b frames = refl
+unfolding frames_for
+length-frames_for v a b frames = by_comp (comp_of v.graph a)
+  where
+    by_kind : (k : Kind) (setting : Setting) (j : ℕ) → length (frames_at_output k setting v a j frames) ≡ length frames
+    by_kind Demux setting j = length-map frames (kept_of (channels_of v a) (get_or (masks setting) j 0))
+    by_kind kind setting j = refl
+
+    by_comp : (o : Option Comp) → length (option_map_or (λ x. frames_at_output x.kind x.setting v a (position_or_len (λ id. id == b) (outputs v.graph a)) frames) o frames) ≡ length frames
+    by_comp None = refl
+    by_comp (Some x) = by_kind x.kind x.setting (position_or_len (λ id. id == b) (outputs v.graph a))
 
 -- a solution of a tick's equations
 pub record Solution (whole : List (ℕ × List ℕ)) (old : Past) (t : ℕ) (n : List (ℕ × ℕ)) (new : Counts) (made : List (ℕ × List Frame)) : Type 0 where

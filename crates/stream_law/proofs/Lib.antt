@@ -29,6 +29,7 @@ pub mod Waits
 pub mod Cycles
 pub mod Members
 pub mod Walking
+pub mod Plain
 pub mod Quotas
 pub mod Taking
 pub mod Whole

@@ -7,7 +7,7 @@ use Rattle.std.specs.Option.{option_map_or}
 use Rattle.std.specs.List.{find}
 use Rattle.std.specs.Prelude.{slice_get, nat_le}
 use Rattle.stream_law.specs.declared.graph.Kind.{Kind}
-use Rattle.stream_law.specs.declared.graph.Kind.TheVariants.{HostPlay, HostCapture, DaiPlay, DaiCapture, Volume, Mixer, Mux, Eq}
+use Rattle.stream_law.specs.declared.graph.Kind.TheVariants.{HostPlay, HostCapture, DaiPlay, DaiCapture, Volume, Mixer, Mux, Eq, Demux}
 use Rattle.stream_law.specs.declared.graph.Setting.{Setting}
 use Rattle.stream_law.specs.declared.graph.Comp.{Comp}
 use Rattle.stream_law.specs.declared.graph.Graph.{Graph}
@@ -91,6 +91,7 @@ makes HostCapture slices = false
 makes (DaiPlay format) slices = false
 makes Volume [] = false
 makes Eq [] = false
+makes Demux [] = false
 makes _ slices = true
 
 length-chosen : (channels n : ℕ) (ids : List ℕ) (f : ℕ → List Frame) (o : Option ℕ) → ((b : ℕ) → is_among ids b ≡ true → length (f b) ≡ n) → length (chosen_slice (table ids f) channels n o) ≡ n
@@ -117,6 +118,8 @@ length-frames_by Mixer setting v c n read ids f equalise amplify whole long read
 length-frames_by Mux setting v c n read ids f equalise amplify whole long reads each shape = length-chosen (channels_of v c) n ids f (slice_get (inputs v.graph c) (choice setting)) each
 length-frames_by Eq setting v c n read [] f equalise amplify whole long reads each shape = absurd (false≢true shape)
 length-frames_by Eq setting v c n read (i ∷ ids) f equalise amplify whole long reads each shape = whole (blob setting) (channels_of v c) (f i) ∙ each i (or_left (i == i) (is_among ids i) (eq-eqb i i refl))
+length-frames_by Demux setting v c n read [] f equalise amplify whole long reads each shape = absurd (false≢true shape)
+length-frames_by Demux setting v c n read (i ∷ ids) f equalise amplify whole long reads each shape = each i (or_left (i == i) (is_among ids i) (eq-eqb i i refl))
 
 -- what makes no frames
 length-frames_by_none : (k : Kind) (setting : Setting) (v : View) (c n : ℕ) (read : List Frame) (slices : List (ℕ × List Frame)) (equalise amplify : Passing) → Lengthwise equalise → Lengthwise amplify → makes k slices ≡ false → length (frames_by k setting v c n read slices equalise amplify) ≡ 0
@@ -126,6 +129,8 @@ length-frames_by_none Volume setting v c n read [] equalise amplify whole long n
 length-frames_by_none Volume setting v c n read (e ∷ es) equalise amplify whole long none = absurd (true≢false none)
 length-frames_by_none Eq setting v c n read [] equalise amplify whole long none = whole (blob setting) (channels_of v c) []
 length-frames_by_none Eq setting v c n read (e ∷ es) equalise amplify whole long none = absurd (true≢false none)
+length-frames_by_none Demux setting v c n read [] equalise amplify whole long none = refl
+length-frames_by_none Demux setting v c n read (e ∷ es) equalise amplify whole long none = absurd (true≢false none)
 length-frames_by_none kind setting v c n read slices equalise amplify whole long none = absurd (true≢false none)
 
 -- a list with an id in it has a length
@@ -146,6 +151,7 @@ makes-fit (DaiPlay format) ins' outs' p f b fits there all =
     let none : length outs' ≡ 0 = eqb-true (length outs') 0 (and_parts (length ins' == 1) (length outs' == 0) fits).1 in
     absurd (omega (arith, length-among outs' b there))
 makes-fit Volume ins' outs' p f b fits there all = one-looked ins' p f (makes Volume) (λ e es. refl) (eqb-true (length ins') 1 (and_parts (length ins' == 1) (length outs' == 1) fits).0) (all refl)
+makes-fit Demux ins' outs' p f b fits there all = one-looked ins' p f (makes Demux) (λ e es. refl) (eqb-true (length ins') 1 (and_parts (length ins' == 1) (nat_le 1 (length outs') && nat_le (length outs') 8) fits).0) (all refl)
 makes-fit Eq ins' outs' p f b fits there all = one-looked ins' p f (makes Eq) (λ e es. refl) (eqb-true (length ins') 1 (and_parts (length ins' == 1) (length outs' == 1) fits).0) (all refl)
 makes-fit kind ins' outs' p f b fits there all = refl
 

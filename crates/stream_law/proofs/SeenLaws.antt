@@ -6,7 +6,8 @@ use Rattle.std.specs.Option.{option_map_or}
 use Rattle.std.specs.List.{find}
 use Rattle.sof_base.specs.Samples.{Frame}
 use Rattle.stream_law.specs.State.{FwState, View, RingView, History}
-use Rattle.stream_law.specs.Ways.{components, buffers, is_silent}
+use Rattle.stream_law.specs.Ways.{components, buffers}
+use Rattle.stream_law.specs.Silence.{is_silent}
 use Rattle.stream_law.specs.Order.{is_among}
 use Rattle.stream_law.specs.Seen.{flows, remembers, numbers_seen, ring_seen, seen}
 use Rattle.stream_law.specs.Stands.{ring_frames}

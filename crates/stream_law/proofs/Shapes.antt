@@ -1,40 +1,65 @@
 -- What stays Live keeps its channels and its rate, since streams that touch agree.
-use Rattle.std.proofs.Common.{◌≡◌, refl, sym, ap, ◌∙◌, ℕ, zero, suc, ◌*◌, ◌/◌, List, [], ◌∷◌, ◌++◌, length, Option, Some, None, is_some, Bool, true, false, cond, not, inl, inr, ◌⊎◌, ◌==◌, ◌&&◌, ◌||◌, Contains, arith}
+use Rattle.std.proofs.Common.{◌≡◌, refl, sym, ap, ◌∙◌, ℕ, zero, suc, ◌*◌, ◌/◌, List, [], ◌∷◌, ◌++◌, length, filter, Option, Some, None, is_some, Bool, true, false, cond, not, inl, inr, ◌⊎◌, ◌==◌, ◌&&◌, ◌||◌, Contains, arith}
 use Rattle.std.proofs.lemmas.Bool.{false≢true, and_parts, and_from, or_left, or_right, or_cases, eqb-true, not-true, true_from_ne_false}
 use Rattle.std.proofs.lemmas.List.Folds.{list_any-append}
-use Rattle.std.specs.Option.{option_map_or, option_and_then, option_map}
+use Rattle.std.specs.Option.{option_map_or, option_and_then}
 use Rattle.std.specs.List.{find, list_any, list_all}
 use Rattle.sof_base.specs.declared.format.Params.{Params}
-use Rattle.stream_law.specs.declared.graph.Comp.{Comp}
+use Rattle.stream_law.specs.declared.graph.Kind.{Kind}
 use Rattle.stream_law.specs.declared.graph.Edge.{Edge}
 use Rattle.stream_law.specs.declared.graph.Graph.{Graph}
 use Rattle.stream_law.specs.declared.stream.StreamView.{StreamView}
 use Rattle.stream_law.specs.State.{View}
-use Rattle.stream_law.specs.Ways.{comp_of, components, buffers, source_of, sink_of, reaches, leads, is_capture, on_way, live, live_end, live_params, channels_of, rate_of, is_live_phase, touch, same_shape, agree}
+use Rattle.stream_law.specs.Ways.{components, buffers, source_of, sink_of, is_of, reaches, leads, is_play, is_capture, is_dai_play, splits, reached_by_some, reaches_some, leaves_split, enters_capture, is_echo, way_joins, ways_to, on_way, live, live_end, live_params, channels_of, rate_of, is_live_phase, share, echoes, touch, same_shape, agree}
 use Rattle.stream_law.specs.Moves.{capacity}
 use Rattle.stream_law.specs.Order.{is_among}
 use Rattle.stream_law.specs.Seen.{flows, ramp_length}
 use Rattle.stream_law.specs.Viewing.{StaysAsLive}
 use Rattle.stream_law.specs.Stays.{SameWays, KeepsWays, KeepsShape}
 use Rattle.stream_law.proofs.Standing.{flows-absent, remembers-there}
+use Rattle.stream_law.proofs.Remembering.{is_of-kinds}
 
-reaches_same : (g h : Graph) → g.joins ≡ h.joins → (a b : ℕ) → reaches g a b ≡ reaches h a b
-unfolding reaches
-reaches_same g h same a b = ap (λ joins. leads joins (length joins) a b) same
+module _ (g h : Graph) (same : SameWays g h) where
+  of_same : (sort : Kind → Bool) (c : ℕ) → is_of g sort c ≡ is_of h sort c
+  of_same sort c = is_of-kinds sort g h c (same.kinds c)
 
-on_way_same : (g h : Graph) → SameWays g h → (host x : ℕ) → on_way g host x ≡ on_way h host x
-unfolding on_way
-on_way_same g h same host x = ap (λ (q : Bool × (Bool × Bool)). cond q.0 q.1.0 q.1.1) (λ i. (capture i, (reach x host i, reach host x i)))
-  where
-    by_kind : (o : Option Comp) → option_map_or (λ c. is_capture c.kind) o false ≡ option_map_or is_capture (option_map (λ x. x.kind) o) false
-    by_kind None = refl
-    by_kind (Some c) = refl
+  reaches_same : (a b : ℕ) → reaches g a b ≡ reaches h a b
+  unfolding reaches
+  reaches_same a b = ap (λ joins. leads joins (length joins) a b) same.joins
 
-    capture : option_map_or (λ c. is_capture c.kind) (comp_of g host) false ≡ option_map_or (λ c. is_capture c.kind) (comp_of h host) false
-    capture = by_kind (comp_of g host) ∙ ap (λ o. option_map_or is_capture o false) (same.kinds host) ∙ sym (by_kind (comp_of h host))
+  source_same : (b : ℕ) → source_of g b ≡ source_of h b
+  source_same b = ap (λ edges. option_and_then (λ (e : Edge). e.source) (find (λ e. e.buffer == b) edges)) same.edges
 
-    reach : (a b : ℕ) → reaches g a b ≡ reaches h a b
-    reach a b = reaches_same g h same.joins a b
+  sink_same : (b : ℕ) → sink_of g b ≡ sink_of h b
+  sink_same b = ap (λ edges. option_and_then (λ (e : Edge). e.sink) (find (λ e. e.buffer == b) edges)) same.edges
+
+  by_some_same : (sort : Kind → Bool) (x : ℕ) → reached_by_some g sort x ≡ reached_by_some h sort x
+  by_some_same sort x = λ i. list_any (λ c. reaches_same c x i) (filter (λ c. of_same sort c i) (same.ids i))
+
+  some_same : (sort : Kind → Bool) (x : ℕ) → reaches_some g sort x ≡ reaches_some h sort x
+  some_same sort x = λ i. list_any (λ c. reaches_same x c i) (filter (λ c. of_same sort c i) (same.ids i))
+
+  leaves_same : (a : ℕ) → leaves_split g a ≡ leaves_split h a
+  leaves_same a = λ i. of_same splits a i && by_some_same is_play a i && some_same is_dai_play a i
+
+  enters_same : (c : ℕ) → enters_capture g c ≡ enters_capture h c
+  enters_same c = λ i. some_same is_capture c i && not (some_same is_dai_play c i)
+
+  pub echo_same : (b : ℕ) → is_echo g b ≡ is_echo h b
+  unfolding is_echo
+  echo_same b = λ i. option_map_or (λ a. leaves_same a i) (source_same b i) false && option_map_or (λ c. enters_same c i) (sink_same b i) false
+
+  joins_same : way_joins g ≡ way_joins h
+  unfolding way_joins
+  joins_same = λ i. filter (λ j. not (echo_same j.source i) && not (echo_same j.sink i)) (same.joins i)
+
+  ways_same : (a b : ℕ) → ways_to g a b ≡ ways_to h a b
+  unfolding ways_to
+  ways_same a b = ap (λ joins. leads joins (length joins) a b) joins_same
+
+  pub on_way_same : (host x : ℕ) → on_way g host x ≡ on_way h host x
+  unfolding on_way
+  on_way_same host x = λ i. cond (of_same is_capture host i) (ways_same x host i || (echo_same x i && option_map_or (λ c. ways_same c host i) (sink_same x i) false)) (ways_same host x i)
 
 -- what is found passes the test, and is one of the list
 find-some : (p : StreamView → Bool) (ss : List StreamView) (s : StreamView) → find p ss ≡ Some s → (p s ≡ true) × Contains ss s
@@ -143,8 +168,11 @@ module _ (old new : View) (keeps : KeepsWays old new) (x : ℕ) (there : is_amon
       kept = keeps.params s of_old.1 lives.0
 
       touches : touch new.graph kept.0.host u.host ≡ true
-      touches = list_any-at (λ y. on_way new.graph kept.0.host y && on_way new.graph u.host y) (components new.graph ++ buffers new.graph) x there
-          (and_from (on_way new.graph kept.0.host x) (on_way new.graph u.host x) (ap (λ host. on_way new.graph host x) kept.2 ∙ sym (on_way_same old.graph new.graph keeps.ways s.host x) ∙ lives.1) lives_new.1)
+      touches = ap (λ h. h || echoes new.graph kept.0.host u.host || echoes new.graph u.host kept.0.host) shared
+        where
+          shared : share new.graph kept.0.host u.host ≡ true
+          shared = list_any-at (λ y. on_way new.graph kept.0.host y && on_way new.graph u.host y) (components new.graph ++ buffers new.graph) x there
+              (and_from (on_way new.graph kept.0.host x) (on_way new.graph u.host x) (ap (λ host. on_way new.graph host x) kept.2 ∙ sym (on_way_same old.graph new.graph keeps.ways s.host x) ∙ lives.1) lives_new.1)
 
   -- so what is Live before and after has the same channels and the same rate
   pub shapes-stay : (channels_of new x ≡ channels_of old x) × (rate_of new x ≡ rate_of old x)
@@ -175,7 +203,7 @@ pub live-stays : (old new : View) (fresh : Option ℕ) → KeepsShape old new fr
 unfolding capacity ramp_length
 live-stays old new fresh keeps = record {
   room = λ b was now. ap (λ (q : List Edge × ℕ). option_map_or (λ e. e.size) (find (λ e. e.buffer == b) q.0) 0 / 4 / q.1) (λ i. (
-    sym keeps.edges i,
+    sym keeps.keeps.ways.edges i,
     (shapes-stay old new keeps.keeps b (among-right (components new.graph) (buffers new.graph) b (flows-there new b now)) (flows-live old b was) (flows-live new b now)).0 i,
   ));
   kinds = λ c there was. keeps.keeps.ways.kinds c;

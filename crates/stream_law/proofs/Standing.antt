@@ -20,7 +20,8 @@ use Rattle.stream_law.specs.Seen.{numbers_in, flows, goes_on, remembers, keeps_n
 use Rattle.stream_law.specs.Ramps.{ramp_numbers, ramp_marked, last_gains}
 use Rattle.sof_base.specs.Samples.{Frame}
 use Rattle.stream_law.specs.Past.{Moment, Boot, Cut, Now, Past, Leads, Follows, start, new_life, after_now, taken_now, epoch_now, from_now, part_of}
-use Rattle.stream_law.specs.Stands.{numbers_for, KeepsCounts, HasRead, lying, Reads, StandsBy, Stands}
+use Rattle.stream_law.specs.Stands.{numbers_for, KeepsCounts, HasRead, lying, StandsBy, Stands}
+use Rattle.stream_law.specs.InputsRead.{Reads}
 use Rattle.stream_law.specs.Viewing.{Booted, Sees, StaysAsLive}
 
 -- a list of moments goes on by one

@@ -18,7 +18,8 @@ use Rattle.stream_law.specs.Order.{is_among, order}
 use Rattle.sof_base.specs.Ports.{Io, InputView}
 use Rattle.stream_law.specs.Stands.{is_bound, numbers_for, KeepsCounts, lying, Holds, HasRead, Stands, SameView}
 use Rattle.stream_law.specs.Viewing.{IsPlayable}
-use Rattle.stream_law.specs.Move.{Audio, after_moves, next_clock, audio_of, audio_after, state_after, io_after, Move}
+use Rattle.stream_law.specs.Move.{Audio, after_moves, next_clock, audio_of, audio_after, state_after, io_after}
+use Rattle.stream_law.specs.TickMoves.{Move}
 use Rattle.stream_law.specs.Seen.{flows, remembers, blob_in}
 use Rattle.stream_law.proofs.Among.{value_of-table_among, value_of-table_apart, value_of-updated_among, value_of-updated_apart}
 use Rattle.stream_law.proofs.OneSolution.{frames_to_move-le_held, frames_to_move-le_room, solves}

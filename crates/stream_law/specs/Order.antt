@@ -2,8 +2,6 @@
 use Rattle.std.specs.Prelude.{ℕ, zero, suc, List, [], ◌∷◌, length, filter, Bool, true, not, ◌==◌, Option, Some, None}
 use Rattle.std.specs.Option.{option_map_or}
 use Rattle.std.specs.List.{list_any, list_all}
-use Rattle.stream_law.specs.declared.graph.Comp.{Comp}
-use Rattle.stream_law.specs.declared.graph.Edge.{Edge}
 use Rattle.stream_law.specs.declared.graph.Graph.{Graph}
 use Rattle.stream_law.specs.Ways.{components, source_of, ins}
 use Rattle.stream_law.specs.Moves.{least}
@@ -33,7 +31,3 @@ placed_from g (suc n) placed left = option_map_or (λ c. c ∷ placed_from g n (
 -- repeatedly the component with the least id whose sources all have been placed
 unfoldable pub order : Graph → List ℕ
 order g = placed_from g (length (components g)) [] (components g)
-
--- a graph of these components and edges: what its order is made of
-abbrev pub bare : List Comp → List Edge → Graph
-bare comps edges = record { comps = comps; edges = edges; pipes = []; joins = [] }

@@ -72,12 +72,6 @@ pub record HasRead (whole : List (ℕ × List ℕ)) (inputs : List InputView) (p
   pub positions : (slot : ℕ) → is_bound inputs slot ≡ true → position_of inputs slot ≡ min (number_of p.positions slot) (2 ^ 64 - 1)
   pub left : (slot : ℕ) → left_of inputs slot ≡ drop (number_of p.positions slot) (list_of whole slot)
 
--- the moments led to a past up to which the inputs have given their bytes
-pub record Reads (whole : List (ℕ × List ℕ)) (inputs : List InputView) (moments : List Moment) : Type 0 where
-  pub past : Past
-  pub led : Leads whole start moments past
-  pub read : HasRead whole inputs past
-
 -- ---- the relation
 
 -- the moments led to a past whose counts are kept, that the device holds, and up to which the inputs have given their bytes
@@ -97,7 +91,3 @@ SameView v w = v ≡ w
 -- the device and the inputs stand where the moments lead, with these bytes as the inputs' whole
 abbrev pub Stands : Option FwState → List (ℕ × List ℕ) → List InputView → List Moment → Type 0
 Stands device whole inputs moments = StandsBy SameView device whole inputs moments
-
--- ---- what a boot and an act that passes do to a state
-
--- ---- what a view must be for a tick

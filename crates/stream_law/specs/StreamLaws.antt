@@ -4,15 +4,18 @@ use Rattle.sof_base.specs.Ports.{Io, InputView}
 use Rattle.stream_law.specs.declared.graph.Graph.{Graph}
 use Rattle.stream_law.specs.State.{FwState, View, view_of}
 use Rattle.stream_law.specs.Table.{list_of, number_of, updated}
-use Rattle.stream_law.specs.Ways.{components, buffers, source_of, sink_of, live, rate_of, channels_of, agree, is_silent}
+use Rattle.stream_law.specs.Ways.{components, buffers, source_of, sink_of, live, rate_of, channels_of, agree}
+use Rattle.stream_law.specs.Silence.{is_silent}
 use Rattle.stream_law.specs.Order.{is_among, order}
 use Rattle.stream_law.specs.Walks.{HasAll, HasCycle, HasEnds}
 use Rattle.stream_law.specs.Counts.{Counts, Counting}
 use Rattle.stream_law.specs.Epochs.{history_of}
 use Rattle.stream_law.specs.Seen.{seen, fresh_numbers}
-use Rattle.stream_law.specs.Move.{Move, audio_after}
+use Rattle.stream_law.specs.Move.{audio_after}
+use Rattle.stream_law.specs.TickMoves.{Move}
 use Rattle.stream_law.specs.Past.{Moment, Boot, Cut, Now, Tick, Past, Leads, start, empty_view}
-use Rattle.stream_law.specs.Stands.{HasRead, Reads, Stands}
+use Rattle.stream_law.specs.Stands.{HasRead, Stands}
+use Rattle.stream_law.specs.InputsRead.{Reads}
 use Rattle.stream_law.specs.Viewing.{StandsBuilding, Fills, Booted, Sees, SeesSilent, StaysAsLive, IsPlayable}
 use Rattle.stream_law.specs.Stays.{KeepsWays, KeepsShape}
 

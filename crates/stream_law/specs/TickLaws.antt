@@ -3,8 +3,9 @@ use Rattle.std.specs.Prelude.{◌≡◌, ◌-◌, ◌≤◌, ◌^◌, All, IsTru
 use Rattle.sof_base.specs.Ports.{Io}
 use Rattle.stream_law.specs.State.{FwState, view_of}
 use Rattle.stream_law.specs.Placed.{HasDistinct}
-use Rattle.stream_law.specs.Ways.{is_silent}
-use Rattle.stream_law.specs.Move.{Move, next_clock}
+use Rattle.stream_law.specs.Silence.{is_silent}
+use Rattle.stream_law.specs.Move.{next_clock}
+use Rattle.stream_law.specs.TickMoves.{Move}
 
 -- a state whose clock alone has gone on by a tick
 abbrev pub clocked : FwState → FwState

@@ -3,7 +3,8 @@ use Rattle.std.specs.Prelude.{◌≡◌, ℕ, ℤ, ◌+◌, List, [], ◌++◌, 
 use Rattle.std.specs.Option.{option_map, option_map_or}
 use Rattle.sof_base.specs.Ports.{InputView}
 use Rattle.stream_law.specs.State.{FwState, View, view_of}
-use Rattle.stream_law.specs.Ways.{comp_of, components, buffers, ins, outs, live, active, channels_of, is_silent}
+use Rattle.stream_law.specs.Ways.{comp_of, components, buffers, ins, outs, live, active, channels_of}
+use Rattle.stream_law.specs.Silence.{is_silent}
 use Rattle.stream_law.specs.Joins.{fits_kind}
 use Rattle.stream_law.specs.Moves.{capacity}
 use Rattle.stream_law.specs.Order.{is_among, order}

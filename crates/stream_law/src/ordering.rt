@@ -2,7 +2,7 @@
 ghost use Rattle.std.specs.Prelude.{◌≡◌, ◌≤◌, ◌<◌, ◌==◌, not, length, map, filter, slice_index, All, IfOk, OnOk, OnErr};
 ghost use Rattle.stream_law.specs.Ways.{components};
 ghost use Rattle.stream_law.specs.Order as law;
-ghost use Rattle.stream_law.specs.Order.{bare};
+ghost use Rattle.stream_law.specs.BareOrder.{bare};
 ghost use Rattle.stream_law.specs.Waiting.{freed};
 ghost use Rattle.stream_law.specs.Walks.{HasAll, HasCycle, HasEnds};
 

@@ -1,6 +1,6 @@
 use Rattle.std.proofs.Common.{◌≡◌, sym, ◌∙◌, ap, arith, ℕ, take, length-set}
 use Rattle.std.proofs.lemmas.List.{take_all, length-replicate}
-use Rattle.sof_base.specs.Slots.{words_at}
+use Rattle.sof_base.specs.Layouts.{words_at}
 use Rattle.sof_base.proofs.WordLaws.{words_none, words_step}
 use Rattle.sof_base.proofs.fields.words_at.Goals as goal
 

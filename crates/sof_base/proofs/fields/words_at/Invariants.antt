@@ -1,5 +1,5 @@
 use Rattle.std.proofs.Common.{◌≡◌, take, length}
-use Rattle.sof_base.specs.Slots.{words_at}
+use Rattle.sof_base.specs.Layouts.{words_at}
 use Rattle.sof_base.proofs.fields.words_at.Given as goal
 
 abbrev pub invariant-loop-i : goal.invariant-loop-i

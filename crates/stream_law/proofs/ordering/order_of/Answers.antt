@@ -6,7 +6,7 @@ use Rattle.stream_law.specs.declared.graph.Edge.{Edge}
 use Rattle.stream_law.specs.declared.graph.Graph.{Graph}
 use Rattle.stream_law.specs.declared.turns.Turn.{Turn}
 use Rattle.stream_law.specs.Ways.{components}
-use Rattle.stream_law.specs.Order.{bare}
+use Rattle.stream_law.specs.BareOrder.{bare}
 use Rattle.stream_law.specs.Waiting.{best_of, turns_from}
 use Rattle.stream_law.proofs.Taking.{Taken, Taken-none, Taken-more, Taken-all, Taken-cycle, Taken-whole, room, fewer-left, some-left, none-left}
 use Rattle.stream_law.proofs.Cycles.{no-cycle}

@@ -1,5 +1,5 @@
 use Rattle.std.proofs.Common.{length}
-use Rattle.stream_law.specs.Order.{bare}
+use Rattle.stream_law.specs.BareOrder.{bare}
 use Rattle.stream_law.proofs.Taking.{Taken}
 use Rattle.stream_law.proofs.ordering.order_of.Given as goal
 

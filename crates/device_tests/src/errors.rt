@@ -4,7 +4,9 @@ use crate::small::{
     buffer, component, dai, host, join, mixer, params, parts, pipeline, set_data, set_value, thin,
     volume,
 };
-use crate::steps::{BUSY, DONE, INVALID, NO_DEVICE, NO_MEMORY, ONE_VALUE, TWO_VALUES, answered};
+use crate::steps::{
+    BUSY, DONE, EIGHT_VALUES, INVALID, NO_DEVICE, NO_MEMORY, ONE_VALUE, TWO_VALUES, answered,
+};
 use ipc3_codec::{CompWords, Message};
 use std::alloc::Global;
 use std::test::Fail;
@@ -77,8 +79,6 @@ fn joins(rt: HostRuntime) -> Result<(), Fail> {
         // A host has one edge out and none in.
         (join(0, 4), INVALID),
         (join(4, 0), INVALID),
-        // A capture host would be reached from a playback host.
-        (join(1, 7), INVALID),
         (join(1, 5), DONE),
         (join(1, 2), BUSY),
         (join(5, 4), DONE),
@@ -88,7 +88,8 @@ fn joins(rt: HostRuntime) -> Result<(), Fail> {
         (join(8, 6), DONE),
         // A cycle would arise.
         (join(6, 8), INVALID),
-        (join(6, 2), DONE),
+        // A capture host is reached from a playback host, which parameters alone ask for.
+        (join(6, 7), DONE),
     ];
     answered(&rt, rt.alloc(), 4096, &state, &rows)
 }
@@ -119,6 +120,40 @@ fn a_way_that_would_grow(rt: HostRuntime) -> Result<(), Fail> {
         (join(7, 2), DONE),
     ];
     answered(&rt, rt.alloc(), 4096, &state, &rows)
+}
+
+// A playback through a demux to a DAI, and a capture of what the demux splits off. The pipeline of the playback's host is not complete.
+fn echoed() -> [Message; 16] {
+    [
+        host(0, 2, 0),
+        buffer(1, 2),
+        component(2, 1, CompWords::Demux),
+        buffer(3, 1),
+        dai(4, 1, 0),
+        buffer(5, 1),
+        host(6, 1, 1),
+        pipeline(7, 1, 4),
+        pipeline(8, 2, 4),
+        join(0, 1),
+        join(1, 2),
+        join(2, 3),
+        join(3, 4),
+        join(2, 5),
+        join(5, 6),
+        Message::PipeComplete { id: 7 },
+    ]
+}
+
+#[test]
+fn a_way_that_would_be_another(rt: HostRuntime) -> Result<(), Fail> {
+    let rows = [
+        (params(6, 1, 48000), DONE),
+        // Without it no playback reaches the demux, and the capture's way would go on to it.
+        (Message::BufferFree { id: 1 }, INVALID),
+        (Message::PcmFree { id: 6 }, DONE),
+        (Message::BufferFree { id: 1 }, DONE),
+    ];
+    answered(&rt, rt.alloc(), 4096, &echoed(), &rows)
 }
 
 #[test]
@@ -216,6 +251,21 @@ fn values_are_set_and_got(rt: HostRuntime) -> Result<(), Fail> {
 }
 
 #[test]
+fn masks_are_set_and_got(rt: HostRuntime) -> Result<(), Fail> {
+    let state = [component(0, 1, CompWords::Demux)];
+    let rows = [
+        (set_value(0, 0, &[1, 2, 3, 4, 5, 6, 7, 8]), INVALID),
+        (set_value(0, 2, &[1, 2, 3, 4, 5, 6, 7]), INVALID),
+        (set_value(0, 2, &[1, 2, 3, 4, 5, 6, 7, 256]), INVALID),
+        (set_value(0, 2, &[1, 2, 3, 4, 5, 6, 0, 255]), DONE),
+        (Message::GetValue { id: 0, command: 0 }, INVALID),
+        (Message::GetValue { id: 0, command: 1 }, INVALID),
+        (Message::GetValue { id: 0, command: 2 }, EIGHT_VALUES),
+    ];
+    answered(&rt, rt.alloc(), 4096, &state, &rows)
+}
+
+#[test]
 fn data_of_no_equaliser(rt: HostRuntime) -> Result<(), Fail> {
     let rows = [
         (set_data(9), NO_DEVICE),
@@ -289,6 +339,37 @@ fn parameters_that_do_not_agree(rt: HostRuntime) -> Result<(), Fail> {
         (params(6, 0, 48000), DONE),
     ];
     answered(&rt, rt.alloc(), 4096, &state, &rows)
+}
+
+// A walk from a playback host to a capture host along no echo edge.
+#[test]
+fn parameters_of_a_playback_that_reaches_a_capture(rt: HostRuntime) -> Result<(), Fail> {
+    let state = [
+        host(0, 1, 0),
+        buffer(1, 1),
+        host(2, 1, 1),
+        pipeline(3, 1, 0),
+        join(0, 1),
+        join(1, 2),
+        Message::PipeComplete { id: 3 },
+    ];
+    let rows = [
+        (params(0, 0, 48000), INVALID),
+        (params(2, 1, 48000), INVALID),
+    ];
+    answered(&rt, rt.alloc(), 4096, &state, &rows)
+}
+
+#[test]
+fn an_echo_agrees_with_its_sound(rt: HostRuntime) -> Result<(), Fail> {
+    let rows = [
+        (params(0, 0, 48000), INVALID),
+        (Message::PipeComplete { id: 8 }, DONE),
+        (params(0, 0, 48000), DONE),
+        (params(6, 1, 16000), INVALID),
+        (params(6, 1, 48000), DONE),
+    ];
+    answered(&rt, rt.alloc(), 4096, &echoed(), &rows)
 }
 
 #[test]

@@ -19,6 +19,9 @@ pub(crate) const ONE_VALUE: [u8; 12] = [100, 0, 0, 0, 0, 0, 0, 0x10, 0, 0, 0, 0]
 /// The front of a reply that tells two values.
 pub(crate) const TWO_VALUES: [u8; 12] = [108, 0, 0, 0, 0, 0, 0, 0x10, 0, 0, 0, 0];
 
+/// The front of a reply that tells eight values.
+pub(crate) const EIGHT_VALUES: [u8; 12] = [156, 0, 0, 0, 0, 0, 0, 0x10, 0, 0, 0, 0];
+
 /// The replies of the errors -12, -16, -19 and -22.
 pub(crate) const NO_MEMORY: [u8; 12] = [12, 0, 0, 0, 0, 0, 0, 0x10, 0xf4, 0xff, 0xff, 0xff];
 

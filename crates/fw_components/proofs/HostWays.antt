@@ -1,20 +1,18 @@
 -- The ways of a registry's hosts.
 use Rattle.std.proofs.Common.{◌≡◌, refl, sym, ap, ◌∙◌, ℕ, ◌<◌, List, [], ◌∷◌, Bool, true, false, cond, map, ◌==◌, inl, inr, Option, Some, arith}
-use Rattle.std.specs.Prelude.{find}
+use Rattle.std.specs.Prelude.{find, option_map}
 use Rattle.std.specs.List.{AllByRecursion}
 use Rattle.std.specs.Option.{option_map_or}
 use Rattle.std.proofs.lemmas.Bool.{eqb-true, eq-eqb, false_from_ne_true}
 use Rattle.stream_law.specs.declared.graph.Comp.{Comp}
 use Rattle.stream_law.specs.Placed.{Ascends, AreAbove}
-use Rattle.stream_law.specs.declared.graph.Join.{Join}
-use Rattle.stream_law.specs.Ways.{on_way, is_capture}
+use Rattle.stream_law.specs.declared.graph.Kind.{Kind}
+use Rattle.stream_law.specs.Ways.{components, comp_of, on_way, is_capture}
+use Rattle.stream_law.proofs.Shapes.{on_way_same}
 use Rattle.stream_law.proofs.Members.{IsIn, in-each}
-use Rattle.fw_places.specs.Charts.{is_capture_at}
-use Rattle.fw_places.specs.Walks.{leads_by}
-use Rattle.fw_places.proofs.Ways.{way-walks}
 use Rattle.fw_units.specs.declared.component.Component.{Component}
 use Rattle.fw_components.specs.Tables.{Tables, graph_of}
-use Rattle.fw_units.specs.Units.{comp_by, kind_by}
+use Rattle.fw_units.specs.Units.{comp_by, edge_by, kind_by}
 use Rattle.fw_components.specs.Tally.{IsSeenIn}
 
 -- ---- what an id names
@@ -44,27 +42,33 @@ seen-own t up c there = ap (λ (o : Option Comp). option_map_or (λ c. is_captur
 pub all-seen : (t : Tables) → Ascends (λ c. c.id) t.comps → AllByRecursion (IsSeenIn (graph_of t)) t.comps
 all-seen t up = in-each (IsSeenIn (graph_of t)) t.comps (seen-own t up)
 
--- where components keep their ids and kinds, an id is a capture's host as before
-captures-same : (change : Component → Component) → ((c : Component) → (change c).id ≡ c.id) → ((c : Component) → kind_by (change c).unit ≡ kind_by c.unit) → (host : ℕ) (cs : List Component)
-    → option_map_or (λ c. is_capture c.kind) (find (λ x. x.id == host) (map comp_by (map change cs))) false ≡ option_map_or (λ c. is_capture c.kind) (find (λ x. x.id == host) (map comp_by cs)) false
-captures-same change ids kinds host [] = refl
-captures-same change ids kinds host (c ∷ cs) =
-    (λ i. option_map_or (λ c. is_capture c.kind) (cond (ids c i == host) (Some (comp_by (change c))) (find (λ x. x.id == host) (map comp_by (map change cs)))) false)
-    ∙ by (c.id == host) (captures-same change ids kinds host cs)
+-- where components keep their ids and kinds, an id is of the kind that it was of
+kinds-same : (change : Component → Component) → ((c : Component) → (change c).id ≡ c.id) → ((c : Component) → kind_by (change c).unit ≡ kind_by c.unit) → (id : ℕ) (cs : List Component)
+    → option_map (λ c. c.kind) (find (λ x. x.id == id) (map comp_by (map change cs))) ≡ option_map (λ c. c.kind) (find (λ x. x.id == id) (map comp_by cs))
+kinds-same change ids kinds id [] = refl
+kinds-same change ids kinds id (c ∷ cs) =
+    (λ i. option_map (λ c. c.kind) (cond (ids c i == id) (Some (comp_by (change c))) (find (λ x. x.id == id) (map comp_by (map change cs)))))
+    ∙ by (c.id == id) (kinds-same change ids kinds id cs)
   where
-    by : (h : Bool) → option_map_or (λ c. is_capture c.kind) (find (λ x. x.id == host) (map comp_by (map change cs))) false ≡ option_map_or (λ c. is_capture c.kind) (find (λ x. x.id == host) (map comp_by cs)) false
-        → option_map_or (λ c. is_capture c.kind) (cond h (Some (comp_by (change c))) (find (λ x. x.id == host) (map comp_by (map change cs)))) false ≡ option_map_or (λ c. is_capture c.kind) (cond h (Some (comp_by c)) (find (λ x. x.id == host) (map comp_by cs))) false
-    by true rest = ap is_capture (kinds c)
+    by : (h : Bool) → option_map (λ c. c.kind) (find (λ x. x.id == id) (map comp_by (map change cs))) ≡ option_map (λ c. c.kind) (find (λ x. x.id == id) (map comp_by cs))
+        → option_map (λ c. c.kind) (cond h (Some (comp_by (change c))) (find (λ x. x.id == id) (map comp_by (map change cs)))) ≡ option_map (λ c. c.kind) (cond h (Some (comp_by c)) (find (λ x. x.id == id) (map comp_by cs)))
+    by true rest = ap (λ (k : Kind). Some k) (kinds c)
     by false rest = rest
 
--- and ways are as before
-pub ways-same : (t u : Tables) → u.joins ≡ t.joins → ((host : ℕ) → is_capture_at (graph_of u) host ≡ is_capture_at (graph_of t) host) → (host x : ℕ) → on_way (graph_of u) host x ≡ on_way (graph_of t) host x
-ways-same t u joins captures host x =
-    sym (way-walks (graph_of u) host x)
-    ∙ ap (λ (p : Bool × List Join). leads_by p.0 p.1 host x) (λ i. (captures host i, joins i))
-    ∙ way-walks (graph_of t) host x
+ids-same : (change : Component → Component) → ((c : Component) → (change c).id ≡ c.id) → (cs : List Component) → map (λ x. x.id) (map comp_by (map change cs)) ≡ map (λ x. x.id) (map comp_by cs)
+ids-same change ids [] = refl
+ids-same change ids (c ∷ cs) = (λ i. ids c i ∷ ids-same change ids cs i)
+
+-- and ways are as before, where edges are
+pub ways-same : (t u : Tables) → u.joins ≡ t.joins → map edge_by u.buffers ≡ map edge_by t.buffers → components (graph_of u) ≡ components (graph_of t) → ((c : ℕ) → option_map (λ x. x.kind) (comp_of (graph_of u) c) ≡ option_map (λ x. x.kind) (comp_of (graph_of t) c)) → (host x : ℕ) → on_way (graph_of u) host x ≡ on_way (graph_of t) host x
+ways-same t u joins edges ids kinds host x = on_way_same (graph_of u) (graph_of t) (record { joins = joins; edges = edges; ids = ids; kinds = kinds }) host x
 
 pub changed-ways : (t : Tables) (change : Component → Component) (new : List Component) → new ≡ map change t.comps → ((c : Component) → (change c).id ≡ c.id) → ((c : Component) → kind_by (change c).unit ≡ kind_by c.unit)
     → (host x : ℕ) → on_way (graph_of (record { comps = new; buffers = t.buffers; pipes = t.pipes; joins = t.joins })) host x ≡ on_way (graph_of t) host x
-changed-ways t change new is ids kinds = ways-same t (record { comps = new; buffers = t.buffers; pipes = t.pipes; joins = t.joins }) refl
-    (λ host. ap (λ (cs : List Component). option_map_or (λ c. is_capture c.kind) (find (λ x. x.id == host) (map comp_by cs)) false) is ∙ captures-same change ids kinds host t.comps)
+changed-ways t change new is ids kinds = ways-same t (record { comps = new; buffers = t.buffers; pipes = t.pipes; joins = t.joins }) refl refl
+    (ap (λ (cs : List Component). map (λ x. x.id) (map comp_by cs)) is ∙ ids-same change ids t.comps)
+    (λ id. ap (λ (cs : List Component). option_map (λ c. c.kind) (find (λ x. x.id == id) (map comp_by cs))) is ∙ kinds-same change ids kinds id t.comps)
+
+-- where buffers keep their edges
+pub held-ways : (t : Tables) (new : List Component) → map edge_by new ≡ map edge_by t.buffers → (host x : ℕ) → on_way (graph_of (record { comps = t.comps; buffers = new; pipes = t.pipes; joins = t.joins })) host x ≡ on_way (graph_of t) host x
+held-ways t new edges = ways-same t (record { comps = t.comps; buffers = new; pipes = t.pipes; joins = t.joins }) refl edges refl (λ id. refl)

@@ -10,11 +10,10 @@ use Rattle.stream_law.specs.Placed.{placed, Ascends}
 use Rattle.stream_law.proofs.Placing.{length-placed, Ascends-placed}
 use Rattle.fw_units.specs.declared.component.Component.{Component}
 use Rattle.fw_units.specs.declared.component.Unit as units
-use Rattle.fw_units.specs.declared.component.Unit.TheVariants.{Host, Volume, Mux, Eq, Buffer, Pipeline}
+use Rattle.fw_units.specs.declared.component.Unit.TheVariants.{Host, Volume, Demux, Eq, Buffer, Pipeline}
 use Rattle.fw_units.specs.Units.{is_buffer, is_pipeline}
 use Rattle.fw_components.specs.Tables.{Tables}
 use Rattle.fw_components.specs.Kept.{IsKept, IsNamed, IsUnitSound, IsBuffering, IsPiping, IsStreamOf, IsStreaming, is_plain, sides, sides_by}
-use Rattle.fw_units.specs.Values.{valued_unit, valued_at}
 use Rattle.fw_units.specs.Changes.{with_unit, completed_unit, completed_at, ended_unit, with_ended, set_unit, set_at, joined_at, sourced_unit, sunk_unit}
 use Rattle.fw_components.specs.Changes.{is_there, IsNew, is_idle_phase, can_join}
 use Rattle.fw_components.proofs.Apart.{apart-placed_first, apart-map_first, apart-map_second}
@@ -52,6 +51,7 @@ pub new-sound : (u : units.Unit) → IsNew u → IsUnitSound u
 new-sound (Buffer size ring source sink) fresh = fresh.3
 new-sound (Pipeline sched period complete piece) fresh = fresh
 new-sound (Volume gains ramp from done frames piece) fresh = (fresh.3, fresh.2, fresh.4, fresh.5)
+new-sound (Demux masks piece) fresh = fresh
 new-sound u fresh = tt
 
 pub new-streaming : (u : units.Unit) → IsNew u → IsStreaming u

@@ -1,11 +1,15 @@
 mod Apart
 mod Begun
+mod EchoGraph
+mod EchoReach
+mod EchoWays
 mod Going
 mod GoneKept
 mod HeldRamps
 pub mod HostWays
 mod Joining
 mod KeptLaws
+mod Linkable
 mod Linked
 pub mod Listed
 mod PartKept

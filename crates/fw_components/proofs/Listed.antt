@@ -74,6 +74,7 @@ are-joined t kept = record {
   few_joins = joins-few t kept;
   between = kept.linked.between;
   named = kept.named.comps;
+  named_buffers = kept.named.buffers;
 }
 
 -- the same of equal lists

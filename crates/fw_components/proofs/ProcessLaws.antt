@@ -1,5 +1,5 @@
 -- The tables once a component has moved frames, and what it can move.
-use Rattle.std.proofs.Common.{◌≡◌, refl, sym, ap, ◌∙◌, subst, ℕ, ◌≤◌, List, [], ◌∷◌, ◌++◌, map, length, get_or, Bool, true, false, cond, ◌==◌, ◌||◌, nat_eq, Option, Some, None, arith, ℤ}
+use Rattle.std.proofs.Common.{◌≡◌, refl, sym, ap, ◌∙◌, subst, ℕ, ◌≤◌, List, [], ◌∷◌, ◌++◌, map, length, Bool, true, false, cond, ◌==◌, ◌||◌, nat_eq, Option, Some, None, arith, ℤ}
 use Rattle.std.proofs.lemmas.List.{length-map}
 use Rattle.std.specs.Prelude.{find}
 use Rattle.std.specs.List.{AllByRecursion, IsDistinct}
@@ -9,43 +9,46 @@ use Rattle.stream_law.specs.Order.{is_among}
 use Rattle.stream_law.proofs.Cycles.{distinct-le}
 use Rattle.fw_units.specs.declared.component.Component.{Component}
 use Rattle.fw_units.specs.declared.component.Unit as units
-use Rattle.fw_units.specs.declared.component.Unit.TheVariants.{Volume, Buffer}
+use Rattle.fw_units.specs.declared.component.Unit.TheVariants.{Volume, Demux, Buffer}
 use Rattle.fw_units.specs.Units.{numbers_by}
 use Rattle.fw_components.specs.Tables.{Tables}
 use Rattle.fw_units.specs.Changes.{has_id}
-use Rattle.fw_units.specs.Frames.{words_by, staged_of_one, staged_in, taken_by, pushed_by, pushed_at}
+use Rattle.fw_units.specs.Frames.{words_by, staged_of_one, staged_in, taken_by, pushed_by}
 use Rattle.fw_components.specs.Frames.{words_at}
 use Rattle.fw_components.specs.Kept.{IsKept, IsUnitSound, IsBuffering, IsStreaming, is_plain, sides_by}
-use Rattle.fw_units.specs.Processed.{moves_of, IsLevel, IsInlet, IsOutlet, slices_in, chosen_by, made_frames, made_numbers, drained_at, run_unit, run_by, run_at}
-use Rattle.fw_components.specs.Processed.{moves_at, channels_moved, made_at, eq_numbers_at, numbers_made_at, processed}
-use Rattle.fw_units.specs.Moving.{CanMove, IsMoved}
+use Rattle.fw_units.specs.Processed.{moves_of, feeds_of, IsLevel, IsInlet, IsOutlet, slices_in, chosen_by, made_frames, made_numbers, output_number, output_frames, fed_at, drained_at, run_unit, run_by, run_at}
+use Rattle.fw_components.specs.Processed.{moves_at, feeds_at, channels_moved, made_at, output_at, eq_numbers_at, numbers_made_at, processed}
+use Rattle.fw_units.specs.Moving.{CanMove, outlet_frames, IsMoved}
 use Rattle.fw_components.proofs.Begun.{taken-sides, taken-buffering, pushed-sides, pushed-buffering}
 use Rattle.fw_units.proofs.Found.{find-first, find-past}
-use Rattle.fw_units.proofs.Ids.{has-map}
+use Rattle.fw_units.proofs.Ids.{all-by, all-with, has-map}
 use Rattle.fw_components.proofs.Apart.{not-first}
-use Rattle.fw_components.proofs.KeptLaws.{comps-changed, sound-changed, buffers-changed, at-id, at-unit, at-sides}
-use Rattle.fw_units.proofs.MadeLaws.{all-front, all-among}
-use Rattle.fw_units.proofs.MovedLaws.{found-id}
+use Rattle.fw_components.proofs.KeptLaws.{comps-changed, sound-changed, buffers-changed, at-id, at-unit}
+use Rattle.fw_units.proofs.MadeLaws.{all-front, all-back, all-among}
+use Rattle.fw_units.proofs.MovedLaws.{fed-id, found-id}
 
 -- ---- ids that are distinct
-
-all-next : {X : Type 0} (P : X → Type 0) (xs : List X) (y : X) (ys : List X) → AllByRecursion P (xs ++ y ∷ ys) → P y
-all-next P [] y ys all = all.0
-all-next P (x ∷ xs) y ys all = all-next P xs y ys all.1
 
 distinct-front : (xs ys : List ℕ) → IsDistinct nat_eq (xs ++ ys) → IsDistinct nat_eq xs
 unfolding IsDistinct
 distinct-front [] ys d = tt
 distinct-front (x ∷ xs) ys d = (all-front (λ y. nat_eq x y ≡ false) xs ys (xs ++ ys) refl d.0, distinct-front xs ys d.1)
 
-distinct-apart : (xs : List ℕ) (y : ℕ) (ys : List ℕ) → IsDistinct nat_eq (xs ++ y ∷ ys) → is_among xs y ≡ false
+pub distinct-back : (xs ys : List ℕ) → IsDistinct nat_eq (xs ++ ys) → IsDistinct nat_eq ys
 unfolding IsDistinct
-distinct-apart [] y ys d = refl
-distinct-apart (x ∷ xs) y ys d = ap (λ h. h || is_among xs y) (all-next (λ z. nat_eq x z ≡ false) xs y ys d.0) ∙ distinct-apart xs y ys d.1
+distinct-back [] ys d = d
+distinct-back (x ∷ xs) ys d = distinct-back xs ys d.1
 
-pub apart-of : (looked fed : List ℕ) → length fed ≡ 1 → IsDistinct nat_eq (looked ++ fed) → is_among looked (get_or fed 0 0) ≡ false
-apart-of looked [] one d = absurd (omega (arith, one))
-apart-of looked (b ∷ rest) one d = distinct-apart looked b rest d
+pub apart-of : (xs ys : List ℕ) → IsDistinct nat_eq (xs ++ ys) → AllByRecursion (λ y. is_among xs y ≡ false) ys
+unfolding IsDistinct
+apart-of [] ys d = none ys
+  where
+    none : (ys : List ℕ) → AllByRecursion (λ y. is_among [] y ≡ false) ys
+    none [] = tt
+    none (y ∷ ys) = (refl, none ys)
+apart-of (x ∷ xs) ys d =
+    all-with (λ y. nat_eq x y ≡ false) (λ y. is_among xs y ≡ false) (λ y. is_among (x ∷ xs) y ≡ false) (λ y far rest. ap (λ h. h || is_among xs y) far ∙ rest) ys
+    (all-back (λ y. nat_eq x y ≡ false) xs ys (xs ++ ys) refl d.0) (apart-of xs ys d.1)
 
 -- buffers that are there and named once are no more than there are
 has-among : (b : ℕ) (cs : List Component) → has_id cs b ≡ is_among (map (λ c. c.id) cs) b
@@ -92,12 +95,40 @@ drained-buffering looked n c e = by (is_among looked c.id)
     by true = taken-buffering n c.unit e
     by false = e
 
-pub process-kept : (t : Tables) → IsKept t → (id fed n : ℕ) (looked : List ℕ) (frames : List Frame) (w v : List ℤ) (comps buffers : List Component) → comps ≡ map (run_at id w n) t.comps → buffers ≡ map (pushed_at fed frames v) (map (drained_at looked n) t.buffers) → IsKept (record { comps = comps; buffers = buffers; pipes = t.pipes; joins = t.joins })
-process-kept t kept id fed n looked frames w v comps buffers run moved =
+fed-sides : (fed : List ℕ) (fs : ℕ → List Frame) (w : ℕ → List ℤ) (c : Component) → sides_by (fed_at fed fs w c).unit ≡ sides_by c.unit
+fed-sides fed fs w c = by (is_among fed c.id)
+  where
+    by : (h : Bool) → sides_by (cond {A = Component} h (pushed_by (fs c.id) (w c.id) c) c).unit ≡ sides_by c.unit
+    by true = pushed-sides (fs c.id) (w c.id) c.unit
+    by false = refl
+
+fed-buffering : (fed : List ℕ) (fs : ℕ → List Frame) (w : ℕ → List ℤ) (c : Component) → IsBuffering c.unit → IsBuffering (fed_at fed fs w c).unit
+fed-buffering fed fs w c e = by (is_among fed c.id)
+  where
+    by : (h : Bool) → IsBuffering (cond {A = Component} h (pushed_by (fs c.id) (w c.id) c) c).unit
+    by true = pushed-buffering (fs c.id) (w c.id) c.unit e
+    by false = e
+
+pub process-kept : (t : Tables) → IsKept t → (id n : ℕ) (looked fed : List ℕ) (frames : ℕ → List Frame) (w : List ℤ) (v : ℕ → List ℤ) (comps buffers : List Component) → comps ≡ map (run_at id w n) t.comps → buffers ≡ map (fed_at fed frames v) (map (drained_at looked n) t.buffers) → IsKept (record { comps = comps; buffers = buffers; pipes = t.pipes; joins = t.joins })
+process-kept t kept id n looked fed frames w v comps buffers run moved =
     let one = comps-changed t kept (run_at id w n) comps (at-id (run_by w n) (λ c. refl) id) (at-unit (λ u. is_plain u ≡ true) (run_by w n) (λ c. run-plain w n c.unit) id) (sound-changed (run_by w n) (λ c. run-sound w n c.unit) id t.comps kept.sound) (at-unit IsStreaming (run_by w n) (λ c. run-streaming w n c.unit) id) run in
     let drained = map (drained_at looked n) t.buffers in
     let two = buffers-changed (record { comps = comps; buffers = t.buffers; pipes = t.pipes; joins = t.joins }) one (drained_at looked n) drained (drained-id looked n) (drained-sides looked n) (drained-buffering looked n) refl in
-    buffers-changed (record { comps = comps; buffers = drained; pipes = t.pipes; joins = t.joins }) two (pushed_at fed frames v) buffers (at-id (pushed_by frames v) (λ c. refl) fed) (at-sides (pushed_by frames v) (λ c. pushed-sides frames v c.unit) fed) (at-unit IsBuffering (pushed_by frames v) (λ c. pushed-buffering frames v c.unit) fed) moved
+    buffers-changed (record { comps = comps; buffers = drained; pipes = t.pipes; joins = t.joins }) two (fed_at fed frames v) buffers (fed-id fed frames v) (fed-sides fed frames v) (fed-buffering fed frames v) moved
+
+-- ---- buffers that are fed
+
+-- where the frames and the words are the same for what is fed, the tables are
+fed-same : (fed : List ℕ) (f g : ℕ → List Frame) (v w : ℕ → List ℤ) → AllByRecursion (λ b. (f b ≡ g b) × (v b ≡ w b)) fed → (cs : List Component) → map (fed_at fed f v) cs ≡ map (fed_at fed g w) cs
+fed-same fed f g v w same [] = refl
+fed-same fed f g v w same (c ∷ cs) = (λ i. one i ∷ fed-same fed f g v w same cs i)
+  where
+    by : (h : Bool) → is_among fed c.id ≡ h → cond {A = Component} h (pushed_by (f c.id) (v c.id) c) c ≡ cond {A = Component} h (pushed_by (g c.id) (w c.id) c) c
+    by true is = let e = all-among (λ b. (f b ≡ g b) × (v b ≡ w b)) c.id fed is same in (λ i. pushed_by (e.0 i) (e.1 i) c)
+    by false is = refl
+
+    one : fed_at fed f v c ≡ fed_at fed g w c
+    one = by (is_among fed c.id) refl
 
 -- what is so of all is so of the one that is found
 found-all : (P : Component → Type 0) (id : ℕ) (cs : List Component) (c : Component) → Some c ≡ find (λ x. x.id == id) cs → AllByRecursion P cs → P c
@@ -114,6 +145,7 @@ found-all P id (x ∷ cs) c e all = by (x.id == id) e (λ e. found-all P id cs c
 
 sound-level : (u : units.Unit) → IsUnitSound u → IsLevel u
 sound-level (Volume gains ramp from done frames piece) e = e.0
+sound-level (Demux masks piece) e = e.1
 sound-level u e = tt
 
 -- ---- the component that moves
@@ -122,23 +154,21 @@ module _ (t : Tables) (id : ℕ) (c : Component) (it : Some c ≡ find (λ x. x.
   channels-are : channels_moved t id ≡ c.channels
   channels-are = ap (λ (o : Option Component). option_map_or (λ x. x.channels) o 0) (sym it)
 
-  pub can-process : IsKept t → (looked fed : List ℕ) (n : ℕ) → moves_at t id (length looked) ≡ true → IsDistinct nat_eq (looked ++ fed) → AllByRecursion (IsInlet t.buffers (channels_moved t id) n) looked → AllByRecursion (IsOutlet t.buffers (channels_moved t id) n) fed → length fed ≡ 1 → CanMove t.buffers looked (get_or fed 0 0) n c
-  can-process kept looked fed n kind single inlets outlets one = record {
+  pub can-process : IsKept t → (looked fed : List ℕ) (n : ℕ) → moves_at t id (length looked) ≡ true → feeds_at t id (length fed) ≡ true → IsDistinct nat_eq (looked ++ fed) → AllByRecursion (IsInlet t.buffers (channels_moved t id) n) looked → AllByRecursion (IsOutlet t.buffers (channels_moved t id) n) fed → CanMove t.buffers looked fed n c
+  can-process kept looked fed n kind feeds single inlets outlets = record {
     ascends = kept.named.buffers;
     kind = ap (λ (o : Option Component). option_map_or (λ x. moves_of x.unit (length looked)) o false) it ∙ kind;
+    feeds = ap (λ (o : Option Component). option_map_or (λ x. feeds_of x.unit (length fed)) o false) it ∙ feeds;
     level = sound-level c.unit (found-all (λ (x : Component). IsUnitSound x.unit) id t.comps c it kept.sound);
     few = few-of looked fed (channels_moved t id) n t.buffers kept.buffers single inlets;
     distinct = distinct-front looked fed single;
-    apart = apart-of looked fed one single;
+    single = distinct-back looked fed single;
+    apart = apart-of looked fed single;
     inlets = subst (λ k. AllByRecursion (IsInlet t.buffers k n) looked) channels-are inlets;
-    outlet = subst (λ k. IsOutlet t.buffers k n (get_or fed 0 0)) channels-are (the-one fed one outlets);
+    outlets = subst (λ k. AllByRecursion (IsOutlet t.buffers k n) fed) channels-are outlets;
   }
-    where
-      the-one : (fed : List ℕ) → length fed ≡ 1 → AllByRecursion (IsOutlet t.buffers (channels_moved t id) n) fed → IsOutlet t.buffers (channels_moved t id) n (get_or fed 0 0)
-      the-one [] one all = absurd (omega (arith, one))
-      the-one (b ∷ rest) one all = all.0
 
-  module _ (kept : IsKept t) (looked : List ℕ) (fed n : ℕ) (there : has_id t.buffers fed ≡ true) (c' : Component) (comps buffers : List Component) (it' : Some c' ≡ find (λ x. x.id == id) comps) (run : comps ≡ map (run_at id (words_by (find (λ x. x.id == id) comps)) n) t.comps) (moved : IsMoved (chosen_by c.unit c.id t.joins) looked fed n t.buffers c buffers c') where
+  module _ (kept : IsKept t) (looked fed : List ℕ) (n : ℕ) (there : AllByRecursion (λ b. has_id t.buffers b ≡ true) fed) (c' : Component) (comps buffers : List Component) (it' : Some c' ≡ find (λ x. x.id == id) comps) (run : comps ≡ map (run_at id (words_by (find (λ x. x.id == id) comps)) n) t.comps) (moved : IsMoved (chosen_by c.unit c.id t.joins) (output_number t.joins c.id) looked fed n t.buffers c buffers c') where
     abbrev now : Tables
     now = record { comps = comps; buffers = buffers; pipes = t.pipes; joins = t.joins }
 
@@ -165,22 +195,31 @@ module _ (t : Tables) (id : ℕ) (c : Component) (it : Some c ≡ find (λ x. x.
     own-words : words_by (find (λ x. x.id == id) comps) ≡ words_at now id
     own-words = ap words_by (sym (find-first id comps (buffers ++ t.pipes) comp-there))
 
-    fed-words : words_by (find (λ x. x.id == fed) buffers) ≡ words_at now fed
-    fed-words =
-        let gone : has_id comps fed ≡ false = ap (λ (xs : List Component). has_id xs fed) run ∙ has-map (run_at id (words_by (find (λ x. x.id == id) comps)) n) (at-id (run_by (words_by (find (λ x. x.id == id) comps)) n) (λ c. refl) id) fed t.comps ∙ not-first fed t.comps t.buffers kept.named.comps_buffers there in
-        let frames = made_frames c.unit c.channels n (chosen_by c.unit c.id t.joins) (slices_in t.buffers looked n) in
-        let words = words_by (find (λ x. x.id == fed) buffers) in
-        let still : has_id buffers fed ≡ true =
-        ap (λ (xs : List Component). has_id xs fed) moved.table
-        ∙ has-map (pushed_at fed frames words) (at-id (pushed_by frames words) (λ c. refl) fed) fed (map (drained_at looked n) t.buffers)
-        ∙ has-map (drained_at looked n) (drained-id looked n) fed t.buffers ∙ there in
-        ap words_by (sym (find-past fed comps (buffers ++ t.pipes) gone ∙ find-first fed buffers t.pipes still))
+    -- what each that is fed gets
+    abbrev given : ℕ → List Frame
+    given = outlet_frames (chosen_by c.unit c.id t.joins) (output_number t.joins c.id) t.buffers looked n c
 
-    pub now-processed : now ≡ processed id looked n fed (made_at t id looked n) (words_at now fed) (words_at now id) t
+    given-is : (b : ℕ) → given b ≡ output_at t id b (made_at t id looked n)
+    given-is b =
+        ap (λ (fs : List Frame). output_frames c.unit c.channels (output_number t.joins c.id b) fs) frames-are
+        ∙ ap (λ k. output_frames c.unit c.channels (output_number t.joins k b) (made_at t id looked n)) own-id
+        ∙ ap (λ (o : Option Component). option_map_or (λ x. output_frames x.unit x.channels (output_number t.joins id b) (made_at t id looked n)) o (made_at t id looked n)) it
+
+    fed-words : (b : ℕ) → has_id t.buffers b ≡ true → words_by (find (λ x. x.id == b) buffers) ≡ words_at now b
+    fed-words b here =
+        let gone : has_id comps b ≡ false = ap (λ (xs : List Component). has_id xs b) run ∙ has-map (run_at id (words_by (find (λ x. x.id == id) comps)) n) (at-id (run_by (words_by (find (λ x. x.id == id) comps)) n) (λ c. refl) id) b t.comps ∙ not-first b t.comps t.buffers kept.named.comps_buffers here in
+        let words = λ (k : ℕ). words_by (find (λ x. x.id == k) buffers) in
+        let still : has_id buffers b ≡ true =
+        ap (λ (xs : List Component). has_id xs b) moved.table
+        ∙ has-map (fed_at fed given words) (fed-id fed given words) b (map (drained_at looked n) t.buffers)
+        ∙ has-map (drained_at looked n) (drained-id looked n) b t.buffers ∙ here in
+        ap words_by (sym (find-past b comps (buffers ++ t.pipes) gone ∙ find-first b buffers t.pipes still))
+
+    pub now-processed : now ≡ processed id looked n fed (λ b. output_at t id b (made_at t id looked n)) (words_at now) (words_at now id) t
     now-processed =
         (λ i. record {
           comps = (run ∙ ap (λ (w : List ℤ). map (run_at id w n) t.comps) own-words) i;
-          buffers = (moved.table ∙ ap (λ (p : List Frame × List ℤ). map (pushed_at fed p.0 p.1) (map (drained_at looked n) t.buffers)) (λ j. (frames-are j, fed-words j))) i;
+          buffers = (moved.table ∙ fed-same fed given (λ b. output_at t id b (made_at t id looked n)) (λ b. words_by (find (λ x. x.id == b) buffers)) (words_at now) (all-by (λ b. has_id t.buffers b ≡ true) (λ b. (given b ≡ output_at t id b (made_at t id looked n)) × (words_by (find (λ x. x.id == b) buffers) ≡ words_at now b)) (λ b here. (given-is b, fed-words b here)) fed there) (map (drained_at looked n) t.buffers)) i;
           pipes = t.pipes;
           joins = t.joins;
         })
@@ -194,5 +233,5 @@ module _ (t : Tables) (id : ℕ) (c : Component) (it : Some c ≡ find (λ x. x.
     pub now-staged : staged_in comps id ≡ staged_in t.comps id
     now-staged = ap staged_of_one (sym it') ∙ moved.staged ∙ ap staged_of_one it
 
-  pub now-kept : IsKept t → (looked : List ℕ) (fed n : ℕ) (c' : Component) (comps buffers : List Component) (w : List ℤ) → comps ≡ map (run_at id w n) t.comps → IsMoved (chosen_by c.unit c.id t.joins) looked fed n t.buffers c buffers c' → IsKept (record { comps = comps; buffers = buffers; pipes = t.pipes; joins = t.joins })
-  now-kept kept looked fed n c' comps buffers w run moved = process-kept t kept id fed n looked _ w _ comps buffers run moved.table
+  pub now-kept : IsKept t → (looked fed : List ℕ) (n : ℕ) (c' : Component) (comps buffers : List Component) (w : List ℤ) → comps ≡ map (run_at id w n) t.comps → IsMoved (chosen_by c.unit c.id t.joins) (output_number t.joins c.id) looked fed n t.buffers c buffers c' → IsKept (record { comps = comps; buffers = buffers; pipes = t.pipes; joins = t.joins })
+  now-kept kept looked fed n c' comps buffers w run moved = process-kept t kept id n looked fed _ w _ comps buffers run moved.table

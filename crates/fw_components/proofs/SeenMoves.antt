@@ -14,19 +14,18 @@ use Rattle.stream_law.specs.Placed.{Ascends}
 use Rattle.stream_law.specs.Seen.{remembers, is_equaliser, is_volume, blob_in, ramp_length}
 use Rattle.stream_law.specs.Ramps.{ramped_frames, numbers_from, numbers_place, ramped_on}
 use Rattle.stream_law.specs.Ways.{comp_of, is_of, channels_of}
-use Rattle.stream_law.specs.Made.{frames_made, only_slice}
+use Rattle.stream_law.specs.Made.{frames_made, frames_for, only_slice}
 use Rattle.stream_law.specs.Made as made
 use Rattle.stream_law.specs.Equaliser.{passed_frames, numbers_after}
 use Rattle.fw_units.specs.declared.component.Component.{Component}
 use Rattle.fw_units.specs.declared.component.Unit as units
-use Rattle.fw_units.specs.declared.component.Unit.TheVariants.{Host, Dai, Volume, Eq, Buffer, Pipeline}
+use Rattle.fw_units.specs.declared.component.Unit.TheVariants.{Host, Dai, Volume, Eq, Demux, Buffer, Pipeline}
 use Rattle.fw_units.specs.Units.{comp_by, edge_by, pipe_by, ring_by, streams_by, with_stream_by, staging_by, with_staging_by, kind_by, setting_by, ramp_by, unit_frames, numbers_by, is_buffer}
 use Rattle.fw_components.specs.Tables.{Tables, graph_of, view_by, streams_of, histories_of}
-use Rattle.fw_units.specs.Frames.{staged_by, staged_in, staged_of_one, taken_unit, taken_by, pushed_unit, pushed_by, pushed_at}
-use Rattle.fw_components.specs.Frames.{with_frames}
+use Rattle.fw_units.specs.Frames.{staged_by, staged_in, staged_of_one, taken_unit, taken_by, pushed_unit, pushed_by}
 use Rattle.fw_components.specs.Kept.{IsKept, IsBuffering}
-use Rattle.fw_units.specs.Processed.{moves_of, slices_in, chosen_by, made_frames, made_numbers, drained_at, run_unit, run_by, run_at}
-use Rattle.fw_components.specs.Processed.{moves_at, channels_moved, ramp_frames_by, ramp_frames_at, made_at, eq_numbers_at, numbers_made_at, processed, drained_ring, moved_rings, with_numbers}
+use Rattle.fw_units.specs.Processed.{moves_of, slices_in, chosen_by, made_frames, made_numbers, output_number, output_frames, fed_at, drained_at, run_unit, run_by, run_at}
+use Rattle.fw_components.specs.Processed.{moves_at, channels_moved, ramp_frames_by, ramp_frames_at, made_at, output_at, eq_numbers_at, numbers_made_at, processed, drained_ring, fed_ring, moved_rings, with_numbers}
 use Rattle.fw_units.proofs.Units.{taken-frames, pushed-frames}
 use Rattle.fw_components.proofs.SeenFrames.{map-same, edge_of_unit}
 use Rattle.fw_units.proofs.StepLaws.{own-found}
@@ -147,7 +146,7 @@ module _ (id : ℕ) (w : List ℤ) (n : ℕ) where
 
 -- ---- the buffers
 
-module _ (looked : List ℕ) (n fed : ℕ) (frames : List Frame) (w : List ℤ) where
+module _ (looked : List ℕ) (n : ℕ) (fed : List ℕ) (frames : ℕ → List Frame) (w : ℕ → List ℤ) where
   edge-drained : (c : Component) → edge_by (drained_at looked n c) ≡ edge_by c
   edge-drained c = by (is_among looked c.id)
     where
@@ -155,15 +154,15 @@ module _ (looked : List ℕ) (n fed : ℕ) (frames : List Frame) (w : List ℤ) 
       by true = edge-taken c.id c.pipe n c.unit
       by false = refl
 
-  edge-fed : (c : Component) → edge_by (pushed_at fed frames w c) ≡ edge_by c
-  edge-fed c = by (c.id == fed)
+  edge-fed : (c : Component) → edge_by (fed_at fed frames w c) ≡ edge_by c
+  edge-fed c = by (is_among fed c.id)
     where
-      by : (h : Bool) → edge_by (cond {A = Component} h (pushed_by frames w c) c) ≡ edge_by c
-      by true = edge-pushed c.id c.pipe frames w c.unit
+      by : (h : Bool) → edge_by (cond {A = Component} h (pushed_by (frames c.id) (w c.id) c) c) ≡ edge_by c
+      by true = edge-pushed c.id c.pipe (frames c.id) (w c.id) c.unit
       by false = refl
 
-  pub edges-moved : (cs : List Component) → map edge_by (map (pushed_at fed frames w) (map (drained_at looked n) cs)) ≡ map edge_by cs
-  edges-moved cs = map-same edge_by (pushed_at fed frames w) edge-fed (map (drained_at looked n) cs) ∙ map-same edge_by (drained_at looked n) edge-drained cs
+  pub edges-moved : (cs : List Component) → map edge_by (map (fed_at fed frames w) (map (drained_at looked n) cs)) ≡ map edge_by cs
+  edges-moved cs = map-same edge_by (fed_at fed frames w) edge-fed (map (drained_at looked n) cs) ∙ map-same edge_by (drained_at looked n) edge-drained cs
 
   ring-drained : (c : Component) → ring_by (drained_at looked n c) ≡ drained_ring looked n (ring_by c)
   ring-drained c = by (is_among looked c.id)
@@ -179,22 +178,26 @@ module _ (looked : List ℕ) (n fed : ℕ) (frames : List Frame) (w : List ℤ) 
       by true = taken-buffer n c.unit
       by false = refl
 
-  ring-fed : (c : Component) → is_buffer c.unit ≡ true → ring_by (pushed_at fed frames w c) ≡ with_frames (λ own. own ++ frames) fed (ring_by c)
-  ring-fed c e = by (c.id == fed)
+  ring-fed : (c : Component) → is_buffer c.unit ≡ true → ring_by (fed_at fed frames w c) ≡ fed_ring fed frames (ring_by c)
+  ring-fed c e = by (is_among fed c.id)
     where
-      by : (h : Bool) → ring_by (cond {A = Component} h (pushed_by frames w c) c) ≡ cond h (record { buffer = c.id; frames = unit_frames c.unit ++ frames }) (ring_by c)
-      by true = ap (λ (fs : List Frame). record { buffer = c.id; frames = fs }) (pushed-frames frames w c.unit e)
+      by : (h : Bool) → ring_by (cond {A = Component} h (pushed_by (frames c.id) (w c.id) c) c) ≡ cond h (record { buffer = c.id; frames = unit_frames c.unit ++ frames c.id }) (ring_by c)
+      by true = ap (λ (fs : List Frame). record { buffer = c.id; frames = fs }) (pushed-frames (frames c.id) (w c.id) c.unit e)
       by false = refl
 
-  pub rings-moved : (cs : List Component) → AllByRecursion (λ c. IsBuffering c.unit) cs → map ring_by (map (pushed_at fed frames w) (map (drained_at looked n) cs)) ≡ moved_rings looked n fed frames (map ring_by cs)
+  -- a ring that is fed once it is drained
+  fed-drained : (c : Component) → fed_ring fed frames (ring_by (drained_at looked n c)) ≡ fed_ring fed frames (drained_ring looked n (ring_by c))
+  fed-drained c = ap (fed_ring fed frames) (ring-drained c)
+
+  pub rings-moved : (cs : List Component) → AllByRecursion (λ c. IsBuffering c.unit) cs → map ring_by (map (fed_at fed frames w) (map (drained_at looked n) cs)) ≡ moved_rings looked n fed frames (map ring_by cs)
   rings-moved [] all = refl
   rings-moved (c ∷ cs) all =
-      let one = ring-fed (drained_at looked n c) (still-buffer c ∙ all.0.0) ∙ ap (with_frames (λ own. own ++ frames) fed) (ring-drained c) in
+      let one = ring-fed (drained_at looked n c) (still-buffer c ∙ all.0.0) ∙ fed-drained c in
       (λ i. one i ∷ rings-moved cs all.1 i)
 
 -- ---- all of the tables
 
-module _ (id fed n : ℕ) (looked : List ℕ) (frames : List Frame) (words own : List ℤ) (t : Tables) where
+module _ (id n : ℕ) (looked fed : List ℕ) (frames : ℕ → List Frame) (words : ℕ → List ℤ) (own : List ℤ) (t : Tables) where
   abbrev after : Tables
   after = processed id looked n fed frames words own t
 
@@ -221,6 +224,27 @@ find-comp id (c ∷ cs) = by (c.id == id) (find-comp id cs)
     by : (h : Bool) → find (λ x. x.id == id) (map comp_by cs) ≡ option_map comp_by (find (λ c. c.id == id) cs) → cond h (Some (comp_by c)) (find (λ x. x.id == id) (map comp_by cs)) ≡ option_map comp_by (cond h (Some c) (find (λ c. c.id == id) cs))
     by true rest = refl
     by false rest = rest
+
+-- what each output gets
+module _ (id b : ℕ) (frames : List Frame) (t : Tables) (wide : channels_of (view_by t) id ≡ channels_moved t id) where
+  pub tick-outputs : frames_for (view_by t) id b frames ≡ output_at t id b frames
+  unfolding frames_for
+  tick-outputs =
+      ap (λ (o : Option Comp). option_map_or (λ x. made.frames_at_output x.kind x.setting (view_by t) id (output_number t.joins id b) frames) o frames) (find-comp id t.comps)
+      ∙ found (find (λ c. c.id == id) t.comps) wide
+    where
+      by : (u : units.Unit) (channels : ℕ) → channels_of (view_by t) id ≡ channels → made.frames_at_output (kind_by u) (setting_by u) (view_by t) id (output_number t.joins id b) frames ≡ output_frames u channels (output_number t.joins id b) frames
+      by (Demux masks piece) channels same = ap (λ k. output_frames (Demux masks piece) k (output_number t.joins id b) frames) same
+      by (Host true phase params piece) channels same = refl
+      by (Host false phase params piece) channels same = refl
+      by (Dai true format piece) channels same = refl
+      by (Dai false format piece) channels same = refl
+      by u channels same = refl
+
+      found : (o : Option Component) → channels_of (view_by t) id ≡ option_map_or (λ c. c.channels) o 0 →
+          option_map_or (λ x. made.frames_at_output x.kind x.setting (view_by t) id (output_number t.joins id b) frames) (option_map comp_by o) frames ≡ option_map_or (λ c. output_frames c.unit c.channels (output_number t.joins id b) frames) o frames
+      found None same = refl
+      found (Some c) same = by c.unit c.channels same
 
 -- an equaliser's numbers after them
 module _ (id n : ℕ) (looked : List ℕ) (t : Tables) (wide : channels_of (view_by t) id ≡ channels_moved t id) where

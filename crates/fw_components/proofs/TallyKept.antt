@@ -15,15 +15,16 @@ use Rattle.fw_units.specs.declared.component.Unit as units
 use Rattle.fw_units.specs.declared.component.Unit.TheVariants.{Host, Buffer}
 use Rattle.fw_components.specs.declared.tallies.Tallies.{Tallies}
 use Rattle.fw_components.specs.Tables.{Tables, ids_of, graph_of}
-use Rattle.fw_units.specs.Units.{kind_by, with_stream_by, streams_by}
+use Rattle.fw_units.specs.Units.{kind_by, edge_by, size_by, source_by, sink_by, with_stream_by, streams_by}
 use Rattle.fw_units.specs.Changes.{with_ended, ended_unit, set_at, set_unit}
-use Rattle.fw_units.specs.Frames.{begun_at, begun_by, begun_unit, pushed_at, pushed_by, taken_at, taken_by}
+use Rattle.fw_units.specs.Frames.{begun_at, begun_by, begun_unit, pushed_at, pushed_by, pushed_unit, taken_at, taken_by, taken_unit}
 use Rattle.fw_components.specs.Parts.{parted_at, parted_by, parted_unit}
-use Rattle.fw_units.specs.Processed.{drained_at, run_at, run_by, run_unit}
+use Rattle.fw_units.specs.Processed.{drained_at, fed_at, run_at, run_by, run_unit}
 use Rattle.fw_units.specs.Values.{valued_at, valued_unit}
 use Rattle.fw_components.specs.Tally.{IsTallied, passes, has_phase, params_in}
 use Rattle.fw_components.proofs.HostWays.{changed-ways}
 use Rattle.fw_components.proofs.Tallying.{told, ahead, host-told, phase-live, runs-live, same-ids, map-ids, comps-tallied, buffers-tallied}
+use Rattle.fw_units.proofs.MovedLaws.{fed-id}
 use Rattle.fw_units.proofs.Units.{begun-kind, valued-kind}
 
 -- ---- each change keeps streams and kinds
@@ -69,6 +70,58 @@ drained-id looked n c = by (is_among looked c.id)
   where
     by : (h : Bool) → (cond {A = Component} h (taken_by n c) c).id ≡ c.id
     by true = refl
+    by false = refl
+
+-- ---- the edges of buffers
+
+edges-same : (change : Component → Component) → ((c : Component) → edge_by (change c) ≡ edge_by c) → (cs : List Component) → map edge_by (map change cs) ≡ map edge_by cs
+edges-same change same [] = refl
+edges-same change same (c ∷ cs) = (λ i. same c i ∷ edges-same change same cs i)
+
+-- another unit of the same size and sides
+edge-same : (f : units.Unit → units.Unit) → ((u : units.Unit) → (size_by (f u) ≡ size_by u) × (source_by (f u) ≡ source_by u) × (sink_by (f u) ≡ sink_by u)) → (c : Component) → edge_by (with_unit f c) ≡ edge_by c
+edge-same f same c = λ i. record { buffer = c.id; pipe = c.pipe; size = (same c.unit).0 i; source = (same c.unit).1 i; sink = (same c.unit).2 i }
+
+begun-edge : (channels rate : ℕ) (words : List ℤ) (c : Component) → edge_by (begun_by channels rate words c) ≡ edge_by c
+begun-edge channels rate words c = edge-same (begun_unit channels rate words) by c
+  where
+    by : (u : units.Unit) → (size_by (begun_unit channels rate words u) ≡ size_by u) × (source_by (begun_unit channels rate words u) ≡ source_by u) × (sink_by (begun_unit channels rate words u) ≡ sink_by u)
+    by (Buffer size ring source sink) = (refl, refl, refl)
+    by u = (refl, refl, refl)
+
+pushed-edge : (frames : List Frame) (words : List ℤ) (c : Component) → edge_by (pushed_by frames words c) ≡ edge_by c
+pushed-edge frames words c = edge-same (pushed_unit frames words) by c
+  where
+    by : (u : units.Unit) → (size_by (pushed_unit frames words u) ≡ size_by u) × (source_by (pushed_unit frames words u) ≡ source_by u) × (sink_by (pushed_unit frames words u) ≡ sink_by u)
+    by (Buffer size ring source sink) = (refl, refl, refl)
+    by u = (refl, refl, refl)
+
+taken-edge : (n : ℕ) (c : Component) → edge_by (taken_by n c) ≡ edge_by c
+taken-edge n c = edge-same (taken_unit n) by c
+  where
+    by : (u : units.Unit) → (size_by (taken_unit n u) ≡ size_by u) × (source_by (taken_unit n u) ≡ source_by u) × (sink_by (taken_unit n u) ≡ sink_by u)
+    by (Buffer size ring source sink) = (refl, refl, refl)
+    by u = (refl, refl, refl)
+
+ended-edge : (c : Component) → edge_by (with_unit ended_unit c) ≡ edge_by c
+ended-edge c = edge-same ended_unit by c
+  where
+    by : (u : units.Unit) → (size_by (ended_unit u) ≡ size_by u) × (source_by (ended_unit u) ≡ source_by u) × (sink_by (ended_unit u) ≡ sink_by u)
+    by (Buffer size ring source sink) = (refl, refl, refl)
+    by u = (refl, refl, refl)
+
+drained-edge : (looked : List ℕ) (n : ℕ) (c : Component) → edge_by (drained_at looked n c) ≡ edge_by c
+drained-edge looked n c = by (is_among looked c.id)
+  where
+    by : (h : Bool) → edge_by (cond {A = Component} h (taken_by n c) c) ≡ edge_by c
+    by true = taken-edge n c
+    by false = refl
+
+fed-edge : (fed : List ℕ) (frames : ℕ → List Frame) (words : ℕ → List ℤ) (c : Component) → edge_by (fed_at fed frames words c) ≡ edge_by c
+fed-edge fed frames words c = by (is_among fed c.id)
+  where
+    by : (h : Bool) → edge_by (cond {A = Component} h (pushed_by (frames c.id) (words c.id) c) c) ≡ edge_by c
+    by true = pushed-edge (frames c.id) (words c.id) c
     by false = refl
 
 -- ---- a stream that is in no such phase, before nor after
@@ -143,26 +196,26 @@ module _ (t : Tables) (s : Tallies) (tied : IsTallied t s) (id : ℕ) where
       (at-same (λ c. kind_by c.unit) (parted_by part words) (λ c. parted-kind c.id part words c.unit) id)
 
   pub begun-buffers-tallied : (channels rate : ℕ) (words : List ℤ) (new : List Component) → new ≡ map (begun_at id channels rate words) t.buffers → IsTallied (record { comps = t.comps; buffers = new; pipes = t.pipes; joins = t.joins }) s
-  begun-buffers-tallied channels rate words new is = buffers-tallied t s tied (begun_at id channels rate words) new is (at-same (λ c. c.id) (begun_by channels rate words) (λ c. refl) id)
+  begun-buffers-tallied channels rate words new is = buffers-tallied t s tied (begun_at id channels rate words) new is (at-same (λ c. c.id) (begun_by channels rate words) (λ c. refl) id) (edges-same (begun_at id channels rate words) (at-same edge_by (begun_by channels rate words) (λ c. begun-edge channels rate words c) id) t.buffers)
 
   pub pushed-tallied : (frames : List Frame) (words : List ℤ) (new : List Component) → new ≡ map (pushed_at id frames words) t.buffers → IsTallied (record { comps = t.comps; buffers = new; pipes = t.pipes; joins = t.joins }) s
-  pushed-tallied frames words new is = buffers-tallied t s tied (pushed_at id frames words) new is (at-same (λ c. c.id) (pushed_by frames words) (λ c. refl) id)
+  pushed-tallied frames words new is = buffers-tallied t s tied (pushed_at id frames words) new is (at-same (λ c. c.id) (pushed_by frames words) (λ c. refl) id) (edges-same (pushed_at id frames words) (at-same edge_by (pushed_by frames words) (pushed-edge frames words) id) t.buffers)
 
   pub taken-tallied : (n : ℕ) (new : List Component) → new ≡ map (taken_at id n) t.buffers → IsTallied (record { comps = t.comps; buffers = new; pipes = t.pipes; joins = t.joins }) s
-  taken-tallied n new is = buffers-tallied t s tied (taken_at id n) new is (at-same (λ c. c.id) (taken_by n) (λ c. refl) id)
+  taken-tallied n new is = buffers-tallied t s tied (taken_at id n) new is (at-same (λ c. c.id) (taken_by n) (λ c. refl) id) (edges-same (taken_at id n) (at-same edge_by (taken_by n) (taken-edge n) id) t.buffers)
 
   pub ended-tallied : (new : List Component) → new ≡ map (with_ended id) t.buffers → IsTallied (record { comps = t.comps; buffers = new; pipes = t.pipes; joins = t.joins }) s
-  ended-tallied new is = buffers-tallied t s tied (with_ended id) new is (at-same (λ c. c.id) (with_unit ended_unit) (λ c. refl) id)
+  ended-tallied new is = buffers-tallied t s tied (with_ended id) new is (at-same (λ c. c.id) (with_unit ended_unit) (λ c. refl) id) (edges-same (with_ended id) (at-same edge_by (with_unit ended_unit) ended-edge id) t.buffers)
 
-  pub processed-tallied : (fed n : ℕ) (looked : List ℕ) (frames : List Frame) (w v : List ℤ) (comps buffers : List Component) → comps ≡ map (run_at id w n) t.comps → buffers ≡ map (pushed_at fed frames v) (map (drained_at looked n) t.buffers) → IsTallied (record { comps = comps; buffers = buffers; pipes = t.pipes; joins = t.joins }) s
-  processed-tallied fed n looked frames w v comps buffers run moved =
+  pub processed-tallied : (n : ℕ) (looked fed : List ℕ) (frames : ℕ → List Frame) (w : List ℤ) (v : ℕ → List ℤ) (comps buffers : List Component) → comps ≡ map (run_at id w n) t.comps → buffers ≡ map (fed_at fed frames v) (map (drained_at looked n) t.buffers) → IsTallied (record { comps = comps; buffers = buffers; pipes = t.pipes; joins = t.joins }) s
+  processed-tallied n looked fed frames w v comps buffers run moved =
       let one = comps-tallied t s tied (run_at id w n) comps run
       (at-same (λ c. c.id) (run_by w n) (λ c. refl) id)
       (λ c ss. at-same (λ c. with_stream_by c.id c.unit ss) (run_by w n) (λ c. run-stream w n c.id ss c.unit) id c)
       (at-same (λ c. kind_by c.unit) (run_by w n) (λ c. run-kind w n c.unit) id) in
       let drained = map (drained_at looked n) t.buffers in
-      let two = buffers-tallied (record { comps = comps; buffers = t.buffers; pipes = t.pipes; joins = t.joins }) s one (drained_at looked n) drained refl (drained-id looked n) in
-      buffers-tallied (record { comps = comps; buffers = drained; pipes = t.pipes; joins = t.joins }) s two (pushed_at fed frames v) buffers moved (at-same (λ c. c.id) (pushed_by frames v) (λ c. refl) fed)
+      let two = buffers-tallied (record { comps = comps; buffers = t.buffers; pipes = t.pipes; joins = t.joins }) s one (drained_at looked n) drained refl (drained-id looked n) (edges-same (drained_at looked n) (drained-edge looked n) t.buffers) in
+      buffers-tallied (record { comps = comps; buffers = drained; pipes = t.pipes; joins = t.joins }) s two (fed_at fed frames v) buffers moved (fed-id fed frames v) (edges-same (fed_at fed frames v) (fed-edge fed frames v) drained)
 
   -- the stream of a host was not counted, nor is
   pub set-tallied : (phase : Phase) (params : Option Params) → is_live_phase phase ≡ false → list_any (is-in is_live_phase id) t.comps ≡ false → (new : List Component) → new ≡ map (set_at id phase params) t.comps → IsTallied (record { comps = new; buffers = t.buffers; pipes = t.pipes; joins = t.joins }) s

@@ -8,11 +8,11 @@ use Rattle.stream_law.specs.declared.graph.Join.{Join}
 use Rattle.stream_law.specs.declared.stream.Phase.{Phase}
 use Rattle.stream_law.specs.declared.stream.Phase.TheVariants as phases
 use Rattle.stream_law.specs.declared.stream.StreamView.{StreamView}
-use Rattle.stream_law.specs.Ways.{on_way, is_running_phase, is_live_phase}
+use Rattle.stream_law.specs.Ways.{reaches, is_echo, way_joins, ways_to, on_way, is_running_phase, is_live_phase}
 use Rattle.stream_law.proofs.Members.{IsIn, in-any}
 use Rattle.stream_law.specs.Order.{is_among}
 use Rattle.fw_places.specs.Walks.{place_in}
-use Rattle.fw_places.proofs.Ways.{way-listed}
+use Rattle.fw_places.proofs.WayWalks.{way-listed}
 use Rattle.fw_units.specs.declared.component.Component.{Component}
 use Rattle.fw_units.specs.declared.component.Unit as units
 use Rattle.fw_units.specs.declared.component.Unit.TheVariants.{Host, Buffer}
@@ -20,9 +20,9 @@ use Rattle.fw_components.specs.declared.tallies.Tallies.{Tallies}
 use Rattle.fw_units.specs.Changes.{has_id}
 use Rattle.fw_components.specs.Kept.{IsKept}
 use Rattle.fw_components.specs.Tables.{Tables, ids_of, graph_of, streams_of}
-use Rattle.fw_units.specs.Units.{streams_by, with_stream_by, kind_by}
+use Rattle.fw_units.specs.Units.{streams_by, with_stream_by, edge_by, kind_by}
 use Rattle.fw_components.specs.Tally.{passes, AreTold, IsTallied, AreBare, has_phase, params_in}
-use Rattle.fw_components.proofs.HostWays.{ways-same, changed-ways}
+use Rattle.fw_components.proofs.HostWays.{changed-ways, held-ways}
 use Rattle.fw_components.proofs.Listed.{ids-are, listed-is, joins-listed}
 
 -- what is Running is Live
@@ -124,7 +124,7 @@ pub nowhere-told : (t : Tables) → IsKept t → (x : ℕ) → is_among (ids_of 
 nowhere-told t kept x none is = told-none _ (streams_of t) (streams-each (λ host phase. (is phase && on_way (graph_of t) host x) ≡ false) t.comps (in-hosts t.comps (λ c there. there)))
   where
     off : (c : Component) → IsIn c t.comps → on_way (graph_of t) c.id x ≡ false
-    off c there = false_from_ne_true _ (λ on. true≢false (sym (way-listed (graph_of t) (ids_of t) (joins-listed t kept) c.id x (listed-is t c.id ∙ or_left (has_id t.comps c.id) _ (in-any (λ d. d.id == c.id) t.comps c there (eq-eqb c.id c.id refl))) on) ∙ none))
+    off c there = false_from_ne_true _ (λ on. true≢false (sym (way-listed (graph_of t) (ids_of t) refl (joins-listed t kept) c.id x (listed-is t c.id ∙ or_left (has_id t.comps c.id) _ (in-any (λ d. d.id == c.id) t.comps c there (eq-eqb c.id c.id refl))) on) ∙ none))
 
     none-passes : (h on : Bool) → on ≡ false → (h && on) ≡ false
     none-passes true on is = is
@@ -162,17 +162,18 @@ module _ (t : Tables) (s : Tallies) (tied : IsTallied t s) where
       (changed-ways t change new is ids kinds)
       tied
 
-  -- buffers that keep their ids
-  pub buffers-tallied : (change : Component → Component) (new : List Component) → new ≡ map change t.buffers → ((c : Component) → (change c).id ≡ c.id)
+  -- buffers that keep their ids and their edges
+  pub buffers-tallied : (change : Component → Component) (new : List Component) → new ≡ map change t.buffers → ((c : Component) → (change c).id ≡ c.id) → map edge_by (map change t.buffers) ≡ map edge_by t.buffers
       → IsTallied (record { comps = t.comps; buffers = new; pipes = t.pipes; joins = t.joins }) s
-  buffers-tallied change new is ids = told-same t (record { comps = t.comps; buffers = new; pipes = t.pipes; joins = t.joins }) s
+  buffers-tallied change new is ids edges = told-same t (record { comps = t.comps; buffers = new; pipes = t.pipes; joins = t.joins }) s
       (same-ids t (record { comps = t.comps; buffers = new; pipes = t.pipes; joins = t.joins }) refl (ap (map (λ c. c.id)) is ∙ map-ids change ids t.buffers))
       refl
-      (ways-same t (record { comps = t.comps; buffers = new; pipes = t.pipes; joins = t.joins }) refl (λ host. refl))
+      (held-ways t new (ap (map edge_by) is ∙ edges))
       tied
 
   pub pipes-tallied : (new : List Component) → IsTallied (record { comps = t.comps; buffers = t.buffers; pipes = new; joins = t.joins }) s
-  pipes-tallied new = told-same t (record { comps = t.comps; buffers = t.buffers; pipes = new; joins = t.joins }) s refl refl (ways-same t (record { comps = t.comps; buffers = t.buffers; pipes = new; joins = t.joins }) refl (λ host. refl)) tied
+  unfolding on_way ways_to is_echo way_joins reaches
+  pipes-tallied new = told-same t (record { comps = t.comps; buffers = t.buffers; pipes = new; joins = t.joins }) s refl refl (λ host x. refl) tied
 
 -- what is counted of equal lists
 pub lists-tallied : (t : Tables) (comps buffers : List Component) (joins : List Join) (s : Tallies) → comps ≡ t.comps → buffers ≡ t.buffers → joins ≡ t.joins

@@ -1,18 +1,17 @@
 -- What is so of tables once values are set.
-use Rattle.std.proofs.Common.{◌≡◌, refl, sym, ap, ◌∙◌, subst, ℕ, zero, suc, ◌≤◌, List, [], ◌∷◌, map, length, get_or, Bool, true, false, cond, ◌==◌, ◌&&◌, Option, Some, None, arith}
-use Rattle.std.proofs.lemmas.Bool.{eqb-true, and_parts, leb-true, le-leb, false≢true}
+use Rattle.std.proofs.Common.{◌≡◌, refl, sym, ap, ◌∙◌, subst, ℕ, zero, suc, ◌≤◌, List, [], ◌∷◌, map, length, get_or, Bool, true, false, cond, ◌==◌, ◌&&◌, Option, Some, arith}
+use Rattle.std.proofs.lemmas.Bool.{eqb-true, and_parts, leb-true, le-leb}
 use Rattle.std.proofs.lemmas.List.FromFn.{length-map-range_with_len}
 use Rattle.std.specs.Prelude.{nat_le, find}
 use Rattle.std.specs.List.{list_all, AllByRecursion, range_with_len}
 use Rattle.std.specs.Option.{option_map_or}
-use Rattle.sof_base.specs.Ramps.{ramp_gain, ramp_gains}
+use Rattle.sof_base.specs.Ramps.{ramp_gain}
 use Rattle.sof_base.proofs.RampLaws.{between}
-use Rattle.stream_law.specs.Placed.{Ascends}
 use Rattle.stream_law.specs.Ramps.{last_gains}
-use Rattle.ipc3_model.specs.declared.control_kind.TheConstants.{CTRL_VOLUME}
+use Rattle.ipc3_model.specs.declared.control_kind.TheConstants.{CTRL_VOLUME, CTRL_SWITCH}
 use Rattle.fw_units.specs.declared.component.Component.{Component}
 use Rattle.fw_units.specs.declared.component.Unit as units
-use Rattle.fw_units.specs.declared.component.Unit.TheVariants.{Volume, Mux, Buffer}
+use Rattle.fw_units.specs.declared.component.Unit.TheVariants.{Volume, Mux, Demux, Buffer}
 use Rattle.fw_units.specs.Changes.{with_unit}
 use Rattle.fw_units.specs.Values.{takes_values, valued_unit, valued_at}
 use Rattle.fw_units.proofs.StepLaws.{own-found}
@@ -49,6 +48,7 @@ last-length from to count (suc j) same = length-map-range_with_len (λ k. ramp_g
 valued-plain : (values : List ℕ) (u : units.Unit) → is_plain u ≡ true → is_plain (valued_unit values u) ≡ true
 valued-plain values (Volume gains ramp from done frames piece) e = refl
 valued-plain values (Mux choice piece) e = refl
+valued-plain values (Demux masks piece) e = refl
 valued-plain values u e = e
 
 valued-streaming : (values : List ℕ) (u : units.Unit) → IsStreaming u → IsStreaming (valued_unit values u)
@@ -63,6 +63,10 @@ valued-sound command values (Volume gains ramp from done frames piece) takes e =
     subst (λ h. IsUnitSound (Volume (cond h values gains) ramp (cond h (last_gains from gains frames done) from) (cond h 0 done) frames piece)) (sym parts.0)
     (last-length from gains frames done e.0 ∙ sym same, parts.1, last-low from gains frames done e.2 e.1, e.3)
 valued-sound command values (Mux choice piece) takes e = tt
+valued-sound command values (Demux masks piece) takes e =
+    let right = (and_parts (command == CTRL_SWITCH) (length values == 8 && list_all (λ v. nat_le v 255) values) takes).1 in
+    let parts = and_parts (length values == 8) (list_all (λ v. nat_le v 255) values) right in
+    subst (λ h. IsUnitSound (Demux (cond h values masks) piece)) (sym parts.0) (eqb-true (length values) 8 parts.0, parts.1)
 valued-sound command values u takes e = e
 
 -- ---- and tables

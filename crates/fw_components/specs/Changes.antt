@@ -6,7 +6,7 @@ use Rattle.stream_law.specs.declared.stream.Phase.{Phase}
 use Rattle.stream_law.specs.declared.stream.Phase.TheVariants.{Idle}
 use Rattle.mbox_link.specs.Step.{touches}
 use Rattle.fw_units.specs.declared.component.Unit as units
-use Rattle.fw_units.specs.declared.component.Unit.TheVariants.{Host, Volume, Eq, Buffer, Pipeline}
+use Rattle.fw_units.specs.declared.component.Unit.TheVariants.{Host, Volume, Eq, Demux, Buffer, Pipeline}
 use Rattle.fw_units.specs.declared.component.Component.{Component}
 use Rattle.fw_units.specs.Units.{is_buffer, is_pipeline, source_by, sink_by}
 use Rattle.fw_components.specs.Tables.{Tables, all_of}
@@ -45,13 +45,14 @@ is_idle_phase phase = false
 
 -- a buffer is joined to nothing, and its ring is empty and has the words of its bytes; a host is Idle and without parameters; of
 -- an equaliser's blob nothing is staged; a volume has 1 to 8 gains of at most 16777216, as many to go from, and a ramp of at most 10000
--- milliseconds; a period is that of a message
+-- milliseconds; a demux has eight masks of at most 255; a period is that of a message
 abbrev pub IsNew : units.Unit → Type 0
 IsNew (Host capture phase params piece) = (is_idle_phase phase ≡ true) × (params ≡ None)
 IsNew (Volume gains ramp from done frames piece) =
     (1 ≤ length gains) × (length gains ≤ 8) × (list_all (λ g. nat_le g 16777216) gains ≡ true)
     × (length from ≡ length gains) × (list_all (λ g. nat_le g 16777216) from ≡ true) × (ramp ≤ 10000)
 IsNew (Eq eq next remaining) = (next ≡ 0) × (remaining ≡ 0)
+IsNew (Demux masks piece) = (length masks ≡ 8) × (list_all (λ m. nat_le m 255) masks ≡ true)
 IsNew (Buffer size ring source sink) = (source ≡ None) × (sink ≡ None) × (ring.frames ≡ []) × (ring.words ≡ size / 4)
 IsNew (Pipeline sched period complete piece) = (1000 ≤ period) × (period ≤ 10000) × (period % 1000 ≡ 0)
 IsNew unit = Unit {0}

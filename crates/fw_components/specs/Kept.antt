@@ -6,7 +6,7 @@ use Rattle.sof_base.specs.Rates.{is_rate}
 use Rattle.stream_law.specs.declared.graph.Join.{Join}
 use Rattle.stream_law.specs.Placed.{Ascends}
 use Rattle.fw_units.specs.declared.component.Unit as units
-use Rattle.fw_units.specs.declared.component.Unit.TheVariants.{Host, Volume, Eq, Buffer, Pipeline}
+use Rattle.fw_units.specs.declared.component.Unit.TheVariants.{Host, Volume, Eq, Demux, Buffer, Pipeline}
 use Rattle.fw_units.specs.declared.component.Component.{Component}
 use Rattle.fw_units.specs.Units.{is_buffer, is_pipeline, source_by, sink_by}
 use Rattle.fw_components.specs.Tables.{Tables}
@@ -61,21 +61,23 @@ pub record IsLinked (t : Tables) : Type 0 where
   pub each : AllByRecursion (λ c. sides_by c.unit ≤ joins_at c.id t.joins) t.buffers
   pub all : length t.joins ≤ sides t.buffers
 
--- at most 128 components by ascending id, at most 128 buffers, and at most 256 joins between these
+-- at most 128 components and at most 128 buffers by ascending id, and at most 256 joins between these
 pub record AreJoined (comps buffers : List Component) (joins : List Join) : Type 0 where
   pub few_comps : length comps ≤ 128
   pub few_buffers : length buffers ≤ 128
   pub few_joins : length joins ≤ 256
   pub between : AllByRecursion (λ j. is_between comps buffers j ≡ true) joins
   pub named : Ascends (λ c. c.id) comps
+  pub named_buffers : Ascends (λ c. c.id) buffers
 
 -- ---- all of it
 
 -- a ring has the words of its bytes; a period is a multiple of 1000 µs from 1000 to 10000; a volume has as many gains to go from as to
--- go to, each at most 16777216, and a ramp of at most 10000 milliseconds
+-- go to, each at most 16777216, and a ramp of at most 10000 milliseconds; a demux has eight masks of at most 255
 abbrev pub IsUnitSound : units.Unit → Type 0
 IsUnitSound (Volume gains ramp from done frames piece) =
     (length from ≡ length gains) × (list_all (λ g. nat_le g 16777216) gains ≡ true) × (list_all (λ g. nat_le g 16777216) from ≡ true) × (ramp ≤ 10000)
+IsUnitSound (Demux masks piece) = (length masks ≡ 8) × (list_all (λ m. nat_le m 255) masks ≡ true)
 IsUnitSound (Buffer size ring source sink) = ring.words ≡ size / 4
 IsUnitSound (Pipeline sched period complete piece) = (1000 ≤ period) × (period ≤ 10000) × (period % 1000 ≡ 0)
 IsUnitSound unit = Unit {0}

@@ -1,4 +1,4 @@
--- What the tables are once a volume, a mixer, a mux or an equaliser has moved frames.
+-- What the tables are once a volume, a mixer, a mux, an equaliser or a demux has moved frames.
 use Rattle.std.specs.Prelude.{ℕ, ◌+◌, List, [], ◌++◌, drop, map, Bool, false, ◌==◌, if◌then◌else◌, ℤ, find}
 use Rattle.std.specs.Option.{option_map_or}
 use Rattle.sof_base.specs.Samples.{Frame}
@@ -8,15 +8,17 @@ use Rattle.fw_units.specs.declared.component.Unit as units
 use Rattle.fw_units.specs.declared.component.Unit.TheVariants.{Volume}
 use Rattle.fw_units.specs.Units.{numbers_by}
 use Rattle.fw_components.specs.Tables.{Tables}
-use Rattle.fw_units.specs.Frames.{pushed_at}
-use Rattle.fw_components.specs.Frames.{with_frames}
-use Rattle.fw_units.specs.Processed.{chosen_by, drained_at, made_frames, made_numbers, moves_of, run_at, slices_in}
+use Rattle.fw_units.specs.Processed.{chosen_by, drained_at, fed_at, feeds_of, made_frames, made_numbers, moves_of, output_frames, output_number, run_at, slices_in}
 
 -- ---- what can be moved
 
 -- the component of an id moves frames of so many buffers
 abbrev pub moves_at : Tables → ℕ → ℕ → Bool
 moves_at t id inlets = option_map_or (λ c. moves_of c.unit inlets) (find (λ c. c.id == id) t.comps) false
+
+-- and feeds so many
+abbrev pub feeds_at : Tables → ℕ → ℕ → Bool
+feeds_at t id outlets = option_map_or (λ c. feeds_of c.unit outlets) (find (λ c. c.id == id) t.comps) false
 
 -- how many channels it moves
 abbrev pub channels_moved : Tables → ℕ → ℕ
@@ -32,9 +34,13 @@ ramp_frames_at t id = option_map_or (λ c. ramp_frames_by c.unit) (find (λ c. c
 
 -- ---- what is made
 
--- the frames that the component of an id makes, and its numbers: those that are kept, and those after that
+-- the frames that the component of an id makes, what one of its outputs gets of frames, and its numbers: those that are kept, and those after
+-- that
 abbrev pub made_at : Tables → (id : ℕ) → List ℕ → ℕ → List Frame
 made_at t id looked n = option_map_or (λ c. made_frames c.unit c.channels n (chosen_by c.unit id t.joins) (slices_in t.buffers looked n)) (find (λ c. c.id == id) t.comps) []
+
+abbrev pub output_at : Tables → (id b : ℕ) → List Frame → List Frame
+output_at t id b frames = option_map_or (λ c. output_frames c.unit c.channels (output_number t.joins id b) frames) (find (λ c. c.id == id) t.comps) frames
 
 abbrev pub eq_numbers_at : Tables → ℕ → List ℤ
 eq_numbers_at t id = option_map_or (λ c. numbers_by c.unit c.channels) (find (λ c. c.id == id) t.comps) []
@@ -44,12 +50,12 @@ numbers_made_at t id looked n = option_map_or (λ c. made_numbers c.unit c.chann
 
 -- ---- what is left
 
--- The tables once each buffer that is looked at has lost n frames, and one has these behind its own, with the words of its piece
--- and of the component's after that.
-abbrev pub processed : (id : ℕ) → List ℕ → (n fed : ℕ) → List Frame → (fed_words words : List ℤ) → Tables → Tables
+-- The tables once each buffer that is looked at has lost n frames, and each that is fed has frames behind its own, with the words of its
+-- piece and of the component's after that.
+abbrev pub processed : (id : ℕ) → List ℕ → (n : ℕ) → List ℕ → (ℕ → List Frame) → (fed_words : ℕ → List ℤ) → (words : List ℤ) → Tables → Tables
 processed id looked n fed frames fed_words words t = record {
   comps = map (run_at id words n) t.comps;
-  buffers = map (pushed_at fed frames fed_words) (map (drained_at looked n) t.buffers);
+  buffers = map (fed_at fed frames fed_words) (map (drained_at looked n) t.buffers);
   pipes = t.pipes;
   joins = t.joins;
 }
@@ -60,9 +66,13 @@ processed id looked n fed frames fed_words words t = record {
 abbrev pub drained_ring : List ℕ → ℕ → RingView → RingView
 drained_ring looked n r = if is_among looked r.buffer then record { buffer = r.buffer; frames = drop n r.frames } else r
 
--- all rings so, and one with these frames behind its own
-abbrev pub moved_rings : List ℕ → (n fed : ℕ) → List Frame → List RingView → List RingView
-moved_rings looked n fed frames rings = map (with_frames (λ own. own ++ frames) fed) (map (drained_ring looked n) rings)
+-- a ring that is fed with frames behind its own
+abbrev pub fed_ring : List ℕ → (ℕ → List Frame) → RingView → RingView
+fed_ring fed frames r = if is_among fed r.buffer then record { buffer = r.buffer; frames = r.frames ++ frames r.buffer } else r
+
+-- all rings so
+abbrev pub moved_rings : List ℕ → (n : ℕ) → List ℕ → (ℕ → List Frame) → List RingView → List RingView
+moved_rings looked n fed frames rings = map (fed_ring fed frames) (map (drained_ring looked n) rings)
 
 -- the numbers of an equaliser or a volume
 abbrev pub with_numbers : ℕ → List ℤ → History → History

@@ -9,7 +9,7 @@ ghost use Rattle.stream_law.specs.Placed.{placed};
 ghost use Rattle.stream_law.specs.Joins.{joined_edge};
 ghost use Rattle.stream_law.specs.declared.graph.Join.{Join};
 ghost use Rattle.stream_law.specs.Ways.{comp_of, is_of, channels_of};
-ghost use Rattle.stream_law.specs.Made.{frames_made, only_slice};
+ghost use Rattle.stream_law.specs.Made.{frames_made, frames_for, only_slice};
 ghost use Rattle.stream_law.specs.Ramps.{ramped_frames, numbers_from, numbers_place, ramped_on};
 ghost use Rattle.stream_law.specs.Seen.{is_equaliser, is_volume, blob_in, ramp_length};
 ghost use Rattle.stream_law.specs.Equaliser.{passed_frames, numbers_after};
@@ -21,7 +21,7 @@ ghost use Rattle.fw_units.specs.Frames.{begun_at, staged_in};
 ghost use Rattle.fw_components.specs.Frames.{with_frames};
 ghost use Rattle.fw_components.specs.Kept.{IsKept};
 ghost use Rattle.fw_units.specs.Processed.{slices_in};
-ghost use Rattle.fw_components.specs.Processed.{moves_at, channels_moved, ramp_frames_at, made_at, eq_numbers_at, numbers_made_at, processed, moved_rings, with_numbers};
+ghost use Rattle.fw_components.specs.Processed.{moves_at, channels_moved, ramp_frames_at, made_at, output_at, eq_numbers_at, numbers_made_at, processed, moved_rings, with_numbers};
 ghost use Rattle.fw_units.specs.Changes.{completed_at, set_at, joined_at, with_ended};
 
 /// What is placed in a table is placed in the graph and among the rings.
@@ -74,22 +74,24 @@ pub fn endings_are_seen()
 
 /// What a component moves is seen in the rings and among the histories alone.
 pub fn moves_are_seen()
-    ensures graph { (id fed n : ℕ) (looked : List ℕ) (frames : List Frame) (words own : List ℤ) (t : Tables) → graph_of (processed id looked n fed frames words own t) ≡ graph_of t }
-    ensures streams { (id fed n : ℕ) (looked : List ℕ) (frames : List Frame) (words own : List ℤ) (t : Tables) → streams_of (processed id looked n fed frames words own t) ≡ streams_of t }
-    ensures rings { (id fed n : ℕ) (looked : List ℕ) (frames : List Frame) (words own : List ℤ) (t : Tables) → IsKept t → rings_of (processed id looked n fed frames words own t) ≡ moved_rings looked n fed frames (rings_of t) }
-    ensures histories { (id fed n : ℕ) (looked : List ℕ) (frames : List Frame) (words own : List ℤ) (t : Tables) → IsKept t → let u = processed id looked n fed frames words own t in
+    ensures graph { (id n : ℕ) (looked fed : List ℕ) (frames : ℕ → List Frame) (words : ℕ → List ℤ) (own : List ℤ) (t : Tables) → graph_of (processed id looked n fed frames words own t) ≡ graph_of t }
+    ensures streams { (id n : ℕ) (looked fed : List ℕ) (frames : ℕ → List Frame) (words : ℕ → List ℤ) (own : List ℤ) (t : Tables) → streams_of (processed id looked n fed frames words own t) ≡ streams_of t }
+    ensures rings { (id n : ℕ) (looked fed : List ℕ) (frames : ℕ → List Frame) (words : ℕ → List ℤ) (own : List ℤ) (t : Tables) → IsKept t → rings_of (processed id looked n fed frames words own t) ≡ moved_rings looked n fed frames (rings_of t) }
+    ensures histories { (id n : ℕ) (looked fed : List ℕ) (frames : ℕ → List Frame) (words : ℕ → List ℤ) (own : List ℤ) (t : Tables) → IsKept t → let u = processed id looked n fed frames words own t in
         histories_of u ≡ map (with_numbers id (eq_numbers_at u id)) (histories_of t) }
-    ensures staging { (id fed n : ℕ) (looked : List ℕ) (frames : List Frame) (words own : List ℤ) (t : Tables) → IsKept t → let u = processed id looked n fed frames words own t in
+    ensures staging { (id n : ℕ) (looked fed : List ℕ) (frames : ℕ → List Frame) (words : ℕ → List ℤ) (own : List ℤ) (t : Tables) → IsKept t → let u = processed id looked n fed frames words own t in
         staged_in u.comps id ≡ staged_in t.comps id → staging_of u ≡ staging_of t }
 {}
 
-/// The frames that a component makes are those of a tick, and so are the numbers of an equaliser or a volume after that, where the
-/// streams on whose way it is have its channels and its ramp goes over as many frames as in the view.
+/// The frames that a component makes are those of a tick, and so is what each of its outputs gets of them, and the numbers of an
+/// equaliser or a volume after that, where the streams on whose way it is have its channels and its ramp goes over as many frames as in
+/// the view.
 pub fn moves_are_ticks()
     ensures frames { (id n : ℕ) (looked : List ℕ) (read : List Frame) (t : Tables) → moves_at t id (length looked) ≡ true → channels_of (view_by t) id ≡ channels_moved t id →
         (is_of (graph_of t) is_volume id ≡ true → ramp_frames_at t id ≡ ramp_length (view_by t) id) →
         frames_made (view_by t) id n read (slices_in t.buffers looked n) (λ blob channels frames. passed_frames blob channels (eq_numbers_at t id) frames)
         (ramped_frames (numbers_from (eq_numbers_at t id)) (ramp_length (view_by t) id) (numbers_place (eq_numbers_at t id))) ≡ made_at t id looked n }
+    ensures outputs { (id b : ℕ) (frames : List Frame) (t : Tables) → channels_of (view_by t) id ≡ channels_moved t id → frames_for (view_by t) id b frames ≡ output_at t id b frames }
     ensures numbers { (id n : ℕ) (looked : List ℕ) (t : Tables) → option_map_or (λ x. is_equaliser x.kind) (comp_of (graph_of t) id) false ≡ true → channels_of (view_by t) id ≡ channels_moved t id →
         numbers_after (blob_in (view_by t) id) (channels_of (view_by t) id) (eq_numbers_at t id) (only_slice (slices_in t.buffers looked n)) ≡ numbers_made_at t id looked n }
     ensures places { (id n : ℕ) (looked : List ℕ) (t : Tables) → is_of (graph_of t) is_volume id ≡ true → ramp_frames_at t id ≡ ramp_length (view_by t) id →

@@ -1,25 +1,25 @@
-// A volume, a mixer, a mux or an equaliser moves frames.
-ghost use Rattle.std.specs.Prelude.{◌≡◌, ◌+◌, ◌/◌, ◌++◌, true, length, nat_eq, slice_index};
+// A volume, a mixer, a mux, an equaliser or a demux moves frames.
+ghost use Rattle.std.specs.Prelude.{◌≡◌, ◌++◌, true, length, nat_eq};
 ghost use Rattle.std.specs.List.{AllByRecursion, IsDistinct};
 ghost use Rattle.fw_units.specs.Frames.{staged_in};
 ghost use Rattle.fw_components.specs.Frames.{words_at};
 ghost use Rattle.fw_units.specs.Processed.{IsInlet, IsOutlet};
-ghost use Rattle.fw_components.specs.Processed.{moves_at, channels_moved, made_at, eq_numbers_at, numbers_made_at, processed};
+ghost use Rattle.fw_components.specs.Processed.{moves_at, feeds_at, channels_moved, made_at, output_at, eq_numbers_at, numbers_made_at, processed};
 
 use crate::registry::Registry;
 
 impl Registry {
-    /// The volume, mixer, mux or equaliser of this id takes `n` frames out of each buffer `looked`, and puts what it makes of them
-    /// into the one that is `fed`, which has room for them. A volume and an equaliser look at one buffer. All have its channels,
-    /// and each is named once. This takes no memory.
+    /// The volume, mixer, mux, equaliser or demux of this id takes `n` frames out of each buffer `looked`, and puts what it makes of
+    /// them into those that are `fed`, which have room for them: a demux into each what it keeps for it, any other into the one that
+    /// there is. A volume, an equaliser and a demux look at one buffer. All have its channels, and each is named once. This takes no
+    /// memory.
     pub fn process(&mut self, id: u32, looked: &[u32], fed: &[u32], n: u32)
         requires unit { moves_at self.old id (length looked.now) ≡ true }
         requires single { IsDistinct nat_eq (looked.now ++ fed.now) }
         requires looked { AllByRecursion (IsInlet self.old.buffers (channels_moved self.old id) n) looked.now }
         requires fed { AllByRecursion (IsOutlet self.old.buffers (channels_moved self.old id) n) fed.now }
-        requires one { length fed.now ≡ 1 }
-        ensures tables { let buffer = slice_index fed.now 0 in
-            self.new ≡ processed id looked.now n buffer (made_at self.old id looked.now n) (words_at self.new buffer) (words_at self.new id) self.old }
+        requires feeds { feeds_at self.old id (length fed.now) ≡ true }
+        ensures tables { self.new ≡ processed id looked.now n fed.now (λ b. output_at self.old id b (made_at self.old id looked.now n)) (words_at self.new) (words_at self.new id) self.old }
         ensures numbers { eq_numbers_at self.new id ≡ numbers_made_at self.old id looked.now n }
         ensures staged { staged_in self.new.comps id ≡ staged_in self.old.comps id }
     {
@@ -29,7 +29,7 @@ impl Registry {
                 &self.buffer_hints,
                 &mut self.buffers,
                 looked,
-                fed[0],
+                fed,
                 n,
                 &mut self.workspace,
             ),

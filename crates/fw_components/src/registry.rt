@@ -282,8 +282,8 @@ impl Registry {
         self.buffers[at].room()
     }
 
-    /// By command 0 the gains of a volume, each 0 to 16777216 where 65536 is 1, and by command 1 the choice of a mux. -19 where the id
-    /// names nothing, and -22 where it has no values by this command.
+    /// By command 0 the gains of a volume, each 0 to 16777216 where 65536 is 1, by command 1 the choice of a mux, and by command 2 the
+    /// masks of a demux. -19 where the id names nothing, and -22 where it has no values by this command.
     pub fn values(&self, id: u32, command: u32) -> Result<Bounded<u32, 8>, Errno>
         ensures { answer_told result ≡ unit_values_at self.now id command }
     {
@@ -294,8 +294,9 @@ impl Registry {
         }
     }
 
-    /// Sets the gains of a volume by command 0, as many as it has and each at most 16777216, and the choice of a mux by command 1.
-    /// -19 where the id names nothing, and -22 where it does not take these values by this command; then nothing changes.
+    /// Sets the gains of a volume by command 0, as many as it has and each at most 16777216, the choice of a mux by command 1, and the
+    /// masks of a demux by command 2, eight and each at most 255. -19 where the id names nothing, and -22 where it does not take these
+    /// values by this command; then nothing changes.
     pub fn set_values(&mut self, id: u32, command: u32, values: &[u32]) -> Result<(), Errno>
         ensures answer { left_with self.new result ≡ values_set self.old id command values.now }
         ensures kept { OnErr result (self.new ≡ self.old) }

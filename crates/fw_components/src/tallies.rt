@@ -4,14 +4,14 @@ ghost use Rattle.std.specs.List.{list_any, AllByRecursion};
 ghost use Rattle.stream_law.specs.declared.graph.Graph.{Graph};
 ghost use Rattle.stream_law.specs.declared.stream.StreamView.{StreamView};
 ghost use Rattle.stream_law.specs.Ways.{on_way, is_running_phase, is_live_phase, is_capture};
-ghost use Rattle.fw_places.specs.Charts.{IsChartOf};
+ghost use Rattle.fw_places.specs.WayCharts.{AreWaysOf};
 ghost use Rattle.fw_units.specs.declared.component.Component.{Component};
 ghost use Rattle.fw_components.specs.Kept.{AreJoined};
 ghost use Rattle.fw_units.specs.Units.{kind_by, with_stream_by, streams_by};
 ghost use Rattle.fw_components.specs.Tally.{IsTallied, AreTold, AreBare, IsSeenIn, has_phase, params_in as params_of_unit};
 
-use crate::listing::places_of;
-use fw_places::Places;
+use crate::echo_edges::ways_over;
+use fw_places::Ways;
 use fw_units::{Component, Unit};
 use sof_base::Params;
 use stream_law::{Join, Phase};
@@ -45,35 +45,35 @@ impl Tallies {
         if !any_live(comps) {
             return;
         }
-        let places = places_of(comps, buffers, joins);
-        self.count_all(comps, &places);
+        let ways = ways_over(comps, buffers, joins);
+        self.count_all(comps, &ways);
     }
 
     // Counts the stream of each host, from the last to the first, whose parameters so come last.
-    fn count_all(&mut self, comps: &[Component], places: &Places)
+    fn count_all(&mut self, comps: &[Component], ways: &Ways)
         requires few { length comps.now ≤ 128 }
         requires bare { AreBare self.old }
-        ensures { (g : Graph) → IsChartOf g places.now → AllByRecursion (IsSeenIn g) comps.now → AreTold (on_way g) places.now.ids (streams_by comps.now) self.new }
+        ensures { (g : Graph) → AreWaysOf g ways.now → AllByRecursion (IsSeenIn g) comps.now → AreTold (on_way g) ways.now.ids (streams_by comps.now) self.new }
     {
         let mut i = comps.len();
         while i > 0 {
             i -= 1;
             let comp = &comps[i];
-            self.count(comp, places);
+            self.count(comp, ways);
         }
     }
 
     // Counts the stream of a host at all that is on its way, ahead of those that are counted.
-    fn count(&mut self, comp: &Component, places: &Places)
+    fn count(&mut self, comp: &Component, ways: &Ways)
         requires few { (k : ℕ) → (slice_index_or self.old.running k 0 ≤ 128) × (slice_index_or self.old.live k 0 ≤ 128) }
         ensures most { (k : ℕ) → (slice_index_or self.new.running k 0 ≤ slice_index_or self.old.running k 0 + 1) × (slice_index_or self.new.live k 0 ≤ slice_index_or self.old.live k 0 + 1) }
-        ensures told { (g : Graph) (streams : List StreamView) → IsChartOf g places.now → IsSeenIn g comp.now → AreTold (on_way g) places.now.ids streams self.old → AreTold (on_way g) places.now.ids (with_stream_by comp.now.id comp.now.unit streams) self.new }
+        ensures told { (g : Graph) (streams : List StreamView) → AreWaysOf g ways.now → IsSeenIn g comp.now → AreTold (on_way g) ways.now.ids streams self.old → AreTold (on_way g) ways.now.ids (with_stream_by comp.now.id comp.now.unit streams) self.new }
     {
         if !is_live(&comp.unit) {
             return;
         }
-        let _ids = places.ids();
-        let marks = places.way(comp.id, captures(&comp.unit));
+        let _places = ways.places();
+        let marks = ways.way(comp.id, captures(&comp.unit));
         add(&mut self.live, &marks);
         note(&mut self.params, &marks, params_in(&comp.unit));
         if is_running(&comp.unit) {

@@ -7,10 +7,11 @@ use Rattle.sof_base.specs.declared.errno.Errno.{Errno}
 use Rattle.sof_base.specs.declared.hole.Hole.{Hole}
 use Rattle.stream_law.specs.declared.graph.Pipe.{Pipe}
 use Rattle.stream_law.specs.State.{FwState, PieceView, Staging, view_of}
+use Rattle.stream_law.specs.Joins.{stays}
 use Rattle.stream_law.specs.Placed.{placed, AreAbove, Ascends, HasDistinct}
 use Rattle.stream_law.proofs.Members.{IsIn, any-in, in-any, in-all, find-in, kept-in}
 use Rattle.stream_law.proofs.Placing.{AreAbove-below, AreAbove-filter, Ascends-filter, find-placed}
-use Rattle.mbox_link.specs.Step.{no_device, busy, invalid, is_used, has_comp, has_edge, has_pipe, has_complete_pipe, is_held, is_index_held, touches, comp_free, buffer_free, pipe_free, free_pipe, without_comp, without_buffer, without_pipe}
+use Rattle.mbox_link.specs.Step.{no_device, busy, invalid, is_used, has_comp, has_edge, has_pipe, has_complete_pipe, is_held, is_index_held, touches, without_edge, comp_free, buffer_free, pipe_free, free_pipe, without_comp, without_buffer, without_pipe}
 use Rattle.mbox_link.specs.Step as step
 use Rattle.row_laws.specs.Tiled.{heap_bytes}
 use Rattle.row_laws.specs.Wired.{is_node}
@@ -163,13 +164,14 @@ comp-tests f g id is =
     let parts = or_parts (not (has_comp f.graph id)) (list_any (touches id) f.graph.joins) (passed wrong invalid (Ok (without_comp id f)) g right) in
     (not-false (has_comp f.graph id) parts.0, same-ok (without_comp id f) g (pass wrong invalid (Ok (without_comp id f)) g right), parts.1)
 
-buffer-tests : (f g : FwState) (id : ℕ) → buffer_free f id ≡ Ok g → (has_edge f.graph id ≡ true) × (without_buffer id f ≡ g) × (is_held f.graph f.streams id ≡ false)
+buffer-tests : (f g : FwState) (id : ℕ) → buffer_free f id ≡ Ok g → (has_edge f.graph id ≡ true) × (without_buffer id f ≡ g) × (is_held f.graph f.streams id ≡ false) × (stays (view_of f) (without_edge id f.graph) ≡ true)
 buffer-tests f g id is =
-    let wrong : Bool = not (has_edge f.graph id) || is_held f.graph f.streams id in
+    let wrong : Bool = not (has_edge f.graph id) || is_held f.graph f.streams id || not (stays (view_of f) (without_edge id f.graph)) in
     let still = pass (not (is_used f.graph id)) no_device (cond (has_complete_pipe f.graph id) (Err busy) (cond wrong (Err invalid) (Ok (without_buffer id f)))) g is in
     let right = pass (has_complete_pipe f.graph id) busy (cond wrong (Err invalid) (Ok (without_buffer id f))) g still in
-    let parts = or_parts (not (has_edge f.graph id)) (is_held f.graph f.streams id) (passed wrong invalid (Ok (without_buffer id f)) g right) in
-    (not-false (has_edge f.graph id) parts.0, same-ok (without_buffer id f) g (pass wrong invalid (Ok (without_buffer id f)) g right), parts.1)
+    let all = or_parts (not (has_edge f.graph id) || is_held f.graph f.streams id) (not (stays (view_of f) (without_edge id f.graph))) (passed wrong invalid (Ok (without_buffer id f)) g right) in
+    let parts = or_parts (not (has_edge f.graph id)) (is_held f.graph f.streams id) all.0 in
+    (not-false (has_edge f.graph id) parts.0, same-ok (without_buffer id f) g (pass wrong invalid (Ok (without_buffer id f)) g right), parts.1, not-false (stays (view_of f) (without_edge id f.graph)) all.1)
 
 pipe-tests : (f g : FwState) (id : ℕ) → pipe_free f id ≡ Ok g → (has_pipe f.graph id ≡ true) × (without_pipe id f ≡ g)
 pipe-tests f g id is = by (find (λ p. p.id == id) f.graph.pipes) refl (pass (not (is_used f.graph id)) no_device (free_pipe f id (find (λ p. p.id == id) f.graph.pipes)) g is)
@@ -296,7 +298,7 @@ module _ (t u : Tables) (r s : RegionState) (id : ℕ) (held : IsPieceHeld t r) 
       left-shapes (comp_free-same id (state_in t r 0) (state_in u s 0) (held.kept 0) tests.2 tests.0 tests.1)
   freed-shapes items.Buffer row =
       let tests = buffer-tests (state_in t r 0) (state_in u s 0) id row in
-      left-shapes (buffer_free-same id (state_in t r 0) (state_in u s 0) (held.kept 0) tests.0 tests.2 tests.1)
+      left-shapes (buffer_free-same id (state_in t r 0) (state_in u s 0) (held.kept 0) tests.0 tests.2 tests.3 tests.1)
   freed-shapes items.Pipeline row =
       let tests = pipe-tests (state_in t r 0) (state_in u s 0) id row in
       left-shapes (pipes-same (state_in t r 0) (state_in u s 0) _ (held.kept 0) (ap view_of (sym tests.1)))

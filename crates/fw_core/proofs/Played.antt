@@ -17,7 +17,7 @@ use Rattle.row_laws.specs.Kept.{IsKeptState}
 use Rattle.fw_heap.specs.Regions.{RegionState}
 use Rattle.fw_units.specs.declared.component.Component.{Component}
 use Rattle.fw_units.specs.declared.component.Unit as units
-use Rattle.fw_units.specs.declared.component.Unit.TheVariants.{Host, Dai, Volume, Mixer, Mux, Eq, Buffer, Pipeline}
+use Rattle.fw_units.specs.declared.component.Unit.TheVariants.{Host, Dai, Volume, Mixer, Mux, Eq, Demux, Buffer, Pipeline}
 use Rattle.fw_units.specs.Units.{is_buffer, ramp_by}
 use Rattle.fw_components.specs.Tables.{Tables, view_by, graph_of}
 use Rattle.fw_components.specs.Processed.{ramp_frames_by}
@@ -107,6 +107,7 @@ begun-ramp channels rate words (Host capture phase params piece) = no-ramp rate
 begun-ramp channels rate words (Dai capture format piece) = no-ramp rate
 begun-ramp channels rate words (Mixer piece) = no-ramp rate
 begun-ramp channels rate words (Mux choice piece) = no-ramp rate
+begun-ramp channels rate words (Demux masks piece) = no-ramp rate
 begun-ramp channels rate words (Pipeline sched period complete piece) = no-ramp rate
 
 ended-frames : (u : units.Unit) → channels_by (ended_unit u) ≡ channels_by u

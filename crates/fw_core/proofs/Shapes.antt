@@ -18,7 +18,7 @@ use Rattle.stream_law.specs.declared.stream.Phase.TheVariants.{Idle, Prepared, R
 use Rattle.stream_law.specs.State.{FwState, View, view_of}
 use Rattle.stream_law.specs.Ways.{components, buffers, live, rate_of, channels_of, is_live_phase, on_way, agree, is_running_phase}
 use Rattle.stream_law.specs.Order.{is_among}
-use Rattle.stream_law.specs.Joins.{would_cycle, would_reach, would_grow, with_join}
+use Rattle.stream_law.specs.Joins.{would_cycle, stays, would_stay, crosses, with_join}
 use Rattle.stream_law.specs.Seen.{seen}
 use Rattle.stream_law.proofs.Members.{IsIn, in-all, in-each}
 use Rattle.mbox_link.specs.Step as rows
@@ -107,7 +107,7 @@ unlit f id kept gone = none f.streams (hosts-apart f.graph id (or_parts (rows.ha
 
     none : (ss : List StreamView) → AllByRecursion (λ s. (s.host == id) ≡ false) ss → list_any (λ s. is_live_phase s.phase && on_way f.graph s.host id) ss ≡ false
     none [] far = refl
-    none (s ∷ ss) far = ap (λ (p : Bool × Bool). p.0 || p.1) (λ i. (off (is_live_phase s.phase) (on_way f.graph s.host id) (off-way f.graph s.host id far.0 (apart f.graph id gone f.graph.joins kept.wired.ends)) i, none ss far.1 i))
+    none (s ∷ ss) far = ap (λ (p : Bool × Bool). p.0 || p.1) (λ i. (off (is_live_phase s.phase) (on_way f.graph s.host id) (off-way f.graph s.host id far.0 (or_parts (rows.has_comp f.graph id) (rows.has_edge f.graph id) gone).1 (apart f.graph id gone f.graph.joins kept.wired.ends)) i, none ss far.1 i))
 
 -- ---- rows of the graph
 
@@ -131,8 +131,8 @@ pipes-same f g pipes kept is x = subst (λ (v : View). IsSame (view_of f) v x) (
 pub comp_free-same : (id : ℕ) (f g : FwState) → IsKeptState f → list_any (rows.touches id) f.graph.joins ≡ false → rows.has_comp f.graph id ≡ true → rows.without_comp id f ≡ g → (x : ℕ) → IsSame (view_of f) (view_of g) x
 comp_free-same id f g kept free there is x = subst (λ (g : FwState). IsSame (view_of f) (view_of g) x) is record { lives = comp_free-live f kept id there free x; rates = comp_free-rate f kept id there free x; channels = comp_free-channels f kept id there free x }
 
-pub buffer_free-same : (id : ℕ) (f g : FwState) → IsKeptState f → rows.has_edge f.graph id ≡ true → rows.is_held f.graph f.streams id ≡ false → rows.without_buffer id f ≡ g → (x : ℕ) → IsSame (view_of f) (view_of g) x
-buffer_free-same id f g kept there free is x = subst (λ (g : FwState). IsSame (view_of f) (view_of g) x) is record { lives = buffer_free-live f kept id there free x; rates = buffer_free-rate f kept id there free x; channels = buffer_free-channels f kept id there free x }
+pub buffer_free-same : (id : ℕ) (f g : FwState) → IsKeptState f → rows.has_edge f.graph id ≡ true → rows.is_held f.graph f.streams id ≡ false → stays (view_of f) (rows.without_edge id f.graph) ≡ true → rows.without_buffer id f ≡ g → (x : ℕ) → IsSame (view_of f) (view_of g) x
+buffer_free-same id f g kept there free stay is x = subst (λ (g : FwState). IsSame (view_of f) (view_of g) x) is record { lives = buffer_free-live f kept id there free stay x; rates = buffer_free-rate f kept id there free stay x; channels = buffer_free-channels f kept id there free stay x }
 
 pub set_value-same : (id : ℕ) (setting : Setting) (f : FwState) → IsKeptState f → (x : ℕ) → IsSame (view_of f) (rows.with_setting_at f id setting) x
 set_value-same id setting f kept x =
@@ -156,11 +156,11 @@ connect-same source sink f g kept is x there =
     let b = pass (rows.is_joined f.graph source sink) rows.busy (cond (rows.is_refused_join f source sink) (Err rows.invalid) (Ok new)) g a in
     let right = passed (rows.is_refused_join f source sink) rows.invalid (Ok new) g b in
     let own = same-ok new g (pass (rows.is_refused_join f source sink) rows.invalid (Ok new) g b) in
-    let grow = or_parts ((not (rows.takes_join f.graph source sink) || would_cycle f.graph source sink) || would_reach f.graph source sink) (would_grow f.graph f.streams source sink) right in
-    let reach = or_parts (not (rows.takes_join f.graph source sink) || would_cycle f.graph source sink) (would_reach f.graph source sink) grow.0 in
-    let cycle = or_parts (not (rows.takes_join f.graph source sink)) (would_cycle f.graph source sink) reach.0 in
+    let both = or_parts (not (rows.takes_join f.graph source sink) || would_cycle f.graph source sink) (not (would_stay (view_of f) source sink)) right in
+    let stay = not-false (would_stay (view_of f) source sink) both.1 in
+    let cycle = or_parts (not (rows.takes_join f.graph source sink)) (would_cycle f.graph source sink) both.0 in
     let takes = not-false (rows.takes_join f.graph source sink) cycle.0 in
-    subst (λ (g : FwState). IsSame (view_of f) (view_of g) x) own record { lives = live-joined f.graph j kept.wired free takes f.streams kept.played grow.1 x there; rates = rate-joined f.graph j kept.wired free takes f.streams kept.played grow.1 x there; channels = channels-joined f.graph j kept.wired free takes f.streams kept.played grow.1 x there }
+    subst (λ (g : FwState). IsSame (view_of f) (view_of g) x) own record { lives = live-joined f.graph j kept.wired free takes f.streams kept.played stay x there; rates = rate-joined f.graph j kept.wired free takes f.streams kept.played stay x there; channels = channels-joined f.graph j kept.wired free takes f.streams kept.played stay x there }
 
 -- ---- rows of streams
 
@@ -200,11 +200,12 @@ params-change host direction p f g kept is =
     let new : FwState = seen (rows.with_params f host p) None f in
     let moving : Bool = rows.is_stream_phase is_live_phase (rows.phase_at f host) in
     let kind : Bool = not (rows.has_kind (λ kind. rows.goes kind direction) (rows.kind_at f.graph host)) in
-    let wrong : Bool = (((kind || moving) || not (rows.is_rate p.rate)) || not (rows.is_way_ready f.graph host)) || not (agree (rows.with_params f host p)) in
+    let wrong : Bool = ((((kind || moving) || not (rows.is_rate p.rate)) || not (rows.is_way_ready f.graph host)) || crosses f.graph) || not (agree (rows.with_params f host p)) in
     let a = pass (not (rows.is_used f.graph host)) rows.no_device (cond wrong (Err rows.invalid) (Ok new)) g is in
     let right = passed wrong rows.invalid (Ok new) g a in
     let own = same-ok new g (pass wrong rows.invalid (Ok new) g a) in
-    let c = or_parts (((kind || moving) || not (rows.is_rate p.rate)) || not (rows.is_way_ready f.graph host)) (not (agree (rows.with_params f host p))) right in
+    let b = or_parts ((((kind || moving) || not (rows.is_rate p.rate)) || not (rows.is_way_ready f.graph host)) || crosses f.graph) (not (agree (rows.with_params f host p))) right in
+    let c = or_parts (((kind || moving) || not (rows.is_rate p.rate)) || not (rows.is_way_ready f.graph host)) (crosses f.graph) b.0 in
     let d = or_parts ((kind || moving) || not (rows.is_rate p.rate)) (not (rows.is_way_ready f.graph host)) c.0 in
     let e = or_parts (kind || moving) (not (rows.is_rate p.rate)) d.0 in
     record { view = ap view_of (sym own); keeps = keeps-params host p f.streams kept.played.hosts (or_parts kind moving e.0).1 }

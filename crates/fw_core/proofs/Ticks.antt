@@ -2,14 +2,17 @@
 use Rattle.std.proofs.Common.{sym, ap, ◌∙◌, subst, ℕ}
 use Rattle.sof_base.specs.Ports.{Io}
 use Rattle.stream_law.specs.State.{FwState}
-use Rattle.stream_law.specs.Move.{Move, next_clock}
+use Rattle.stream_law.specs.Move.{next_clock}
+use Rattle.stream_law.specs.TickMoves.{Move}
 use Rattle.row_laws.specs.Tiled.{heap_bytes}
 use Rattle.row_laws.specs.Kept.{IsKeptState}
-use Rattle.row_laws.proofs.TickKept.{tick-kept}
+use Rattle.row_laws.proofs.RingViews.{seen-each}
+use Rattle.row_laws.proofs.TickKept.{empty-first, tick-kept}
 use Rattle.fw_heap.specs.Regions.{RegionState}
-use Rattle.fw_components.specs.Tables.{Tables}
+use Rattle.fw_components.specs.Tables.{Tables, view_by, rings_of}
 use Rattle.fw_components.specs.States.{AreOf}
 use Rattle.fw_schedule.specs.Ticks.{CanTick}
+use Rattle.fw_schedule.proofs.Still.{frames-listed}
 use Rattle.fw_core.specs.Held.{state_in, IsPieceHeld}
 use Rattle.fw_core.proofs.Laid.{kept-clock}
 
@@ -19,6 +22,7 @@ can-tick t r held = record {
   linked = (held.kept 0).linked;
   played = (held.kept 0).played;
   shapes = held.shapes;
+  empty = λ b dead. sym (frames-listed t.buffers b) ∙ empty-first (view_by t) (rings_of t) (seen-each (view_by t) (rings_of t) (held.kept 0).seen) b dead;
 }
 
 -- what is so between messages is so after a tick

@@ -10,7 +10,7 @@ use Rattle.sof_base.specs.Ramps.{ramp_frames}
 use Rattle.stream_law.specs.declared.graph.Comp.{Comp}
 use Rattle.stream_law.specs.declared.graph.Kind.{Kind}
 use Rattle.stream_law.specs.declared.graph.Setting.{Setting}
-use Rattle.stream_law.specs.declared.graph.Setting.TheVariants.{Gains, Choice}
+use Rattle.stream_law.specs.declared.graph.Setting.TheVariants.{Gains, Choice, Masks}
 use Rattle.stream_law.specs.declared.stream.StreamView.{StreamView}
 use Rattle.stream_law.specs.State.{FwState, View, Staging, view_of}
 use Rattle.stream_law.specs.Ways.{comp_of, components, is_of, live, rate_of}
@@ -28,7 +28,7 @@ use Rattle.row_laws.proofs.Settings.{ways-set, bare-set, kind-set}
 use Rattle.fw_heap.specs.Regions.{RegionState}
 use Rattle.fw_units.specs.declared.component.Component.{Component}
 use Rattle.fw_units.specs.declared.component.Unit as units
-use Rattle.fw_units.specs.declared.component.Unit.TheVariants.{Host, Dai, Volume, Mixer, Mux, Eq, Buffer, Pipeline}
+use Rattle.fw_units.specs.declared.component.Unit.TheVariants.{Host, Dai, Volume, Mixer, Mux, Eq, Demux, Buffer, Pipeline}
 use Rattle.fw_units.specs.Units.{comp_by, kind_by, setting_by, ramp_by, streams_by, staging_by, numbers_by, with_stream_by, with_staging_by}
 use Rattle.fw_components.specs.Tables.{Tables, all_of, graph_of, view_by, streams_of, rings_of}
 use Rattle.fw_components.specs.Processed.{ramp_frames_by}
@@ -152,6 +152,10 @@ new-taken (Mux choice piece) command (v ∷ w ∷ values) e = absurd (more (comm
   where
     more : (h : Bool) → (h && (length (v ∷ w ∷ values) == 1)) ≡ true → ⊥
     more h e = let two : length (v ∷ w ∷ values) ≡ 1 = eqb-true (length (v ∷ w ∷ values)) 1 (and_parts h (length (v ∷ w ∷ values) == 1) e).1 in omega arith
+new-taken (Demux list piece) command values e =
+    let parts = and_parts (command == 2) (length values == 8 && list_all (λ v. nat_le v 255) values) e in
+    let more = and_parts (length values == 8) (list_all (λ v. nat_le v 255) values) parts.1 in
+    ap (λ h. cond h (Some (Masks values)) None) e ∙ ap (λ h. Some (Masks (cond h values list))) (sym more.0)
 new-taken (Buffer size ring source sink) command values e = cc
 new-taken u command values e = cc
 
@@ -164,6 +168,7 @@ new-none (Mux choice piece) command (v ∷ []) e = ap (λ h. cond h (Some (Choic
     left true e = e
     left false e = refl
 new-none (Mux choice piece) command (v ∷ w ∷ values) e = refl
+new-none (Demux list piece) command values e = ap (λ h. cond h (Some (Masks values)) None) e
 new-none (Host true phase params piece) command values e = refl
 new-none (Host false phase params piece) command values e = refl
 new-none (Dai true format piece) command values e = refl
@@ -207,6 +212,7 @@ own-mark command values (Dai false format piece) channels volume taken = absurd 
 own-mark command values (Mixer piece) channels volume taken = absurd (false≢true volume)
 own-mark command values (Mux choice piece) channels volume taken = absurd (false≢true volume)
 own-mark command values (Eq eq next remaining) channels volume taken = absurd (false≢true volume)
+own-mark command values (Demux masks piece) channels volume taken = absurd (false≢true volume)
 own-mark command values (Buffer size ring source sink) channels volume taken = absurd (false≢true volume)
 own-mark command values (Pipeline sched period complete piece) channels volume taken = absurd (false≢true volume)
 

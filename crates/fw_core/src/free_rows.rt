@@ -10,7 +10,8 @@ use sof_base::Errno;
 
 /// A component, a buffer or a pipeline is gone. Refused with -19 where the id names nothing, -16 where the pipeline of a component or a
 /// buffer is complete, and -22 where it is not of this kind, where a component is joined, and where a buffer, or something of a
-/// pipeline's index, is on the way of a stream that has parameters.
+/// pipeline's index, is on the way of a stream that has parameters, and where the way of such a stream would be another without the
+/// buffer, or streams would not agree.
 pub(crate) fn free_row(
     registry: &mut Registry,
     region: &mut Region,

@@ -7,7 +7,8 @@ use fw_pipeline::complete;
 use sof_base::Errno;
 
 /// A component and a buffer are joined. Refused with -19 where an id names nothing, -16 where this side of the buffer is joined, and
-/// -22 where they are not a component and a buffer, where the component takes no more, or for what walks would reach.
+/// -22 where they are not a component and a buffer, where the component takes no more, where a cycle would arise, and where the way of a
+/// stream that has parameters would be another, or streams would not agree.
 pub(crate) fn connect(registry: &mut Registry, source: u32, sink: u32) -> Result<(), Errno>
     ensures { IsRowOfTables (λ f. connect_row f source sink) registry.old registry.new result }
 {

@@ -1,6 +1,7 @@
 // What each message does, and what is answered.
 ghost use Rattle.std.specs.Prelude.{◌≡◌, ℕ, IfOk, Err};
-ghost use Rattle.ipc3_model.specs.Messages.{decoded, IsAllowed};
+ghost use Rattle.ipc3_model.specs.Messages.{decoded};
+ghost use Rattle.ipc3_model.specs.Meanings.{IsAllowed};
 ghost use Rattle.mbox_link.specs.Step.{row, row_of, body, body_of};
 ghost use Rattle.row_laws.specs.RowLaws.{HasBytes};
 ghost use Rattle.fw_core.specs.Held.{IsPieceHeld, state_in};

@@ -2,7 +2,7 @@
 ghost use Rattle.std.specs.Prelude.{◌≡◌, ◌==◌, true, false};
 ghost use Rattle.std.specs.List.{list_any};
 ghost use Rattle.ipc3_model.specs.Allowed.{is_buffer_size, is_period_allowed};
-ghost use Rattle.ipc3_model.specs.Messages.{IsKind};
+ghost use Rattle.ipc3_model.specs.Meanings.{IsKind};
 ghost use Rattle.mbox_link.specs.Step.{comp_new as comp_new_row, buffer_new as buffer_new_row, pipe_new as pipe_new_row, kind_of, first_setting, first_ramp, has_index as names_index};
 ghost use Rattle.fw_components.specs.Tables.{graph_of};
 ghost use Rattle.fw_components.specs.Changes.{added, is_there, is_full, IsNew, has_new_index};

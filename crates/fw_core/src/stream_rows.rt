@@ -10,7 +10,8 @@ use fw_pipeline::{Trigger, params, trigger};
 use sof_base::{Errno, Params};
 
 /// A host's stream is Prepared. Refused with -19 where the id names nothing, and -22 where it is no host of this direction, where its
-/// stream is Running or Paused, where the rate is none of a stream, where its way is not ready, and where streams would not agree.
+/// stream is Running or Paused, where the rate is none of a stream, where its way is not ready, where some walk from a playback's host
+/// to a capture's goes along no echo edge, and where streams would not agree.
 pub(crate) fn pcm_params(
     registry: &mut Registry,
     host: u32,

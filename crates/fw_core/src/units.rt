@@ -2,7 +2,7 @@
 ghost use Rattle.std.specs.Prelude.{ℕ, ◌≡◌, ◌≤◌, ◌<◌, replicate, false};
 ghost use Rattle.sof_base.specs.Holes.{rounded};
 ghost use Rattle.mbox_link.specs.Step.{comp_bytes, sample_format, kind_of as named_kind, first_setting as named_setting, first_ramp as named_ramp};
-ghost use Rattle.ipc3_model.specs.Messages.{IsKind};
+ghost use Rattle.ipc3_model.specs.Meanings.{IsKind};
 ghost use Rattle.fw_units.specs.Units.{is_buffer, is_pipeline, kind_by, setting_by, ramp_by};
 ghost use Rattle.fw_components.specs.Changes.{IsNew};
 ghost use Rattle.fw_core.specs.Making.{IsIn};
@@ -15,7 +15,7 @@ use sof_base::{Bounded, Format, ramp_of};
 use stream_law::Phase;
 
 /// A new component by the words of its message: a host is Idle, each gain of a volume is 1 with the ramp of its words, a mux chooses its
-/// first input, and no blob is in force.
+/// first input, no blob is in force, and a demux keeps all channels for each output.
 pub(crate) fn unit_of(words: CompWords, frame_fmt: u32, piece: Piece) -> Unit
     requires words { IsKind words frame_fmt }
     requires size { piece.size ≡ rounded (comp_bytes (named_kind words frame_fmt)) }
@@ -58,6 +58,10 @@ pub(crate) fn unit_of(words: CompWords, frame_fmt: u32, piece: Piece) -> Unit
             next: 0,
             remaining: 0,
         },
+        CompWords::Demux => Unit::Demux {
+            masks: first_masks(),
+            piece,
+        },
     }
 }
 
@@ -70,6 +74,17 @@ fn first_gains(channels: u32) -> Bounded<u32, 8>
     match Bounded::new(&gains[..channels as usize]) {
         Some(gains) => gains,
         // Never so: there are at most 8.
+        None => Bounded::empty(),
+    }
+}
+
+// A mask of all 8 channels for each of 8 outputs.
+fn first_masks() -> Bounded<u32, 8>
+    ensures { result ≡ replicate 8 255 }
+{
+    match Bounded::new(&[255; 8]) {
+        Some(masks) => masks,
+        // Never so: there are 8.
         None => Bounded::empty(),
     }
 }
@@ -92,7 +107,7 @@ pub(crate) fn bytes_of(words: CompWords) -> u32
 {
     match words {
         CompWords::Host { .. } | CompWords::Dai { .. } | CompWords::Volume { .. } => 64,
-        CompWords::Mixer | CompWords::Mux => 32,
+        CompWords::Mixer | CompWords::Mux | CompWords::Demux => 32,
         CompWords::Eq => 4160,
     }
 }

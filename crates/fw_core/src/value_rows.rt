@@ -8,8 +8,8 @@ use fw_components::Registry;
 use ipc3_codec::Body;
 use sof_base::{Bounded, Errno};
 
-/// Sets the gains of a volume by command 0, and the choice of a mux by command 1. Refused with -19 where the id names nothing, and -22
-/// where it takes no such values.
+/// Sets the gains of a volume by command 0, the choice of a mux by command 1, and the masks of a demux by command 2. Refused with -19
+/// where the id names nothing, and -22 where it takes no such values.
 pub(crate) fn set_value(
     registry: &mut Registry,
     id: u32,
@@ -21,8 +21,8 @@ pub(crate) fn set_value(
     registry.set_values(id, command, values.items())
 }
 
-/// The gains of a volume by command 0, and the choice of a mux by command 1. Nothing changes. Refused with -19 where the id names
-/// nothing, and -22 where it has no such values.
+/// The gains of a volume by command 0, the choice of a mux by command 1, and the masks of a demux by command 2. Nothing changes. Refused
+/// with -19 where the id names nothing, and -22 where it has no such values.
 pub(crate) fn get_value(registry: &Registry, id: u32, command: u32) -> Result<Body, Errno>
     ensures row { IsRowOfTables (λ f. get_value_row f id command) registry.now registry.now result }
     ensures body { IfOk result (λ said. said ≡ values_body (control_values_at (graph_of registry.now) id command)) }

@@ -9,9 +9,10 @@ use Rattle.stream_law.specs.declared.graph.Edge.{Edge}
 use Rattle.stream_law.specs.declared.graph.Pipe.{Pipe}
 use Rattle.stream_law.specs.declared.graph.Join.{Join}
 use Rattle.stream_law.specs.declared.stream.StreamView.{StreamView}
-use Rattle.stream_law.specs.State.{FwState}
+use Rattle.stream_law.specs.State.{FwState, view_of}
+use Rattle.stream_law.specs.Joins.{stays}
 use Rattle.stream_law.proofs.Members.{in-all, any-in, in-any, find-in}
-use Rattle.mbox_link.specs.Step.{no_device, busy, invalid, is_used, has_comp, has_edge, has_complete_pipe, touches, without_comp, comp_free, is_held, without_buffer, buffer_free, is_index_held, without_pipe, free_pipe, pipe_free, index_by, index_of}
+use Rattle.mbox_link.specs.Step.{no_device, busy, invalid, is_used, has_comp, has_edge, has_complete_pipe, touches, without_edge, without_comp, comp_free, is_held, without_buffer, buffer_free, is_index_held, without_pipe, free_pipe, pipe_free, index_by, index_of}
 use Rattle.fw_heap.specs.declared.run.Home.{Home}
 use Rattle.fw_units.specs.declared.component.Component.{Component}
 use Rattle.fw_units.specs.declared.component.Unit as units
@@ -29,8 +30,10 @@ use Rattle.fw_walks.proofs.Naming.{used-named, find-map}
 pub comp_free-row : (f : FwState) (id : ℕ) → is_used f.graph id ≡ true → has_complete_pipe f.graph id ≡ false → has_comp f.graph id ≡ true → list_any (touches id) f.graph.joins ≡ false → comp_free f id ≡ Ok (without_comp id f)
 comp_free-row f id used still there free = ap (λ (p : Bool × Bool × Bool × Bool). let r : Result FwState ℤ = cond (not p.0) (Err no_device) (cond p.1 (Err busy) (cond (not p.2 || p.3) (Err invalid) (Ok (without_comp id f)))) in r) (λ i. (used i, still i, there i, free i))
 
-pub buffer_free-row : (f : FwState) (id : ℕ) → is_used f.graph id ≡ true → has_complete_pipe f.graph id ≡ false → has_edge f.graph id ≡ true → is_held f.graph f.streams id ≡ false → buffer_free f id ≡ Ok (without_buffer id f)
-buffer_free-row f id used still there free = ap (λ (p : Bool × Bool × Bool × Bool). let r : Result FwState ℤ = cond (not p.0) (Err no_device) (cond p.1 (Err busy) (cond (not p.2 || p.3) (Err invalid) (Ok (without_buffer id f)))) in r) (λ i. (used i, still i, there i, free i))
+pub buffer_free-row : (f : FwState) (id : ℕ) → is_used f.graph id ≡ true → has_complete_pipe f.graph id ≡ false → has_edge f.graph id ≡ true → is_held f.graph f.streams id ≡ false → stays (view_of f) (without_edge id f.graph) ≡ true → buffer_free f id ≡ Ok (without_buffer id f)
+buffer_free-row f id used still there free stay =
+    ap (λ (p : Bool × Bool × Bool × Bool). let r : Result FwState ℤ = cond (not p.0) (Err no_device) (cond p.1 (Err busy) (cond ((not p.2 || p.3) || not (stays (view_of f) (without_edge id f.graph))) (Err invalid) (Ok (without_buffer id f)))) in r) (λ i. (used i, still i, there i, free i))
+    ∙ ap (λ h. let r : Result FwState ℤ = cond (not h) (Err invalid) (Ok (without_buffer id f)) in r) stay
 
 pub pipe_free-row : (f : FwState) (id index : ℕ) → is_used f.graph id ≡ true → option_map (λ (p : Pipe). p.index) (find (λ p. p.id == id) f.graph.pipes) ≡ Some index → is_index_held f.graph f.streams index ≡ false → pipe_free f id ≡ Ok (without_pipe id f)
 pipe_free-row f id index used is free = by (find (λ p. p.id == id) f.graph.pipes) refl is

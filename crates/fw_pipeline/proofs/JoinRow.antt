@@ -6,9 +6,9 @@ use Rattle.std.proofs.lemmas.Bool.{false≢true, true≢false, or_left, or_right
 use Rattle.stream_law.specs.declared.graph.Join.{Join}
 use Rattle.stream_law.specs.declared.graph.Edge.{Edge}
 use Rattle.stream_law.specs.declared.graph.Graph.{Graph}
-use Rattle.stream_law.specs.State.{FwState, View}
+use Rattle.stream_law.specs.State.{FwState, View, view_of}
 use Rattle.stream_law.specs.Ways.{source_of, sink_of}
-use Rattle.stream_law.specs.Joins.{joined_edge, with_join, would_cycle, would_reach, would_grow}
+use Rattle.stream_law.specs.Joins.{joined_edge, with_join, would_cycle, would_stay}
 use Rattle.mbox_link.specs.Step.{no_device, busy, invalid, is_used, has_comp, has_edge, is_joined, takes_join, leads_in, leads_out, has_free_in, has_free_out, kind_at, connect}
 use Rattle.fw_units.specs.declared.component.Component.{Component}
 use Rattle.fw_units.specs.declared.component.Unit as units
@@ -22,9 +22,9 @@ use Rattle.fw_components.specs.Kept.{IsKept, IsBuffering}
 use Rattle.fw_walks.proofs.Naming.{comp-named, edge-named, found-then}
 
 -- a row whose tests pass
-pub connect-row : (f : FwState) (j : Join) → is_used f.graph j.source ≡ true → is_used f.graph j.sink ≡ true → is_joined f.graph j.source j.sink ≡ false → takes_join f.graph j.source j.sink ≡ true → ((would_cycle f.graph j.source j.sink || would_reach f.graph j.source j.sink) || would_grow f.graph f.streams j.source j.sink) ≡ false → connect f j.source j.sink ≡ Ok (record f { graph = with_join f.graph j })
+pub connect-row : (f : FwState) (j : Join) → is_used f.graph j.source ≡ true → is_used f.graph j.sink ≡ true → is_joined f.graph j.source j.sink ≡ false → takes_join f.graph j.source j.sink ≡ true → (would_cycle f.graph j.source j.sink || not (would_stay (view_of f) j.source j.sink)) ≡ false → connect f j.source j.sink ≡ Ok (record f { graph = with_join f.graph j })
 connect-row f j first second free takes passes =
-    ap (λ (p : Bool × Bool × Bool × Bool). let r : Result FwState ℤ = cond (not (p.0 && p.1)) (Err no_device) (cond p.2 (Err busy) (cond (((not p.3 || would_cycle f.graph j.source j.sink) || would_reach f.graph j.source j.sink) || would_grow f.graph f.streams j.source j.sink) (Err invalid) (Ok (record f { graph = with_join f.graph j })))) in r) (λ i. (first i, second i, free i, takes i))
+    ap (λ (p : Bool × Bool × Bool × Bool). let r : Result FwState ℤ = cond (not (p.0 && p.1)) (Err no_device) (cond p.2 (Err busy) (cond ((not p.3 || would_cycle f.graph j.source j.sink) || not (would_stay (view_of f) j.source j.sink)) (Err invalid) (Ok (record f { graph = with_join f.graph j })))) in r) (λ i. (first i, second i, free i, takes i))
     ∙ ap (λ h. let r : Result FwState ℤ = cond h (Err invalid) (Ok (record f { graph = with_join f.graph j })) in r) passes
 
 -- ---- the side is free

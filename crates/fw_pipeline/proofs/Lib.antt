@@ -4,7 +4,10 @@ pub mod OneJoin
 pub mod JoinRow
 pub mod FreeRows
 pub mod ReadyWays
-pub mod Agreeing
+pub mod AllWhere
+pub mod AgreeLaws
+pub mod StayLaws
+pub mod CrossLaws
 pub mod ParamsRow
 pub mod TriggerRows
 pub mod Begins

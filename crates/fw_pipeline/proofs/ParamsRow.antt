@@ -11,6 +11,7 @@ use Rattle.stream_law.specs.Placed.{Ascends, AreAbove}
 use Rattle.stream_law.specs.State.{FwState, View, view_of}
 use Rattle.stream_law.specs.Seen.{seen}
 use Rattle.stream_law.specs.Ways.{is_live_phase, agree}
+use Rattle.stream_law.specs.Joins.{crosses}
 use Rattle.stream_law.proofs.Members.{find-in, in-any}
 use Rattle.mbox_link.specs.Step.{no_device, invalid, is_used, has_kind, goes, kind_at, is_stream_phase, phase_at, is_rate, is_way_ready, with_params, set_stream, pcm_params, is_refused_params}
 use Rattle.fw_units.specs.declared.component.Component.{Component}
@@ -72,25 +73,25 @@ host-there cs host direction is = by (find (λ c. c.id == host) cs) refl (sym (a
     by (Some c) at e = let r = find-in (λ c. c.id == host) cs c at in in-any (λ c. c.id == host && is_host_unit c.unit) cs c r.0 (and_from (c.id == host) _ r.1 (goes-host direction c.unit e))
 
 -- the first test passes where none fails
-pub goes-passes : (a b c d e : Bool) → (((((not a || b) || c) || d) || e)) ≡ false → a ≡ true
-goes-passes true b c d e is = refl
-goes-passes false b c d e is = absurd (true≢false is)
+pub goes-passes : (a b c d e f : Bool) → ((((((not a || b) || c) || d) || e) || f)) ≡ false → a ≡ true
+goes-passes true b c d e f is = refl
+goes-passes false b c d e f is = absurd (true≢false is)
 
 -- and so does that of the rate
 pub rate-passes : (v : View) (host direction : ℕ) (p : Params) (moving : Bool) → is_refused_params v host direction p moving ≡ false → is_rate p.rate ≡ true
-rate-passes v host direction p moving is = by (has_kind (λ kind. goes kind direction) (kind_at v.graph host)) moving (is_rate p.rate) (not (is_way_ready v.graph host)) (not (agree (record { graph = v.graph; streams = map (set_stream host Prepared (Some p)) v.streams }))) is
+rate-passes v host direction p moving is = by (has_kind (λ kind. goes kind direction) (kind_at v.graph host)) moving (is_rate p.rate) (not (is_way_ready v.graph host)) (crosses v.graph) (not (agree (record { graph = v.graph; streams = map (set_stream host Prepared (Some p)) v.streams }))) is
   where
-    by : (a b c d e : Bool) → (((((not a || b) || not c) || d) || e)) ≡ false → c ≡ true
-    by true false true d e is = refl
-    by true false false d e is = absurd (true≢false is)
-    by true true c d e is = absurd (true≢false is)
-    by false b c d e is = absurd (true≢false is)
+    by : (a b c d e f : Bool) → ((((((not a || b) || not c) || d) || e) || f)) ≡ false → c ≡ true
+    by true false true d e f is = refl
+    by true false false d e f is = absurd (true≢false is)
+    by true true c d e f is = absurd (true≢false is)
+    by false b c d e f is = absurd (true≢false is)
 
 -- and so does that of the phase
 pub rest-passes : (v : View) (host direction : ℕ) (p : Params) (moving : Bool) → is_refused_params v host direction p moving ≡ false → moving ≡ false
-rest-passes v host direction p moving is = by (has_kind (λ kind. goes kind direction) (kind_at v.graph host)) moving (not (is_rate p.rate)) (not (is_way_ready v.graph host)) (not (agree (record { graph = v.graph; streams = map (set_stream host Prepared (Some p)) v.streams }))) is
+rest-passes v host direction p moving is = by (has_kind (λ kind. goes kind direction) (kind_at v.graph host)) moving (not (is_rate p.rate)) (not (is_way_ready v.graph host)) (crosses v.graph) (not (agree (record { graph = v.graph; streams = map (set_stream host Prepared (Some p)) v.streams }))) is
   where
-    by : (a b c d e : Bool) → (((((not a || b) || c) || d) || e)) ≡ false → b ≡ false
-    by true false c d e is = refl
-    by true true c d e is = absurd (true≢false is)
-    by false b c d e is = absurd (true≢false is)
+    by : (a b c d e f : Bool) → ((((((not a || b) || c) || d) || e) || f)) ≡ false → b ≡ false
+    by true false c d e f is = refl
+    by true true c d e f is = absurd (true≢false is)
+    by false b c d e f is = absurd (true≢false is)

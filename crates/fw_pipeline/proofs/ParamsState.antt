@@ -22,7 +22,7 @@ use Rattle.fw_units.specs.Changes.{set_at}
 use Rattle.fw_components.specs.Kept.{IsKept}
 use Rattle.fw_walks.specs.declared.streams.Sort.TheVariants as sorts
 use Rattle.fw_walks.specs.Streams.{is_sort, any_stream}
-use Rattle.fw_places.proofs.Ways.{any-each}
+use Rattle.fw_places.proofs.WayWalks.{any-each}
 use Rattle.fw_walks.proofs.OnWays.{any-map, any-streams}
 use Rattle.fw_pipeline.specs.Preparing.{is_moving_at}
 use Rattle.fw_components.specs.States.{with_tables}

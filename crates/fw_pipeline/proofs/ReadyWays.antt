@@ -1,12 +1,10 @@
 -- The way of a host's stream by what is marked, and whether all on it is ready.
-use Rattle.std.proofs.Common.{◌≡◌, refl, sym, ap, ◌∙◌, ℕ, List, [], ◌∷◌, Bool, true, false, not, map, ◌==◌, ◌&&◌, ◌||◌, inl, inr, Option, Some, None}
-use Rattle.std.proofs.lemmas.Bool.{or_left, or_right, eq-eqb, true≢false}
-use Rattle.std.specs.List.{list_all, list_any}
-use Rattle.std.specs.Prelude.{is_some}
-use Rattle.sof_base.specs.declared.format.Params.{Params}
+use Rattle.std.proofs.Common.{◌≡◌, refl, sym, ap, ◌∙◌, ℕ, List, [], ◌∷◌, Bool, true, not, map, ◌==◌, ◌&&◌, ◌||◌, inl, inr}
+use Rattle.std.proofs.lemmas.Bool.{or_left, or_right, eq-eqb}
+use Rattle.std.specs.List.{list_all}
 use Rattle.stream_law.specs.declared.graph.Comp.{Comp}
 use Rattle.stream_law.specs.declared.graph.Edge.{Edge}
-use Rattle.stream_law.specs.Ways.{on_way, touch, same_shape}
+use Rattle.stream_law.specs.Ways.{on_way}
 use Rattle.stream_law.proofs.Members.{IsIn, in-any}
 use Rattle.stream_law.specs.Order.{is_among}
 use Rattle.mbox_link.specs.Step.{is_ready_comp, is_ready_edge}
@@ -17,7 +15,6 @@ use Rattle.fw_units.specs.Changes.{has_id}
 use Rattle.fw_components.specs.Tables.{ids_of}
 use Rattle.fw_places.specs.Walks.{is_marked}
 use Rattle.fw_components.proofs.Listed.{listed-is}
-use Rattle.fw_pipeline.specs.Preparing.{shape_by, suits}
 
 pub all-map : {X Y : Type 0} (p : Y → Bool) (f : X → Y) (xs : List X) → list_all p (map f xs) ≡ list_all (λ x. p (f x)) xs
 all-map p f [] = refl
@@ -43,17 +40,3 @@ module _ (t : Tables) (ids : List ℕ) (is : ids ≡ ids_of t) (host : ℕ) (mar
   buffers-marked =
       all-each (λ c. not (is_marked ids marks c.id) || is_ready_edge (graph_of t) (edge_by c)) (λ c. not (on_way (graph_of t) host c.id) || is_ready_edge (graph_of t) (edge_by c)) t.buffers (λ c there. ap (λ h. not h || is_ready_edge (graph_of t) (edge_by c)) (on c.id (buffer-listed c there)))
       ∙ sym (all-map (λ (e : Edge). not (on_way (graph_of t) host e.buffer) || is_ready_edge (graph_of t) e) edge_by t.buffers)
-
--- a component without parameters suits all
-pub none-suits : (t : Tables) (host : ℕ) (p : Params) (c : Component) → is_some (shape_by host p c) ≡ false → (ds : List Component) → true ≡ list_all (λ d. suits t host p c d) ds
-none-suits t host p c none = by (shape_by host p c) refl none
-  where
-    all : shape_by host p c ≡ None → (ds : List Component) → true ≡ list_all (λ d. suits t host p c d) ds
-    all is [] = refl
-    all is (d ∷ ds) =
-        all is ds
-        ∙ sym (ap (λ (o : Option Params). (same_shape o (shape_by host p d) || not (touch (graph_of t) c.id d.id)) && list_all (λ e. suits t host p c e) ds) is)
-
-    by : (o : Option Params) → shape_by host p c ≡ o → is_some o ≡ false → (ds : List Component) → true ≡ list_all (λ d. suits t host p c d) ds
-    by None is e = all is
-    by (Some q) is e = absurd (true≢false e)

@@ -22,7 +22,8 @@ use Rattle.fw_units.specs.Changes.{with_ended, ended_unit}
 use Rattle.fw_places.specs.Walks.{is_marked}
 use Rattle.fw_walks.proofs.Naming.{find-map}
 use Rattle.fw_pipeline.specs.Triggers.{settled_in}
-use Rattle.fw_pipeline.specs.Settling.{is_end_marked, flows_by, ended_unless}
+use Rattle.fw_places.specs.Walks.{is_end_marked}
+use Rattle.fw_pipeline.specs.Settling.{flows_by, ended_unless}
 
 -- a buffer whose ring is empty
 abbrev pub ended_by : Component → Component

@@ -24,7 +24,7 @@ use Rattle.fw_components.specs.Tables.{Tables, graph_of, view_by, streams_of}
 use Rattle.fw_components.specs.Changes.{is_idle_phase}
 use Rattle.fw_components.specs.Kept.{IsKept, IsStreamOf, IsStreaming}
 use Rattle.fw_walks.specs.Streams.{any_stream}
-use Rattle.fw_places.proofs.Ways.{any-each}
+use Rattle.fw_places.proofs.WayWalks.{any-each}
 use Rattle.fw_walks.proofs.OnWays.{any-streams}
 use Rattle.fw_walks.proofs.Naming.{found-shown}
 use Rattle.fw_pipeline.specs.declared.phases.Trigger.{Trigger}

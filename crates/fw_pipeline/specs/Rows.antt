@@ -1,20 +1,14 @@
 -- The rows of messages as they are read through the view of a registry.
-use Rattle.std.specs.Prelude.{ℕ, ℤ, Bool, ◌&&◌, not, if◌then◌else◌, Result, Ok, Err, Option, Some, None, List, find, option_map, ◌==◌}
+use Rattle.std.specs.Prelude.{ℕ, ℤ, Bool, Result, Ok, Err, Option, Some, None, find, option_map, ◌==◌}
 use Rattle.sof_base.specs.declared.errno.Errno.{Errno}
 use Rattle.stream_law.specs.declared.graph.Pipe.{Pipe}
 use Rattle.stream_law.specs.declared.graph.Graph.{Graph}
 use Rattle.stream_law.specs.State.{FwState, View, view_of}
-use Rattle.stream_law.specs.Ways.{is_capture}
-use Rattle.fw_units.specs.declared.component.Component as parts
-use Rattle.fw_units.specs.Units.{kind_by}
 use Rattle.fw_components.specs.Tables.{Tables}
 use Rattle.fw_components.specs.States.{with_tables}
 use Rattle.mbox_link.specs.Step.{comp_free, buffer_free, pipe_free}
 use Rattle.fw_pipeline.specs.declared.freeing.Item.{Item}
 use Rattle.fw_pipeline.specs.declared.freeing.Item.TheVariants as items
-use Rattle.fw_places.specs.Walks.{is_marked}
-use Rattle.fw_walks.specs.Streams.{is_sort, any_stream}
-use Rattle.fw_walks.specs.declared.streams.Sort.TheVariants.{Set}
 
 -- a state with this view
 abbrev pub with_view : View → FwState → FwState
@@ -44,17 +38,6 @@ terms_by p = (p.sched, p.complete)
 -- those of the pipeline of an id
 abbrev pub terms_at : Graph → ℕ → Option (ℕ × Bool)
 terms_at g id = option_map terms_by (find (λ p. p.id == id) g.pipes)
-
--- ---- ways that grow
-
--- the stream of a host has parameters, and its way would go on along a join: a playback's leads to the join's source and not to its
--- sink, and a capture's comes from its sink and not from its source
-abbrev pub is_growing : List ℕ → List Bool → List Bool → List Bool → List Bool → parts.Component → Bool
-is_growing ids to_source to_sink from_source from_sink c =
-    any_stream (is_sort Set) 0 c.unit && (
-    if is_capture (kind_by c.unit) then is_marked ids from_sink c.id && not (is_marked ids from_source c.id)
-    else is_marked ids to_source c.id && not (is_marked ids to_sink c.id)
-    )
 
 -- ---- what is freed
 

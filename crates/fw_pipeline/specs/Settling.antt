@@ -1,11 +1,10 @@
 -- What begins and what ends, by the marks of what is Live.
-use Rattle.std.specs.Prelude.{◌≡◌, ℕ, List, Bool, false, ◌&&◌, not, map, if◌then◌else◌, Option}
-use Rattle.std.specs.Option.{option_map_or}
+use Rattle.std.specs.Prelude.{◌≡◌, ℕ, List, Bool, ◌&&◌, not, map, if◌then◌else◌}
 use Rattle.fw_units.specs.declared.component.Component.{Component}
 use Rattle.fw_units.specs.Units.{source_by, sink_by}
 use Rattle.fw_components.specs.Tables.{Tables}
 use Rattle.fw_units.specs.Changes.{with_ended}
-use Rattle.fw_places.specs.Walks.{is_marked}
+use Rattle.fw_places.specs.Walks.{is_marked, is_end_marked}
 use Rattle.fw_pipeline.specs.Triggers.{IsBegun, BecomeEach}
 
 -- an id is marked after, and was not before
@@ -20,10 +19,7 @@ HaveBegun channels rate test t u =
     × (BecomeEach (λ c d. IsBegun channels rate (test c.id) c d) t.pipes u.pipes
     × (u.joins ≡ t.joins)))
 
--- an end is there and marked; a buffer is, and so are both its ends
-abbrev pub is_end_marked : List ℕ → List Bool → Option ℕ → Bool
-is_end_marked ids marks end = option_map_or (is_marked ids marks) end false
-
+-- a buffer is marked, and so are both its ends
 abbrev pub flows_by : List ℕ → List Bool → Component → Bool
 flows_by ids marks c = is_marked ids marks c.id && is_end_marked ids marks (source_by c.unit) && is_end_marked ids marks (sink_by c.unit)
 

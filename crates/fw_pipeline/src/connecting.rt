@@ -15,8 +15,8 @@ use fw_walks::{
 use sof_base::Errno;
 
 /// Joins a component and a buffer, either way round, last in order. Refused with -19 where an id names nothing, -16 where this side
-/// of the buffer is joined, and -22 where they are not a component and a buffer, where the component takes no more, or for what
-/// walks would reach.
+/// of the buffer is joined, and -22 where they are not a component and a buffer, where the component takes no more, where a cycle would
+/// arise, and where the way of a stream that has parameters would be another, or streams would not agree.
 pub fn connect(registry: &mut Registry, source: u32, sink: u32) -> Result<(), Errno>
     ensures answer { (f : FwState) → view_answer (view_by registry.new) result ≡ view_after (connect_row (with_view (view_by registry.old) f) source sink) }
     ensures done { OnOk result (registry.new ≡ tables_with_join (record { source = source; sink = sink }) registry.old) }

@@ -12,6 +12,7 @@ ghost use Rattle.fw_components.specs.Changes.{tables_without, given_found, found
 ghost use Rattle.fw_components.specs.Kept.{IsKept};
 ghost use Rattle.fw_pipeline.specs.Rows.{view_answer, view_after, with_view, row_of_free, first_there};
 
+use crate::staying::stays_without;
 use fw_components::{Component, Registry, Unit, removals_are_seen};
 use fw_heap::Region;
 use fw_places::Places;
@@ -29,7 +30,8 @@ pub enum Item {
 
 /// A component, a buffer with its joins, or a pipeline is gone, and its piece is given back. Refused with -19 where the id names nothing,
 /// -16 where the pipeline of a component or a buffer is complete, and -22 where it is not of this kind, where a component is joined,
-/// and where a buffer, or something of a pipeline's index, is on the way of a stream that has parameters.
+/// where a buffer, or something of a pipeline's index, is on the way of a stream that has parameters, and where the way of such a stream
+/// would be another without the buffer, or streams would not agree.
 pub fn free_item(
     registry: &mut Registry,
     region: &mut Region,
@@ -88,7 +90,7 @@ fn free_buffer(registry: &mut Registry, region: &mut Region, id: u32) -> Result<
     if has_complete_pipe(registry, id) {
         return Err(Errno::BUSY);
     }
-    if !has_buffer(registry, id) || is_held(registry, id) {
+    if !has_buffer(registry, id) || is_held(registry, id) || !stays_without(registry, id) {
         return Err(Errno::INVALID);
     }
     removals_are_seen();
@@ -217,19 +219,19 @@ fn is_held(registry: &Registry, id: u32) -> bool
     requires { names_edge (graph_of registry.now) id ≡ true }
     ensures { result ≡ is_held_by (graph_of registry.now) (streams_of registry.now) id }
 {
-    let places = registry.places();
-    let held = ways(registry, &places, Sort::Set);
-    places.has(&held, id)
+    let along = registry.ways();
+    let held = ways(registry, &along, Sort::Set);
+    along.places().has(&held, id)
 }
 
 // Whether something of an index is.
 fn is_index_held(registry: &Registry, index: u32) -> bool
     ensures { result ≡ is_index_held_by (graph_of registry.now) (streams_of registry.now) index }
 {
-    let places = registry.places();
-    let held = ways(registry, &places, Sort::Set);
-    has_held_comp(registry, index, &places, &held)
-        || has_held_buffer(registry, index, &places, &held)
+    let along = registry.ways();
+    let held = ways(registry, &along, Sort::Set);
+    let places = along.places();
+    has_held_comp(registry, index, places, &held) || has_held_buffer(registry, index, places, &held)
 }
 
 // Whether a component of an index is marked, as all is that is held.

@@ -1,6 +1,7 @@
 //! Joins, pipelines and streams over the firmware's registry: one function for each row of messages that changes them.
 #![tactic(auto)]
 
+mod agreeing;
 mod completing;
 mod connecting;
 mod freeing;
@@ -8,6 +9,7 @@ mod one_join;
 mod phases;
 mod preparing;
 mod settling;
+mod staying;
 mod triggering;
 
 pub use completing::complete;

@@ -2,34 +2,37 @@
 ghost use Rattle.std.specs.Prelude.{◌≡◌, ◌≤◌, ◌&&◌, ◌||◌, ℕ, OnErr, OnOk, not, map, true, Some, length};
 ghost use Rattle.std.specs.List.{list_any, list_all};
 ghost use Rattle.stream_law.specs.declared.stream.Phase.TheVariants as phases;
-ghost use Rattle.stream_law.specs.Ways.{on_way, touch, agree, is_capture, same_shape as alike};
+ghost use Rattle.stream_law.specs.Joins.{crosses as way_crosses};
+ghost use Rattle.stream_law.specs.Ways.{on_way, agree, is_capture};
 ghost use Rattle.stream_law.specs.State.{FwState};
 ghost use Rattle.stream_law.specs.Seen.{ring_seen};
 ghost use Rattle.stream_law.specs.Order.{is_among};
 ghost use Rattle.mbox_link.specs.Step.{pcm_params, has_kind, goes as has_direction, kind_at as named_kind, is_way_ready as has_ready_way, is_ready_comp as is_ready, is_ready_edge as is_edge_ready, set_stream, is_refused_params};
-ghost use Rattle.fw_units.specs.Units.{comp_by, edge_by};
+ghost use Rattle.fw_units.specs.Units.{comp_by, edge_by, kind_by};
 ghost use Rattle.fw_components.specs.Tables.{view_by, graph_of, streams_of, rings_of};
 ghost use Rattle.fw_units.specs.Changes.{set_at};
 ghost use Rattle.fw_components.specs.Kept.{IsKept};
 ghost use Rattle.fw_components.specs.Tables.{ids_of};
-ghost use Rattle.fw_places.specs.Charts.{IsChartOf};
+ghost use Rattle.fw_places.specs.WayCharts.{AreWaysOf};
 ghost use Rattle.fw_places.specs.Walks.{is_marked};
 ghost use Rattle.fw_pipeline.specs.Rows.{view_answer, view_after, with_view, told_state};
 ghost use Rattle.fw_components.specs.States.{with_tables};
-ghost use Rattle.fw_pipeline.specs.Preparing.{is_moving_at, shape_by, suits};
+ghost use Rattle.fw_pipeline.specs.Preparing.{is_moving_at};
 
+use crate::agreeing::{Given, all_suit};
 use crate::freeing::is_complete;
-use fw_components::{Component, Registry, Unit, settings_are_seen};
-use fw_places::Places;
+use fw_components::{Component, Registry, settings_are_seen};
+use fw_places::{Places, Ways};
 use fw_walks::{
-    Sort, count_ins, count_outs, fits, has_stream, is_used, kind_at, kind_of, sink_in, source_in,
+    Sort, captures, count_ins, count_outs, fits, has_stream, is_used, kind_at, kind_of, mark_hosts,
+    sink_in, source_in,
 };
 use sof_base::{Errno, Params, is_rate};
 use stream_law::{Kind, Phase};
 
 /// A host's stream is Prepared with these parameters. Refused with -19 where the id names nothing, and -22 where it is no host of this
-/// direction, where its stream is Running or Paused, where the rate is none of a stream, where something on its way is not ready, and
-/// where streams would no longer agree.
+/// direction, where its stream is Running or Paused, where the rate is none of a stream, where something on its way is not ready, where
+/// some walk from a playback's host to a capture's goes along no echo edge, and where streams would no longer agree.
 pub fn params(registry: &mut Registry, host: u32, direction: u32, p: Params) -> Result<(), Errno>
     requires { (1 ≤ p.channels) × (p.channels ≤ 8) }
     ensures answer { (f : FwState) → view_answer (view_by registry.new) result ≡ view_after (pcm_params (with_view (view_by registry.old) f) host direction p) }
@@ -53,12 +56,13 @@ fn refuses(registry: &Registry, host: u32, direction: u32, p: Params) -> bool
     ensures refused { result ≡ is_refused_params (view_by registry.now) host direction p (is_moving_at registry.now.comps host) }
     ensures kept { IsKept registry.now }
 {
-    let places = registry.places();
+    let ways = registry.ways();
     !goes_at(registry, host, direction)
         || moves(registry, host)
         || !is_rate(p.rate)
-        || !is_way_ready(registry, &places, host)
-        || !agrees(registry, &places, host, p)
+        || !is_way_ready(registry, &ways, host)
+        || crosses(registry, &ways)
+        || !agrees(registry, &ways, host, p)
 }
 
 // Whether an id is that of a host of this direction.
@@ -98,18 +102,19 @@ fn any_moving(comps: &[Component], host: u32) -> bool
 
 // Whether all that is on the way of a host's stream is ready.
 #[tactic(auto, unfolding(mbox_link::specs::StreamRows::is_way_ready))]
-fn is_way_ready(registry: &Registry, places: &Places, host: u32) -> bool
-    requires { IsChartOf (graph_of registry.now) places.now }
+fn is_way_ready(registry: &Registry, ways: &Ways, host: u32) -> bool
+    requires { AreWaysOf (graph_of registry.now) ways.now }
     ensures { result ≡ has_ready_way (graph_of registry.now) host }
 {
-    let marks = way(registry, places, host);
+    let marks = ways.way(host, captures_at(registry, host));
+    let places = ways.places();
     has_ready_comps(registry, places, host, &marks)
         && has_ready_buffers(registry, places, host, &marks)
 }
 
 // Whether all components on its way, which is marked, are.
 fn has_ready_comps(registry: &Registry, places: &Places, host: u32, marks: &[bool]) -> bool
-    requires chart { IsChartOf (graph_of registry.now) places.now }
+    requires ids { places.now.ids ≡ ids_of registry.now }
     requires size { length marks.now ≡ 257 }
     requires marked { (x : ℕ) → is_among places.now.ids x ≡ true → is_marked places.now.ids marks.now x ≡ on_way (graph_of registry.now) host x }
     ensures { result ≡ list_all (λ c. not (on_way (graph_of registry.now) host c.id) || is_ready (graph_of registry.now) c) (graph_of registry.now).comps }
@@ -119,7 +124,7 @@ fn has_ready_comps(registry: &Registry, places: &Places, host: u32, marks: &[boo
 
 // Whether all buffers on its way, which is marked, are.
 fn has_ready_buffers(registry: &Registry, places: &Places, host: u32, marks: &[bool]) -> bool
-    requires chart { IsChartOf (graph_of registry.now) places.now }
+    requires ids { places.now.ids ≡ ids_of registry.now }
     requires size { length marks.now ≡ 257 }
     requires marked { (x : ℕ) → is_among places.now.ids x ≡ true → is_marked places.now.ids marks.now x ≡ on_way (graph_of registry.now) host x }
     ensures { result ≡ list_all (λ e. not (on_way (graph_of registry.now) host e.buffer) || is_edge_ready (graph_of registry.now) e) (graph_of registry.now).edges }
@@ -174,14 +179,6 @@ fn is_buffer_ready(registry: &Registry, buffer: &Component) -> bool
         && sink_in(&buffer.unit).is_some()
 }
 
-/// What is on the way of a host's stream.
-pub(crate) fn way(registry: &Registry, places: &Places, host: u32) -> [bool; 257]
-    requires { IsChartOf (graph_of registry.now) places.now }
-    ensures { (x : ℕ) → is_among places.now.ids x ≡ true → is_marked places.now.ids result x ≡ on_way (graph_of registry.now) host x }
-{
-    places.way(host, captures_at(registry, host))
-}
-
 // Whether an id is that of a capture's host.
 fn captures_at(registry: &Registry, id: u32) -> bool
     ensures { result ≡ has_kind is_capture (named_kind (graph_of registry.now) id) }
@@ -192,96 +189,32 @@ fn captures_at(registry: &Registry, id: u32) -> bool
     }
 }
 
+// Whether some walk from a playback's host to a capture's goes along no echo edge.
+fn crosses(registry: &Registry, ways: &Ways) -> bool
+    requires { AreWaysOf (graph_of registry.now) ways.now }
+    ensures { result ≡ way_crosses (graph_of registry.now) }
+{
+    let comps = registry.comps();
+    let hosts = mark_hosts(comps, ways.places(), Sort::All, false);
+    let marks = ways.of_hosts(&hosts, false);
+    any_capture(comps, ways.places(), &marks)
+}
+
+// Whether a capture's host is marked.
+fn any_capture(comps: &[Component], places: &Places, marks: &[bool]) -> bool
+    requires { length marks.now ≡ 257 }
+    ensures { result ≡ list_any (λ c. is_capture (kind_by c.unit) && is_marked places.now.ids marks.now c.id) comps.now }
+{
+    comps
+        .iter()
+        .any(|host| captures(&host.unit) && places.has(marks, host.id))
+}
+
 // Whether streams agree once a host's stream has these parameters.
-fn agrees(registry: &Registry, places: &Places, host: u32, p: Params) -> bool
-    requires { IsChartOf (graph_of registry.now) places.now }
+fn agrees(registry: &Registry, ways: &Ways, host: u32, p: Params) -> bool
+    requires { AreWaysOf (graph_of registry.now) ways.now }
     ensures { result ≡ agree (record { graph = graph_of registry.now; streams = map (set_stream host phases.Prepared (Some p)) (streams_of registry.now) }) }
 {
     settings_are_seen();
-    all_suit(registry, registry.comps(), places, host, p)
-}
-
-// Whether each two of these suit each other then.
-fn all_suit(registry: &Registry, comps: &[Component], places: &Places, host: u32, p: Params) -> bool
-    requires { IsChartOf (graph_of registry.now) places.now }
-    ensures { result ≡ list_all (λ c. list_all (λ d. suits registry.now host p c d) comps.now) comps.now }
-{
-    comps
-        .iter()
-        .all(|one| suits_all(registry, comps, places, host, p, one))
-}
-
-// Whether one suits each of these: one without parameters suits all.
-fn suits_all(
-    registry: &Registry,
-    comps: &[Component],
-    places: &Places,
-    host: u32,
-    p: Params,
-    one: &Component,
-) -> bool
-    requires { IsChartOf (graph_of registry.now) places.now }
-    ensures { result ≡ list_all (λ d. suits registry.now host p one.now d) comps.now }
-{
-    if shape(one, host, p).is_none() {
-        return true;
-    }
-    comps
-        .iter()
-        .all(|other| suits_one(registry, places, host, p, one, other))
-}
-
-// Whether two streams have one shape, or do not touch.
-fn suits_one(
-    registry: &Registry,
-    places: &Places,
-    host: u32,
-    p: Params,
-    one: &Component,
-    other: &Component,
-) -> bool
-    requires { IsChartOf (graph_of registry.now) places.now }
-    ensures { result ≡ suits registry.now host p one.now other.now }
-{
-    has_shape(shape(one, host, p), shape(other, host, p))
-        || !touches(registry, places, one.id, other.id)
-}
-
-// The parameters that a component's stream would have.
-fn shape(component: &Component, host: u32, p: Params) -> Option<Params>
-    ensures { result ≡ shape_by host p component.now }
-{
-    match &component.unit {
-        Unit::Host { params, .. } => {
-            if component.id == host {
-                Some(p)
-            } else {
-                *params
-            }
-        }
-        _ => None,
-    }
-}
-
-// One rate and one number of channels, where both are there.
-fn has_shape(one: Option<Params>, other: Option<Params>) -> bool
-    ensures { result ≡ alike one other }
-{
-    match one {
-        Some(p) => match other {
-            Some(q) => p.rate == q.rate && p.channels == q.channels,
-            None => true,
-        },
-        None => true,
-    }
-}
-
-// Whether the streams of two hosts touch.
-fn touches(registry: &Registry, places: &Places, one: u32, other: u32) -> bool
-    requires { IsChartOf (graph_of registry.now) places.now }
-    ensures { result ≡ touch (graph_of registry.now) one other }
-{
-    let first = way(registry, places, one);
-    let second = way(registry, places, other);
-    places.share(&first, &second)
+    all_suit(registry.comps(), ways, Some(Given { host, params: p }))
 }

@@ -11,7 +11,7 @@ ghost use Rattle.fw_components.specs.Kept.{IsKept};
 ghost use Rattle.fw_components.specs.Tables.{ids_of};
 ghost use Rattle.fw_places.specs.Walks.{is_marked};
 ghost use Rattle.fw_pipeline.specs.Triggers.{IsBegun, BecomeEach, settled_in};
-ghost use Rattle.fw_pipeline.specs.Settling.{begins_by, HaveBegun, is_end_marked, flows_by, ended_unless};
+ghost use Rattle.fw_pipeline.specs.Settling.{begins_by, HaveBegun, flows_by, ended_unless};
 
 use fw_components::{Component, Registry};
 use fw_places::Places;
@@ -94,17 +94,6 @@ fn flows(places: &Places, marks: &[bool], buffer: &Component) -> bool
     ensures { result ≡ flows_by places.now.ids marks.now buffer.now }
 {
     places.has(marks, buffer.id)
-        && has_end(places, marks, source_in(&buffer.unit))
-        && has_end(places, marks, sink_in(&buffer.unit))
-}
-
-// Whether an end of a buffer is there and marked.
-fn has_end(places: &Places, marks: &[bool], end: Option<u32>) -> bool
-    requires { length marks.now ≡ 257 }
-    ensures { result ≡ is_end_marked places.now.ids marks.now end }
-{
-    match end {
-        Some(id) => places.has(marks, id),
-        None => false,
-    }
+        && places.has_end(marks, source_in(&buffer.unit))
+        && places.has_end(marks, sink_in(&buffer.unit))
 }

@@ -2,5 +2,7 @@
 pub mod Marking
 pub mod Reaching
 pub mod Charts
+pub mod EchoLaws
 pub mod Leaves
-pub mod Ways
+pub mod WayMarks
+pub mod WayWalks

@@ -1,3 +1,4 @@
 pub mod Walks
 pub mod Charts
 pub mod Leaving
+pub mod WayCharts

@@ -1,6 +1,7 @@
 -- What walks along joins reach, by ids and by places.
-use Rattle.std.specs.Prelude.{◌≡◌, ℕ, suc, ◌<◌, List, [], ◌∷◌, length, Bool, true, false, ◌&&◌, ◌==◌, slice_index_or}
+use Rattle.std.specs.Prelude.{◌≡◌, ℕ, suc, ◌<◌, List, [], ◌∷◌, length, Bool, true, false, ◌&&◌, ◌==◌, Option, slice_index_or}
 use Rattle.std.specs.List.{AllByRecursion, list_any, position_or_len}
+use Rattle.std.specs.Option.{option_map_or}
 use Rattle.stream_law.specs.declared.graph.Join.{Join}
 use Rattle.stream_law.specs.Ways.{leads}
 use Rattle.stream_law.specs.Order.{is_among}
@@ -48,6 +49,10 @@ IsListed ids j = (is_among ids j.source ≡ true) × (is_among ids j.sink ≡ tr
 -- an id is marked at its place
 abbrev pub is_marked : List ℕ → List Bool → ℕ → Bool
 is_marked ids marks x = slice_index_or marks (place_in ids x) false
+
+-- an end of an edge is there and marked
+abbrev pub is_end_marked : List ℕ → List Bool → Option ℕ → Bool
+is_end_marked ids marks end = option_map_or (is_marked ids marks) end false
 
 -- a walk leads to an id from one that is listed and marked
 abbrev pub is_reached : Bool → List ℕ → List Join → List Bool → ℕ → Bool

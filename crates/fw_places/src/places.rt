@@ -1,11 +1,8 @@
 // Ids by places, and joins between these.
 ghost use Rattle.std.specs.Prelude.{◌≡◌, ◌==◌, ◌&&◌, ◌<◌, ◌≤◌, ◌%◌, ℕ, true, false, length, map, take, position, slice_set, slice_index_or};
 ghost use Rattle.std.specs.List.{list_any, AllByRecursion};
-ghost use Rattle.stream_law.specs.declared.graph.Graph.{Graph};
 ghost use Rattle.stream_law.specs.Order.{is_among};
-ghost use Rattle.stream_law.specs.Ways.{on_way};
-ghost use Rattle.fw_places.specs.Charts.{IsChartOf, AreHostsOf, is_capture_at};
-ghost use Rattle.fw_places.specs.Walks.{IsListed, place_in, by_places, leads_by, is_marked, is_reached};
+ghost use Rattle.fw_places.specs.Walks.{IsListed, place_in, by_places, leads_by, is_marked, is_end_marked, is_reached};
 ghost use Rattle.fw_places.specs.Leaving.{AreFound};
 
 use crate::walk::{find_marked, spread};
@@ -64,25 +61,25 @@ impl Places {
         place_of(self.ids.as_slice(), id)
     }
 
-    /// What is on the way of the stream of a host: of a playback's all that walks lead to from it, and of a capture's all that walks
-    /// lead to it from.
-    pub fn way(&self, host: u32, capture: bool) -> [bool; 257]
-        ensures { (g : Graph) → IsChartOf g self.now → capture ≡ is_capture_at g host → (x : ℕ) → is_among self.now.ids x ≡ true → is_marked self.now.ids result x ≡ on_way g host x }
+    /// The same ids, and other joins of these.
+    pub fn along(self, joins: &[Join]) -> Places
+        requires listed { AllByRecursion (IsListed self.ids) joins.now }
+        requires few { length joins.now ≤ 256 }
+        ensures ids { result.ids ≡ self.ids }
+        ensures joins { result.joins ≡ joins.now }
     {
-        self.reached(host, capture)
-    }
-
-    /// Marks, beside the hosts that are marked, what is on the ways of their streams: of playbacks, or of captures.
-    pub fn ways(&self, marks: &mut [bool], capture: bool)
-        requires { length marks.old ≡ 257 }
-        ensures { (g : Graph) → IsChartOf g self.now → AreHostsOf g capture self.now.ids marks.old → (x : ℕ) → is_among self.now.ids x ≡ true → is_marked self.now.ids marks.new x ≡ list_any (λ h. is_marked self.now.ids marks.old h && on_way g h x) self.now.ids }
-    {
-        self.spread(marks, capture);
+        let Places {
+            ids,
+            ends: _,
+            count: _,
+        } = self;
+        Places::of(ids, joins)
     }
 
     /// What walks lead to from one id, or from what walks lead to it where they go back.
     pub fn reached(&self, id: u32, back: bool) -> [bool; 257]
-        ensures { (x : ℕ) → is_among self.now.ids x ≡ true → is_marked self.now.ids result x ≡ leads_by back self.now.joins id x }
+        ensures reached { (x : ℕ) → is_among self.now.ids x ≡ true → is_marked self.now.ids result x ≡ leads_by back self.now.joins id x }
+        ensures past { is_among self.now.ids id ≡ true → slice_index_or result (length self.now.ids) false ≡ false }
     {
         let _ = &self.ids;
         let place = self.place(id);
@@ -108,6 +105,17 @@ impl Places {
         ensures { result ≡ is_marked self.now.ids marks.now id }
     {
         marks[place_of(self.ids.as_slice(), id)]
+    }
+
+    /// Whether an end of an edge is there and marked.
+    pub fn has_end(&self, marks: &[bool], end: Option<u32>) -> bool
+        requires { length marks.now ≡ 257 }
+        ensures { result ≡ is_end_marked self.now.ids marks.now end }
+    {
+        match end {
+            Some(id) => self.has(marks, id),
+            None => false,
+        }
     }
 
     /// Whether an id is marked in both.

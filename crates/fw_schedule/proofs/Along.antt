@@ -1,9 +1,10 @@
 -- The buffers that a component finds at its edges.
-use Rattle.std.proofs.Common.{◌≡◌, refl, sym, ap, ◌∙◌, subst, ℕ, ◌/◌, List, [], ◌∷◌, map, filter, length, Bool, true, false, cond, not, ◌==◌, ◌||◌, Option, Some, None, option_map, arith}
-use Rattle.std.proofs.lemmas.Bool.{eqb-true, eq-eqb, false≢true}
+use Rattle.std.proofs.Common.{◌≡◌, refl, sym, ap, ◌∙◌, subst, ℕ, nat_le, ◌/◌, List, [], ◌∷◌, map, filter, length, Bool, true, false, cond, not, ◌==◌, ◌||◌, Option, Some, None, option_map, arith}
+use Rattle.std.proofs.lemmas.Bool.{and_parts, eqb-true, eq-eqb, false≢true}
 use Rattle.std.proofs.lemmas.List.{nil_from_length}
 use Rattle.std.specs.Prelude.{find, option_and_then, slice_get}
 use Rattle.std.specs.Option.{option_map_or}
+use Rattle.sof_base.specs.Samples.{Frame}
 use Rattle.stream_law.specs.declared.graph.Kind.{Kind}
 use Rattle.stream_law.specs.declared.graph.Comp.{Comp}
 use Rattle.stream_law.specs.declared.graph.Edge.{Edge}
@@ -11,7 +12,8 @@ use Rattle.stream_law.specs.declared.graph.Graph.{Graph}
 use Rattle.stream_law.specs.State.{View}
 use Rattle.stream_law.specs.Ways.{comp_of, edge_of, ins, outs, source_of, sink_of, is_end, live, active, active_end, channels_of}
 use Rattle.stream_law.specs.Joins.{fits_kind}
-use Rattle.stream_law.specs.Moves.{capacity, chooses}
+use Rattle.stream_law.specs.Moves.{capacity, chooses, fed}
+use Rattle.stream_law.specs.Seen.{flows}
 use Rattle.stream_law.proofs.Members.{IsIn, in-all, in-any, find-in}
 use Rattle.stream_law.proofs.Shapes.{flows-live}
 use Rattle.row_laws.proofs.Near.{fits-comp, at-buffer}
@@ -20,7 +22,7 @@ use Rattle.fw_units.specs.declared.component.Unit as units
 use Rattle.fw_units.specs.declared.component.Unit.TheVariants.{Buffer}
 use Rattle.fw_units.specs.declared.component.Component.{Component}
 use Rattle.fw_units.specs.Units.{edge_by, size_by, capacity_by}
-use Rattle.fw_components.specs.Tables.{Tables, graph_of, view_by, capacity_at}
+use Rattle.fw_components.specs.Tables.{Tables, graph_of, view_by, held_frames, capacity_at}
 use Rattle.fw_units.specs.Changes.{has_id}
 use Rattle.fw_components.specs.Kept.{IsKept, IsBuffering}
 use Rattle.fw_units.specs.Frames.{channels_by}
@@ -123,7 +125,7 @@ module _ (t : Tables) (kept : IsKept t) (can : CanTick t) where
           let at = find-in (λ (x : Component). x.id == along.edge.buffer) t.buffers d found in
           let own : d.id ≡ along.edge.buffer = eqb-true d.id along.edge.buffer at.1 in
           subst (IsAt t c) (own ∙ sym along.is)
-          (found-at c d (ap (λ n. find (λ x. x.id == n) t.buffers) own ∙ found) at.0 (ap (live v) own ∙ flows-live v along.edge.buffer along.flow) (ap (channels_of v) own ∙ along.channels))
+          (found-at c d (ap (λ n. find (λ x. x.id == n) t.buffers) own ∙ found) at.0 (ap (live v) own ∙ along.lives) (ap (channels_of v) own ∙ along.channels))
 
   module _ (id : ℕ) (passes : Kind → Bool) (there : IsThere (graph_of t) id passes) (now : active v id ≡ true) where
     own-now : active v there.comp.id ≡ true
@@ -132,20 +134,33 @@ module _ (t : Tables) (kept : IsKept t) (can : CanTick t) where
     pub fits : fits_kind there.comp.kind (length (ins (graph_of t) id)) (length (outs (graph_of t) id)) ≡ true
     fits = subst (λ n. fits_kind there.comp.kind (length (ins (graph_of t) n)) (length (outs (graph_of t) n)) ≡ true) there.same (fits-comp (graph_of t) there.comp (active-ready v can.wired can.linked can.played there.comp there.among own-now))
 
-    -- the buffer out of a component that is Active
-    pub out-at : (b : ℕ) → is_end (source_of (graph_of t) b) id ≡ true → IsAt t id b
-    out-at b from =
+    -- a Live buffer out of a component that is Active
+    pub out-at : (b : ℕ) → is_end (source_of (graph_of t) b) id ≡ true → live v b ≡ true → IsAt t id b
+    out-at b from lives =
         let e = edge-of (graph_of t) (λ e. e.source) b id from in
-        let along = along-out v can.wired can.linked can.played there.comp there.among own-now e.0 e.1 (ap (is_end e.0.source) there.same ∙ e.3) in
+        let along = along-out v can.wired can.linked can.played there.comp there.among own-now e.0 e.1 (ap (is_end e.0.source) there.same ∙ e.3) (ap (live v) e.2 ∙ lives) in
         subst (λ n. IsAt t n b) there.same (subst (IsAt t there.comp.id) e.2 (at-along there.comp.id e.0.buffer along))
 
-    -- and one into it that it may take frames from
-    pub in-at : (b : ℕ) → is_end (sink_of (graph_of t) b) id ≡ true → (not (chooses v id) || active_end v (source_of (graph_of t) b)) ≡ true → IsAt t id b
+    -- and one into it, which is Live where the component does not choose
+    pub in-at : (b : ℕ) → is_end (sink_of (graph_of t) b) id ≡ true → (not (chooses v id) || live v b) ≡ true → IsAt t id b
     in-at b to takes =
         let e = edge-of (graph_of t) (λ e. e.sink) b id to in
-        let may : (not (chooses v there.comp.id) || active_end v (source_of (graph_of t) e.0.buffer)) ≡ true = (λ i. not (chooses v (there.same i)) || active_end v (source_of (graph_of t) (e.2 i))) ∙ takes in
+        let may : (not (chooses v there.comp.id) || live v e.0.buffer) ≡ true = (λ i. not (chooses v (there.same i)) || live v (e.2 i)) ∙ takes in
         let along = along-in v can.wired can.linked can.played there.comp there.among own-now e.0 e.1 (ap (is_end e.0.sink) there.same ∙ e.3) may in
         subst (λ n. IsAt t n b) there.same (subst (IsAt t there.comp.id) e.2 (at-along there.comp.id e.0.buffer along))
+
+-- a buffer that holds a frame is Live
+pub held-lives : (t : Tables) → CanTick t → (b : ℕ) → nat_le 1 (length (held_frames t b)) ≡ true → live (view_by t) b ≡ true
+held-lives t can b held = flows-live (view_by t) b (by (flows (view_by t) b) refl)
+  where
+    by : (h : Bool) → flows (view_by t) b ≡ h → h ≡ true
+    by true e = refl
+    by false dead = absurd (false≢true (sym (ap (λ (frames : List Frame). nat_le 1 (length frames)) (can.empty b dead)) ∙ held))
+
+-- what is fed is Live
+pub fed-lives : (v : View) (b : ℕ) → fed v b ≡ true → live v b ≡ true
+unfolding fed
+fed-lives v b is = (and_parts (live v b) (active_end v (sink_of v.graph b)) is).0
 
 -- the only one that passes
 pub only-passes : (p : ℕ → Bool) (xs : List ℕ) (b : ℕ) → filter p xs ≡ b ∷ [] → p b ≡ true

@@ -1,21 +1,26 @@
 -- What the definitions of a tick say of a component's kind.
 use Rattle.std.proofs.Common.{◌≡◌, refl, sym, ap, ◌∙◌, ℕ, ◌-◌, ◌*◌, List, [], ◌++◌, replicate, Some, true, false, ◌==◌, ◌&&◌, arith}
-use Rattle.std.proofs.lemmas.Bool.{and_parts, eqb-true}
+use Rattle.std.proofs.lemmas.Bool.{true≢false, and_parts, eqb-true}
 use Rattle.std.proofs.lemmas.List.{append-nil}
+use Rattle.std.specs.List.{position_or_len}
 use Rattle.std.specs.Option.{option_map_or}
 use Rattle.sof_base.specs.declared.format.Format.{Format}
 use Rattle.sof_base.specs.declared.format.Format.TheVariants.{S32}
 use Rattle.sof_base.specs.Samples.{Frame, width, frames_out}
 use Rattle.stream_law.specs.declared.graph.Kind.{Kind}
-use Rattle.stream_law.specs.declared.graph.Kind.TheVariants.{HostPlay, HostCapture, DaiPlay, DaiCapture}
+use Rattle.stream_law.specs.declared.graph.Kind.TheVariants.{HostPlay, HostCapture, DaiPlay, DaiCapture, Demux}
 use Rattle.stream_law.specs.declared.graph.Comp.{Comp}
 use Rattle.stream_law.specs.declared.graph.Setting.{Setting}
 use Rattle.stream_law.specs.State.{View}
-use Rattle.stream_law.specs.Ways.{comp_of, channels_of}
+use Rattle.stream_law.specs.Ways.{comp_of, channels_of, outputs, splits}
 use Rattle.stream_law.specs.Moves.{is_choosy, chooses}
 use Rattle.stream_law.specs.Joins.{fits_kind}
-use Rattle.stream_law.specs.Made.{Passing, frames_by, frames_made}
+use Rattle.stream_law.specs.Made.{Passing, frames_by, frames_made, frames_at_output, frames_for}
 use Rattle.stream_law.specs.Endpoints.{format_by, format_of, is_input, reads, bytes_by, bytes_written}
+
+all-for : (k : Kind) (setting : Setting) (v : View) (c at : ℕ) (frames : List Frame) → splits k ≡ false → frames_at_output k setting v c at frames ≡ frames
+all-for Demux setting v c at frames whole = absurd (true≢false whole)
+all-for kind setting v c at frames whole = refl
 
 -- ---- a component by its kind
 
@@ -27,6 +32,15 @@ module _ (v : View) (c : ℕ) (x : Comp) (is : comp_of v.graph c ≡ Some x) (k 
   pub made-of : (n : ℕ) (read : List Frame) (slices : List (ℕ × List Frame)) (equalise amplify : Passing) → frames_made v c n read slices equalise amplify ≡ frames_by k x.setting v c n read slices equalise amplify
   unfolding frames_made
   made-of n read slices equalise amplify = ap (λ o. option_map_or (λ y. frames_by y.kind y.setting v c n read slices equalise amplify) o []) is ∙ ap (λ k. frames_by k x.setting v c n read slices equalise amplify) kind
+
+  -- where it does not split, each edge out gets all frames
+  pub for-of : splits k ≡ false → (b : ℕ) (frames : List Frame) → frames_for v c b frames ≡ frames
+  unfolding frames_for
+  for-of whole b frames =
+      let at = position_or_len (λ id. id == b) (outputs v.graph c) in
+      ap (λ o. option_map_or (λ y. frames_at_output y.kind y.setting v c at frames) o frames) is
+      ∙ ap (λ k. frames_at_output k x.setting v c at frames) kind
+      ∙ all-for k x.setting v c at frames whole
 
   pub written-of : (n most : ℕ) (frames : List Frame) → bytes_written v c n most frames ≡ bytes_by k v c n most frames
   unfolding bytes_written
@@ -45,6 +59,7 @@ pub record IsSource (k : Kind) : Type 0 where
   pub silent : (v : View) (c n most : ℕ) (frames : List Frame) → bytes_by k v c n most frames ≡ []
   pub reads : is_input k ≡ true
   pub picks : is_choosy k ≡ false
+  pub whole : splits k ≡ false
   pub fits : (m n : ℕ) → fits_kind k m n ≡ true → (m ≡ 0) × (n ≡ 1)
 
 two-numbers : (m n a b : ℕ) → ((m == a) && (n == b)) ≡ true → (m ≡ a) × (n ≡ b)
@@ -56,6 +71,7 @@ host-play = record {
   silent = λ v c n most frames. refl;
   reads = refl;
   picks = refl;
+  whole = refl;
   fits = λ m n h. two-numbers m n 0 1 h;
 }
 
@@ -65,6 +81,7 @@ dai-capture format = record {
   silent = λ v c n most frames. refl;
   reads = refl;
   picks = refl;
+  whole = refl;
   fits = λ m n h. two-numbers m n 0 1 h;
 }
 

@@ -27,10 +27,10 @@ use Rattle.fw_schedule.specs.Stages.{IsStage, AreEnds}
 use Rattle.fw_schedule.proofs.NextFrames.{frames-next}
 use Rattle.fw_schedule.proofs.ShownEnds.{shown-left}
 use Rattle.fw_schedule.proofs.Moved.{frames-run, frames-unfed}
-use Rattle.fw_schedule.proofs.ByKind.{chooses-of, made-of, written-of, reads-of, IsSource, host-play, dai-capture}
+use Rattle.fw_schedule.proofs.ByKind.{chooses-of, made-of, for-of, written-of, reads-of, IsSource, host-play, dai-capture}
 use Rattle.fw_schedule.proofs.Still.{frames-heard}
 use Rattle.fw_schedule.proofs.Stages.{still, fed as fed-stage}
-use Rattle.fw_schedule.proofs.Along.{IsThere, IsAt, fits, out-at, single-some, single-none, only-passes}
+use Rattle.fw_schedule.proofs.Along.{IsThere, IsAt, fits, out-at, single-some, single-none, fed-lives, only-passes}
 
 pub source-by : (k : Kind) → is_input k ≡ true → IsSource k
 source-by HostPlay is = host-play
@@ -59,7 +59,7 @@ module _ (t : Tables) (kept : IsKept t) (can : CanTick t) (id : ℕ) (there : Is
 
   -- which has its channels, and is the first of its buffers
   pub fed-at : (b : ℕ) → slice_get (fed_by v id) 0 ≡ Some b → IsAt t id b
-  fed-at b is = out-at t kept can id (λ k. is_input k) there now b (only-passes (λ b. is_end (source_of (graph_of t) b) id) _ b (fed-one b is).0)
+  fed-at b is = out-at t kept can id (λ k. is_input k) there now b (only-passes (λ b. is_end (source_of (graph_of t) b) id) _ b (fed-one b is).0) (fed-lives v b (only-passes (fed v) (outs (graph_of t) id) b (fed-one b is).1))
 
   module _ (began : Tables) (start : Io) (inputs : List InputView) (outputs : List OutputView) (a : Audio) (ends : AreEnds start a) (stage : IsStage began start t inputs outputs a) (clock : ℕ) (run : runs v clock id ≡ true) where
     abbrev blobs : ℕ → List ℕ
@@ -83,14 +83,14 @@ module _ (t : Tables) (kept : IsKept t) (can : CanTick t) (id : ℕ) (there : Is
     pub fed-still : slice_get (fed_by v id) 0 ≡ None → IsStage began start t inputs outputs (after_move v blobs clock id a)
     fed-still is =
         let none = fed-none is in
-        let idle = frames-unfed v clock (ring_length v blobs clock id a) (ring_room v blobs clock id a) id none.0 none.1 none.2 in
+        let idle = frames-unfed v clock (ring_length v blobs clock id a) (ring_room v blobs clock id a) id (ap is_empty none.1) none.2 in
         still began start t inputs outputs a ends stage clock id idle (made-read ∙ ap (frames_in (format_of v id) (channels_of v id) (list_of a.left id) 0) idle) silent
 
     -- else the frames of its input do
     pub fed-moved : (b : ℕ) (w : List ℤ) → slice_get (fed_by v id) 0 ≡ Some b → (n : ℕ) → n ≡ min (quota v clock id) (capacity_at t b - length (held_frames t b))
         → IsStage began start (pushed b (frames_in (format_of v id) (channels_of v id) (bytes_given id (n * (channels_of v id * width (format_of v id))) inputs) 0 n) w t) (input_taken id (n * (channels_of v id * width (format_of v id))) inputs) outputs (after_move v blobs clock id a)
     fed-moved b w is n count =
-        fed-stage began start t inputs outputs a ends stage clock id kept b (n * (channels_of v id * width (format_of v id))) _ w look (fed-one b is).1 made moved silent
+        fed-stage began start t inputs outputs a ends stage clock id kept b (n * (channels_of v id * width (format_of v id))) _ w look (fed-one b is).1 (for-of v id there.comp there.is there.comp.kind refl source.whole b (made_now v blobs clock id a) ∙ made) moved silent
       where
         at : IsAt t id b
         at = fed-at b is

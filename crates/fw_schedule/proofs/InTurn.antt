@@ -10,17 +10,19 @@ use Rattle.stream_law.specs.State.{View, RingView, History}
 use Rattle.stream_law.specs.Table.{list_of, number_of}
 use Rattle.stream_law.specs.Placed.{HasDistinct}
 use Rattle.stream_law.specs.Order.{is_among}
-use Rattle.stream_law.specs.Seen.{remembers, blob_in}
+use Rattle.stream_law.specs.Seen.{flows, remembers, blob_in}
 use Rattle.stream_law.specs.Move.{Audio, after_move, after_moves}
 use Rattle.stream_law.proofs.Keyed.{keyed, keyed-values, map-same, all-from, all-both}
 use Rattle.stream_law.proofs.Placing.{Ascends-distinct}
 use Rattle.row_laws.proofs.Fewer.{distinct-filter}
+use Rattle.row_laws.proofs.TickKept.{empty-all}
 use Rattle.fw_units.specs.declared.component.Component.{Component}
 use Rattle.fw_units.specs.Units.{ring_by, numbers_by}
 use Rattle.fw_components.specs.Tables.{Tables, view_by, rings_of, histories_of}
 use Rattle.fw_components.specs.Kept.{IsKept}
 use Rattle.fw_schedule.specs.Stages.{heard_ring, heard_history, IsStage, AreEnds, Moves, Grew, audio_from}
-use Rattle.fw_schedule.proofs.Still.{view-still}
+use Rattle.fw_schedule.specs.Ticks.{CanTick}
+use Rattle.fw_schedule.proofs.Still.{view-still, can-still, frames-none, frames-listed}
 use Rattle.fw_schedule.proofs.Moved.{on-moved}
 use Rattle.fw_schedule.proofs.Growing.{grew-then, apart-among}
 
@@ -150,3 +152,11 @@ module _ (t : Tables) (kept : IsKept t) (start : Io) (inputs : HasDistinct (λ x
 
   pub on-first : (clock : ℕ) (cs : List ℕ) → IsDistinct nat_eq cs → HasRoom 61440 start.outputs → IsOnWay t start clock (audio_from t start) [] cs t start.inputs start.outputs
   on-first clock cs single room = record { stage = stage-first; ends = ends-first; single = single; room = room-each cs start.outputs room; grew = λ new rest. rest }
+
+-- ---- at each stage a tick can go on
+
+pub can-on : (began : Tables) → CanTick began → (start : Io) (clock : ℕ) (moved left : List ℕ) (t : Tables) (inputs : List InputView) (outputs : List OutputView) → IsOnWay began start clock (audio_from began start) moved left t inputs outputs → CanTick t
+can-on began can start clock moved left t inputs outputs on =
+    can-still began t (sym on.stage.bare) (λ b dead.
+    frames-none (after_moves (view_by began) (blob_in (view_by began)) clock moved (audio_from began start)) t.buffers (rings_of began) on.stage.rings b
+    (empty-all (view_by began) clock moved (audio_from began start) (λ b dead. frames-listed began.buffers b ∙ can.empty b dead) b (ap (λ (v : View). flows v b) (sym (view-still t began on.stage.bare)) ∙ dead))) can

@@ -1,14 +1,14 @@
--- The inlets of all components are no more than the buffers.
+-- The inlets of all components and the buffers that they feed are no more than twice the buffers.
 use Rattle.std.proofs.Common.{◌≡◌, refl, sym, ap, ◌∙◌, ℕ, ◌+◌, ◌<◌, ◌≤◌, List, [], ◌∷◌, ◌++◌, append_assoc, length, length-append, take, drop, get_or, filter, Bool, true, false, cond, not, ◌==◌, ◌||◌, Option, Some, None, arith}
 use Rattle.std.proofs.lemmas.Bool.{eqb-true}
 use Rattle.std.proofs.lemmas.List.{take_more, take-append-drop, append-nil}
 use Rattle.std.specs.Prelude.{nat_eq}
 use Rattle.std.specs.List.{AllByRecursion, IsDistinct}
 use Rattle.stream_law.specs.State.{View}
-use Rattle.stream_law.specs.Ways.{buffers, ins, is_end, source_of, sink_of, active_end}
-use Rattle.stream_law.specs.Moves.{chooses}
+use Rattle.stream_law.specs.Ways.{buffers, ins, outs, is_end, source_of, sink_of, active_end}
+use Rattle.stream_law.specs.Moves.{chooses, fed, fed_by}
 use Rattle.stream_law.proofs.Members.{filter-most}
-use Rattle.fw_schedule.specs.Schedules.{inlets_of}
+use Rattle.fw_schedule.specs.Schedules.{inlets_of, step_edges}
 
 -- ---- ends
 
@@ -55,43 +55,44 @@ module _ (end : ℕ → Option ℕ) where
       let both = halves (λ b. is_end (end b) c) bs in
       omega (arith, rest, same, both)
 
--- ---- inlets
+-- ---- inlets, and what is fed
 
 module _ (v : View) where
   -- those of these components, one after the other
-  abbrev pub all_inlets : List ℕ → List ℕ
-  all_inlets [] = []
-  all_inlets (c ∷ cs) = inlets_of v c ++ all_inlets cs
+  abbrev pub all_ends : List ℕ → List ℕ
+  all_ends [] = []
+  all_ends (c ∷ cs) = step_edges v c ++ all_ends cs
 
-  all-counted : (cs : List ℕ) → length (all_inlets cs) ≤ count (sink_of v.graph) cs (buffers v.graph)
+  all-counted : (cs : List ℕ) → length (all_ends cs) ≤ count (sink_of v.graph) cs (buffers v.graph) + count (source_of v.graph) cs (buffers v.graph)
   all-counted [] = omega arith
   all-counted (c ∷ cs) =
       let rest = all-counted cs in
       let most : length (inlets_of v c) ≤ length (ins v.graph c) = filter-most (λ b. not (chooses v c) || active_end v (source_of v.graph b)) (ins v.graph c) in
-      omega (arith, rest, most, length-append (inlets_of v c) (all_inlets cs))
+      let most_fed : length (fed_by v c) ≤ length (outs v.graph c) = filter-most (fed v) (outs v.graph c) in
+      omega (arith, rest, most, most_fed, length-append (inlets_of v c) (fed_by v c), length-append (step_edges v c) (all_ends cs))
 
-  pub all-few : (cs : List ℕ) → IsDistinct nat_eq cs → length (all_inlets cs) ≤ length (buffers v.graph)
-  all-few cs distinct = omega (arith, all-counted cs, count-few (sink_of v.graph) cs (buffers v.graph) distinct)
+  pub all-few : (cs : List ℕ) → IsDistinct nat_eq cs → length (all_ends cs) ≤ length (buffers v.graph) + length (buffers v.graph)
+  all-few cs distinct = omega (arith, all-counted cs, count-few (sink_of v.graph) cs (buffers v.graph) distinct, count-few (source_of v.graph) cs (buffers v.graph) distinct)
 
-  all-append : (xs ys : List ℕ) → all_inlets (xs ++ ys) ≡ all_inlets xs ++ all_inlets ys
+  all-append : (xs ys : List ℕ) → all_ends (xs ++ ys) ≡ all_ends xs ++ all_ends ys
   all-append [] ys = refl
-  all-append (x ∷ xs) ys = ap (λ (zs : List ℕ). inlets_of v x ++ zs) (all-append xs ys) ∙ sym (append_assoc (inlets_of v x) (all_inlets xs) (all_inlets ys))
+  all-append (x ∷ xs) ys = ap (λ (zs : List ℕ). step_edges v x ++ zs) (all-append xs ys) ∙ sym (append_assoc (step_edges v x) (all_ends xs) (all_ends ys))
 
   -- those of one more
-  pub all-more : (cs : List ℕ) (i : ℕ) → i < length cs → all_inlets (take (i + 1) cs) ≡ all_inlets (take i cs) ++ inlets_of v (get_or cs i 0)
+  pub all-more : (cs : List ℕ) (i : ℕ) → i < length cs → all_ends (take (i + 1) cs) ≡ all_ends (take i cs) ++ step_edges v (get_or cs i 0)
   all-more cs i low =
-      ap all_inlets (take_more cs i 0 low)
+      ap all_ends (take_more cs i 0 low)
       ∙ all-append (take i cs) (get_or cs i 0 ∷ [])
-      ∙ ap (λ (xs : List ℕ). all_inlets (take i cs) ++ xs) (append-nil (inlets_of v (get_or cs i 0)))
+      ∙ ap (λ (xs : List ℕ). all_ends (take i cs) ++ xs) (append-nil (step_edges v (get_or cs i 0)))
 
   -- those of the first are no more than those of all
-  pub all-front : (cs : List ℕ) (i : ℕ) → length (all_inlets (take i cs)) ≤ length (all_inlets cs)
+  pub all-front : (cs : List ℕ) (i : ℕ) → length (all_ends (take i cs)) ≤ length (all_ends cs)
   all-front cs i =
-      let all : length (all_inlets cs) ≡ length (all_inlets (take i cs) ++ all_inlets (drop i cs)) = ap (λ (xs : List ℕ). length (all_inlets xs)) (sym (take-append-drop i cs)) ∙ ap length (all-append (take i cs) (drop i cs)) in
-      omega (arith, all, length-append (all_inlets (take i cs)) (all_inlets (drop i cs)))
+      let all : length (all_ends cs) ≡ length (all_ends (take i cs) ++ all_ends (drop i cs)) = ap (λ (xs : List ℕ). length (all_ends xs)) (sym (take-append-drop i cs)) ∙ ap length (all-append (take i cs) (drop i cs)) in
+      omega (arith, all, length-append (all_ends (take i cs)) (all_ends (drop i cs)))
 
   -- so there is room for those of each
-  pub room-next : (cs : List ℕ) (i : ℕ) → IsDistinct nat_eq cs → length (buffers v.graph) ≤ 128 → i < length cs → length (all_inlets (take i cs)) + length (inlets_of v (get_or cs i 0)) ≤ 128
+  pub room-next : (cs : List ℕ) (i : ℕ) → IsDistinct nat_eq cs → length (buffers v.graph) ≤ 128 → i < length cs → length (all_ends (take i cs)) + length (step_edges v (get_or cs i 0)) ≤ 256
   room-next cs i distinct few low =
       let next = ap length (all-more cs i low) in
-      omega (arith, next, length-append (all_inlets (take i cs)) (inlets_of v (get_or cs i 0)), all-front cs (i + 1), all-few cs distinct, few)
+      omega (arith, next, length-append (all_ends (take i cs)) (step_edges v (get_or cs i 0)), all-front cs (i + 1), all-few cs distinct, few)

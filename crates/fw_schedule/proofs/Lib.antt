@@ -10,7 +10,7 @@ mod NoFrames
 mod NextFrames
 mod Moved
 mod ByKind
-mod Still
+pub mod Still
 mod Stages
 mod Along
 mod Fed

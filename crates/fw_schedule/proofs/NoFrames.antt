@@ -1,16 +1,17 @@
 -- What a component makes of no frames, whatever its kind.
 use Rattle.std.proofs.Common.{◌≡◌, refl, ap, ℕ, List, [], ◌∷◌, take, replicate, Option, Some, None, Bool, true, false, cond, ◌==◌, ℤ}
 use Rattle.std.specs.Prelude.{find, slice_get}
+use Rattle.std.specs.List.{position_or_len}
 use Rattle.std.specs.Option.{option_map_or}
 use Rattle.sof_base.specs.Samples.{Frame, silence}
 use Rattle.stream_law.specs.declared.graph.Kind.{Kind}
-use Rattle.stream_law.specs.declared.graph.Kind.TheVariants.{Volume, Mux, Eq}
+use Rattle.stream_law.specs.declared.graph.Kind.TheVariants.{Volume, Mux, Eq, Demux}
 use Rattle.stream_law.specs.declared.graph.Setting.{Setting}
 use Rattle.stream_law.specs.declared.graph.Comp.{Comp}
 use Rattle.stream_law.specs.State.{View}
 use Rattle.stream_law.specs.Table.{table}
-use Rattle.stream_law.specs.Ways.{comp_of, channels_of, inputs}
-use Rattle.stream_law.specs.Made.{gains, choice, blob, only_slice, chosen_slice, frames_by, frames_made}
+use Rattle.stream_law.specs.Ways.{comp_of, channels_of, inputs, outputs}
+use Rattle.stream_law.specs.Made.{gains, choice, blob, only_slice, chosen_slice, frames_by, frames_made, frames_at_output, frames_for}
 use Rattle.stream_law.specs.Equaliser.{passed_frames}
 use Rattle.stream_law.specs.Ramps.{ramped_frames}
 
@@ -42,6 +43,7 @@ module _ (ids : List ℕ) (frames : ℕ → List Frame) where
   by-kind Volume setting v c numbers from over j = ap (ramped_frames from over j (gains setting) (channels_of v c)) only-none
   by-kind Mux setting v c numbers from over j = chosen-none (channels_of v c) (slice_get (inputs v.graph c) (choice setting))
   by-kind Eq setting v c numbers from over j = ap (passed_frames (blob setting) (channels_of v c) numbers) only-none
+  by-kind Demux setting v c numbers from over j = only-none
   by-kind kind setting v c numbers from over j = refl
 
   -- a component makes none of them
@@ -52,3 +54,16 @@ module _ (ids : List ℕ) (frames : ℕ → List Frame) where
       by_comp : (o : Option Comp) → option_map_or (λ x. frames_by x.kind x.setting v c 0 [] slices (λ blob channels frames. passed_frames blob channels numbers frames) (ramped_frames from over j)) o [] ≡ []
       by_comp None = refl
       by_comp (Some x) = by-kind x.kind x.setting v c numbers from over j
+
+-- and an edge out gets none of them
+pub parted-none : (v : View) (c b : ℕ) → frames_for v c b [] ≡ []
+unfolding frames_for
+parted-none v c b = by_comp (comp_of v.graph c)
+  where
+    by_kind : (k : Kind) (setting : Setting) (at : ℕ) → frames_at_output k setting v c at [] ≡ []
+    by_kind Demux setting at = refl
+    by_kind kind setting at = refl
+
+    by_comp : (o : Option Comp) → option_map_or (λ x. frames_at_output x.kind x.setting v c (position_or_len (λ id. id == b) (outputs v.graph c)) []) o [] ≡ []
+    by_comp None = refl
+    by_comp (Some x) = by_kind x.kind x.setting (position_or_len (λ id. id == b) (outputs v.graph c))

@@ -1,7 +1,7 @@
 -- A move between buffers is that of a tick.
-use Rattle.std.proofs.Common.{◌≡◌, refl, sym, ap, ◌∙◌, subst, ℕ, ◌+◌, ◌≤◌, min, List, [], ◌∷◌, ◌++◌, map, take, drop, filter, length, Bool, true, false, cond, not, nat_le, ◌==◌, ◌&&◌, ◌||◌, Option, Some, None, option_map, inl, inr, ◌⊎◌, arith, ℤ}
-use Rattle.std.proofs.lemmas.Bool.{true≢false, false≢true, or_right, or_left, or_cases, and_parts, and_from, eqb-true, eq-eqb, leb-true, false_from_ne_true}
-use Rattle.std.specs.Prelude.{find, slice_get, nat_eq}
+use Rattle.std.proofs.Common.{◌≡◌, refl, sym, ap, ◌∙◌, subst, ℕ, ◌+◌, ◌-◌, ◌≤◌, List, [], ◌∷◌, ◌++◌, map, take, drop, filter, length, Bool, true, false, cond, not, nat_le, ◌==◌, ◌&&◌, ◌||◌, Option, Some, None, option_map, inl, inr, ◌⊎◌, arith, ℤ}
+use Rattle.std.proofs.lemmas.Bool.{true≢false, false≢true, or_right, or_left, or_cases, or_parts, and_parts, and_from, eqb-true, eq-eqb, leb-true, le-leb, false_from_ne_true}
+use Rattle.std.specs.Prelude.{find, nat_eq}
 use Rattle.std.specs.List.{AllByRecursion, IsDistinct}
 use Rattle.std.specs.Option.{option_map_or}
 use Rattle.sof_base.specs.Samples.{Frame, frames_in}
@@ -14,11 +14,11 @@ use Rattle.stream_law.specs.declared.graph.Edge.{Edge}
 use Rattle.stream_law.specs.declared.graph.Graph.{Graph}
 use Rattle.stream_law.specs.State.{View, RingView, History}
 use Rattle.stream_law.specs.Table.{table, list_of}
-use Rattle.stream_law.specs.Ways.{ins, outs, buffers, comp_of, is_of, source_of, sink_of, is_end, active, active_end, live, rate_of, channels_of}
+use Rattle.stream_law.specs.Ways.{ins, outs, buffers, comp_of, is_of, source_of, sink_of, is_end, active, active_end, live, rate_of, channels_of, splits}
 use Rattle.stream_law.specs.Joins.{fits_kind}
-use Rattle.stream_law.specs.Moves.{runs, quota, chooses, is_choosy, looks, looked_at, fed, fed_by, is_empty, least}
+use Rattle.stream_law.specs.Moves.{runs, quota, chooses, is_choosy, looks, looked_at, fed as edge_fed, fed_by, is_empty, least}
 use Rattle.stream_law.specs.Order.{is_among}
-use Rattle.stream_law.specs.Made.{only_slice, frames_made}
+use Rattle.stream_law.specs.Made.{only_slice, frames_made, frames_for}
 use Rattle.stream_law.specs.Seen.{is_equaliser, is_volume, keeps_numbers, remembers, blob_in, gains_in, ramp_length}
 use Rattle.stream_law.specs.Endpoints.{is_input, format_of, bytes_of_frames, bytes_by, bytes_written}
 use Rattle.stream_law.specs.Equaliser.{passed_frames, numbers_after}
@@ -32,36 +32,36 @@ use Rattle.row_laws.proofs.Fewer.{distinct-filter}
 use Rattle.row_laws.proofs.Near.{no-loop}
 use Rattle.row_laws.proofs.Playing.{active-live}
 use Rattle.fw_units.specs.declared.component.Unit as units
-use Rattle.fw_units.specs.declared.component.Unit.TheVariants.{Host, Dai, Volume, Mixer, Mux, Eq, Buffer, Pipeline}
+use Rattle.fw_units.specs.declared.component.Unit.TheVariants.{Host, Dai, Volume, Mixer, Mux, Eq, Demux, Buffer, Pipeline}
 use Rattle.fw_units.specs.declared.component.Component.{Component}
 use Rattle.fw_units.specs.Units.{comp_by, edge_by, kind_by, ramp_by, numbers_by}
 use Rattle.fw_components.specs.Tables.{Tables, graph_of, view_by, rings_of, histories_of, staging_of, held_frames, capacity_at}
 use Rattle.fw_units.specs.Changes.{has_id}
-use Rattle.fw_components.specs.Frames.{with_frames}
 use Rattle.fw_components.specs.Kept.{IsKept, is_plain}
-use Rattle.fw_units.specs.Processed.{moves_of, IsInlet, IsOutlet, slices_in}
-use Rattle.fw_components.specs.Processed.{moves_at, channels_moved, ramp_frames_by, ramp_frames_at, made_at, eq_numbers_at, drained_ring, moved_rings, with_numbers}
+use Rattle.fw_units.specs.Processed.{moves_of, feeds_of, IsInlet, IsOutlet, slices_in}
+use Rattle.fw_components.specs.Processed.{moves_at, feeds_at, channels_moved, ramp_frames_by, ramp_frames_at, made_at, output_at, eq_numbers_at, drained_ring, fed_ring, moved_rings, with_numbers}
 use Rattle.fw_walks.proofs.Naming.{find-map}
 use Rattle.fw_walks.proofs.OnWays.{any-map}
 use Rattle.fw_schedule.specs.Ticks.{CanTick}
 use Rattle.fw_schedule.specs.Outputs.{is_output_kind}
 use Rattle.fw_schedule.specs.Schedules.{inlets_of}
 use Rattle.fw_schedule.specs.Stages.{bare_of, heard_ring, heard_history, IsStage, AreEnds}
-use Rattle.fw_schedule.proofs.KeptEnds.{is_looked, looked-are}
+use Rattle.fw_schedule.proofs.KeptEnds.{is_looked, looked-are, is_fed, fed-are}
 use Rattle.fw_schedule.proofs.ShownEnds.{eqb-turned}
 use Rattle.fw_schedule.proofs.Moved.{frames-looked, frames-unfed, rings-made, made-idle}
 use Rattle.fw_schedule.proofs.ByKind.{chooses-of, written-of, reads-of}
 use Rattle.fw_schedule.proofs.Still.{frames-heard, view-still}
 use Rattle.fw_schedule.proofs.Stages.{still, inputs-still, outputs-still, ring, histories-each}
-use Rattle.fw_schedule.proofs.Least.{least-last, least-most, least-each}
-use Rattle.fw_schedule.proofs.Along.{IsThere, IsAt, fits, out-at, in-at, single-some, single-none, only-passes}
+use Rattle.fw_schedule.proofs.Least.{least-append, least-most, least-each}
+use Rattle.fw_schedule.proofs.Along.{IsThere, IsAt, fits, out-at, in-at, held-lives, fed-lives}
 
 -- ---- kinds that move frames between buffers
 
 pub record IsMaker (k : Kind) : Type 0 where
   pub silent : (v : View) (c n most : ℕ) (frames : List Frame) → bytes_by k v c n most frames ≡ []
   pub reads : is_input k ≡ false
-  pub single : (m n : ℕ) → fits_kind k m n ≡ true → n ≡ 1
+  pub some : (m n : ℕ) → fits_kind k m n ≡ true → 1 ≤ n
+  pub single : (m n : ℕ) → fits_kind k m n ≡ true → splits k ≡ false → n ≡ 1
   pub alone : (m n : ℕ) → fits_kind k m n ≡ true → is_choosy k ≡ false → m ≡ 1
   pub few : (m n : ℕ) → fits_kind k m n ≡ true → m ≤ 8
 
@@ -77,11 +77,17 @@ choosy-few m n h = leb-true m 8 (and_parts (nat_le 1 m) (nat_le m 8) (and_parts 
 one-few : (m n : ℕ) → ((m == 1) && (n == 1)) ≡ true → m ≤ 8
 one-few m n h = let one = (two-numbers m n 1 1 h).0 in omega (arith, one)
 
+parting-some : (m n : ℕ) → ((m == 1) && (nat_le 1 n && nat_le n 8)) ≡ true → (m ≡ 1) × (1 ≤ n)
+parting-some m n h =
+    let parts = and_parts (m == 1) (nat_le 1 n && nat_le n 8) h in
+    (eqb-true m 1 parts.0, leb-true 1 n (and_parts (nat_le 1 n) (nat_le n 8) parts.1).0)
+
 maker-by : (k : Kind) → (not (is_input k) && not (is_output_kind k)) ≡ true → IsMaker k
-maker-by kinds.Volume is = record { silent = λ v c n most frames. refl; reads = refl; single = λ m n h. (two-numbers m n 1 1 h).1; alone = λ m n h picks. (two-numbers m n 1 1 h).0; few = one-few }
-maker-by kinds.Eq is = record { silent = λ v c n most frames. refl; reads = refl; single = λ m n h. (two-numbers m n 1 1 h).1; alone = λ m n h picks. (two-numbers m n 1 1 h).0; few = one-few }
-maker-by kinds.Mixer is = record { silent = λ v c n most frames. refl; reads = refl; single = choosy-single; alone = λ m n h picks. absurd (true≢false picks); few = choosy-few }
-maker-by kinds.Mux is = record { silent = λ v c n most frames. refl; reads = refl; single = choosy-single; alone = λ m n h picks. absurd (true≢false picks); few = choosy-few }
+maker-by kinds.Volume is = record { silent = λ v c n most frames. refl; reads = refl; some = λ m n h. (let one = (two-numbers m n 1 1 h).1 in omega (arith, one)); single = λ m n h whole. (two-numbers m n 1 1 h).1; alone = λ m n h picks. (two-numbers m n 1 1 h).0; few = one-few }
+maker-by kinds.Eq is = record { silent = λ v c n most frames. refl; reads = refl; some = λ m n h. (let one = (two-numbers m n 1 1 h).1 in omega (arith, one)); single = λ m n h whole. (two-numbers m n 1 1 h).1; alone = λ m n h picks. (two-numbers m n 1 1 h).0; few = one-few }
+maker-by kinds.Mixer is = record { silent = λ v c n most frames. refl; reads = refl; some = λ m n h. (let one = choosy-single m n h in omega (arith, one)); single = λ m n h whole. choosy-single m n h; alone = λ m n h picks. absurd (true≢false picks); few = choosy-few }
+maker-by kinds.Mux is = record { silent = λ v c n most frames. refl; reads = refl; some = λ m n h. (let one = choosy-single m n h in omega (arith, one)); single = λ m n h whole. choosy-single m n h; alone = λ m n h picks. absurd (true≢false picks); few = choosy-few }
+maker-by kinds.Demux is = record { silent = λ v c n most frames. refl; reads = refl; some = λ m n h. (parting-some m n h).1; single = λ m n h whole. absurd (true≢false whole); alone = λ m n h picks. (parting-some m n h).0; few = λ m n h. (let one = (parting-some m n h).0 in omega (arith, one)) }
 maker-by kind is = absurd (false≢true is)
 
 -- what keeps numbers and is no volume is an equaliser
@@ -97,6 +103,7 @@ keeps-equaliser g c keeps other = by (comp_of g c) keeps other
     kind (kinds.DaiCapture format) keeps other = absurd (false≢true keeps)
     kind kinds.Mixer keeps other = absurd (false≢true keeps)
     kind kinds.Mux keeps other = absurd (false≢true keeps)
+    kind kinds.Demux keeps other = absurd (false≢true keeps)
 
     by : (o : Option Comp) → option_map_or (λ x. keeps_numbers x.kind) o false ≡ true → option_map_or (λ x. is_volume x.kind) o false ≡ false → option_map_or (λ x. is_equaliser x.kind) o false ≡ true
     by None keeps other = absurd (false≢true keeps)
@@ -108,12 +115,27 @@ unit-moves (Volume gains ramp from done frames piece) inlets plain is one = eq-e
 unit-moves (Mixer piece) inlets plain is one = refl
 unit-moves (Mux choice piece) inlets plain is one = refl
 unit-moves (Eq eq next remaining) inlets plain is one = eq-eqb inlets 1 (one refl)
+unit-moves (Demux masks piece) inlets plain is one = eq-eqb inlets 1 (one refl)
 unit-moves (Buffer size ring source sink) inlets plain is one = absurd (false≢true plain)
 unit-moves (Pipeline sched period complete piece) inlets plain is one = absurd (false≢true plain)
 unit-moves (Host true phase params piece) inlets plain is one = absurd (false≢true is)
 unit-moves (Host false phase params piece) inlets plain is one = absurd (false≢true is)
 unit-moves (Dai true format piece) inlets plain is one = absurd (false≢true is)
 unit-moves (Dai false format piece) inlets plain is one = absurd (false≢true is)
+
+-- and feeds so many
+unit-feeds : (u : units.Unit) (outlets : ℕ) → is_plain u ≡ true → 1 ≤ outlets → (splits (kind_by u) ≡ false → outlets ≡ 1) → feeds_of u outlets ≡ true
+unit-feeds (Demux masks piece) outlets plain some one = le-leb 1 outlets some
+unit-feeds (Buffer size ring source sink) outlets plain some one = absurd (false≢true plain)
+unit-feeds (Pipeline sched period complete piece) outlets plain some one = absurd (false≢true plain)
+unit-feeds (Volume gains ramp from done frames piece) outlets plain some one = eq-eqb outlets 1 (one refl)
+unit-feeds (Mixer piece) outlets plain some one = eq-eqb outlets 1 (one refl)
+unit-feeds (Mux choice piece) outlets plain some one = eq-eqb outlets 1 (one refl)
+unit-feeds (Eq eq next remaining) outlets plain some one = eq-eqb outlets 1 (one refl)
+unit-feeds (Host true phase params piece) outlets plain some one = eq-eqb outlets 1 (one refl)
+unit-feeds (Host false phase params piece) outlets plain some one = eq-eqb outlets 1 (one refl)
+unit-feeds (Dai true format piece) outlets plain some one = eq-eqb outlets 1 (one refl)
+unit-feeds (Dai false format piece) outlets plain some one = eq-eqb outlets 1 (one refl)
 
 -- ---- lists
 
@@ -129,18 +151,23 @@ all-among P (y ∷ ys) x all there = by (or_cases (y == x) (is_among ys x) there
     by (inl same) rest = subst P (eqb-true y x same) all.0
     by (inr more) rest = rest more
 
-distinct-end : (xs : List ℕ) (b : ℕ) → IsDistinct nat_eq xs → is_among xs b ≡ false → IsDistinct nat_eq (xs ++ b ∷ [])
+-- lists of which each names what is in it once, and the second nothing that is in the first
+distinct-both : (xs ys : List ℕ) → IsDistinct nat_eq xs → IsDistinct nat_eq ys → AllByRecursion (λ y. is_among xs y ≡ false) ys → IsDistinct nat_eq (xs ++ ys)
 unfolding IsDistinct
-distinct-end [] b apart out = (tt, tt)
-distinct-end (x ∷ xs) b apart out = by (x == b) refl out (distinct-end xs b apart.1)
+distinct-both [] ys one other apart = other
+distinct-both (x ∷ xs) ys one other apart = (each xs one.0, distinct-both xs ys one.1 other (rest ys apart))
   where
-    each : (ys : List ℕ) → AllByRecursion (λ y. nat_eq x y ≡ false) ys → nat_eq x b ≡ false → AllByRecursion (λ y. nat_eq x y ≡ false) (ys ++ b ∷ [])
-    each [] all other = (other, tt)
-    each (y ∷ ys) all other = (all.0, each ys all.1 other)
+    rest : (zs : List ℕ) → AllByRecursion (λ y. is_among (x ∷ xs) y ≡ false) zs → AllByRecursion (λ y. is_among xs y ≡ false) zs
+    rest [] all = tt
+    rest (z ∷ zs) all = ((or_parts (x == z) (is_among xs z) all.0).1, rest zs all.1)
 
-    by : (h : Bool) → (x == b) ≡ h → (h || is_among xs b) ≡ false → (is_among xs b ≡ false → IsDistinct nat_eq (xs ++ b ∷ [])) → IsDistinct nat_eq (x ∷ (xs ++ b ∷ []))
-    by true h out rest = absurd (true≢false out)
-    by false h out rest = (each xs apart.0 h, rest out)
+    behind : (zs : List ℕ) → AllByRecursion (λ y. is_among (x ∷ xs) y ≡ false) zs → AllByRecursion (λ y. nat_eq x y ≡ false) zs
+    behind [] all = tt
+    behind (z ∷ zs) all = ((or_parts (x == z) (is_among xs z) all.0).0, behind zs all.1)
+
+    each : (zs : List ℕ) → AllByRecursion (λ y. nat_eq x y ≡ false) zs → AllByRecursion (λ y. nat_eq x y ≡ false) (zs ++ ys)
+    each [] all = behind ys apart
+    each (z ∷ zs) all = (all.0, each zs all.1)
 
 filter-same : (p q : ℕ → Bool) (xs : List ℕ) → ((x : ℕ) → is_among xs x ≡ true → p x ≡ q x) → filter p xs ≡ filter q xs
 filter-same p q [] same = refl
@@ -212,37 +239,44 @@ module _ (t : Tables) (kept : IsKept t) (can : CanTick t) (id : ℕ) (there : Is
   has-buffer : (b : ℕ) → has_id t.buffers b ≡ is_among (buffers (graph_of t)) b
   has-buffer b = sym (any-map (λ id. id == b) (λ (e : Edge). e.buffer) (map edge_by t.buffers) ∙ any-map (λ (e : Edge). e.buffer == b) edge_by t.buffers)
 
-  one-out : length (outs (graph_of t) id) ≡ 1
-  one-out = maker.single (length (ins (graph_of t) id)) (length (outs (graph_of t) id)) (fits t kept can id is_maker there now)
+  -- it has an edge out
+  some-out : is_empty (outs (graph_of t) id) ≡ false
+  some-out = by (outs (graph_of t) id) (maker.some (length (ins (graph_of t) id)) (length (outs (graph_of t) id)) (fits t kept can id is_maker there now))
+    where
+      by : (xs : List ℕ) → 1 ≤ length xs → is_empty xs ≡ false
+      by [] some = absurd (omega (arith, some))
+      by (x ∷ xs) some = refl
 
-  pub fed-one : (b : ℕ) → slice_get (fed_by v id) 0 ≡ Some b → (outs (graph_of t) id ≡ b ∷ []) × (fed_by v id ≡ b ∷ [])
-  fed-one b is = single-some (fed v) (outs (graph_of t) id) b one-out is
+  -- an edge that it feeds is one out of it
+  out-end : (b : ℕ) → is_among (fed_by v id) b ≡ true → is_end (source_of (graph_of t) b) id ≡ true
+  out-end b is = (among-filter (λ b. is_end (source_of (graph_of t) b) id) (buffers (graph_of t)) b (among-filter (edge_fed v) (outs (graph_of t) id) b is).0).1
 
-  out-end : (b : ℕ) → slice_get (fed_by v id) 0 ≡ Some b → is_end (source_of (graph_of t) b) id ≡ true
-  out-end b is = only-passes (λ b. is_end (source_of (graph_of t) b) id) _ b (fed-one b is).0
+  pub fed-at : (b : ℕ) → is_among (fed_by v id) b ≡ true → IsAt t id b
+  fed-at b is = out-at t kept can id is_maker there now b (out-end b is) (fed-lives v b (among-filter (edge_fed v) (outs (graph_of t) id) b is).1)
 
-  pub fed-at : (b : ℕ) → slice_get (fed_by v id) 0 ≡ Some b → IsAt t id b
-  fed-at b is = out-at t kept can id is_maker there now b (out-end b is)
+  pub fed-there : (fed : List ℕ) → fed ≡ fed_by v id → AllByRecursion (λ b. has_id t.buffers b ≡ true) fed
+  fed-there fed are = in-each-among (λ b. has_id t.buffers b ≡ true) fed (λ b is. (fed-at b (ap (λ ids. is_among ids b) (sym are) ∙ is)).there)
 
-  -- a buffer that it looks at
-  weaker : (x y z : Bool) → (x || (y && z)) ≡ true → (x || y) ≡ true
-  weaker true y z e = refl
-  weaker false y z e = (and_parts y z e).0
+  -- a buffer that it looks at, which is Live where the component chooses it, for it holds a frame
+  may-look : (b : ℕ) (x y : Bool) → (x || (y && nat_le 1 (length (held_frames t b)))) ≡ true → (x || live v b) ≡ true
+  may-look b true y e = refl
+  may-look b false y e = held-lives t can b (and_parts y (nat_le 1 (length (held_frames t b))) e).1
 
-  pub looked-at : (h : ℕ → ℕ) (b : ℕ) → is_among (looked_at v h id) b ≡ true → IsAt t id b
-  looked-at h b is =
-      let parts = looked-parts v h id b is in
-      in-at t kept can id is_maker there now b parts.1 (weaker (not (chooses v id)) (active_end v (source_of (graph_of t) b)) (nat_le 1 (h b)) parts.0)
+  pub looked-at : (b : ℕ) → is_among (looked_at v (λ b. length (held_frames t b)) id) b ≡ true → IsAt t id b
+  looked-at b is =
+      let parts = looked-parts v (λ b. length (held_frames t b)) id b is in
+      in-at t kept can id is_maker there now b parts.1 (may-look b (not (chooses v id)) (active_end v (source_of (graph_of t) b)) parts.0)
 
   -- it looks at none that it feeds
-  pub looked-apart : (h : ℕ → ℕ) (b : ℕ) → slice_get (fed_by v id) 0 ≡ Some b → is_among (looked_at v h id) b ≡ false
+  pub looked-apart : (h : ℕ → ℕ) (b : ℕ) → is_among (fed_by v id) b ≡ true → is_among (looked_at v h id) b ≡ false
   looked-apart h b is = false_from_ne_true _ (λ both. true≢false (sym (looked-parts v h id b both).1 ∙ no-loop (graph_of t) can.wired can.linked b id (out-end b is)))
 
-  pub looked-distinct : (looked : List ℕ) (b : ℕ) → looked ≡ looked_at v (λ b. length (held_frames t b)) id → slice_get (fed_by v id) 0 ≡ Some b → IsDistinct nat_eq (looked ++ b ∷ [])
-  looked-distinct looked b are is =
-      distinct-end looked b
+  pub looked-distinct : (looked fed : List ℕ) → looked ≡ looked_at v (λ b. length (held_frames t b)) id → fed ≡ fed_by v id → IsDistinct nat_eq (looked ++ fed)
+  looked-distinct looked fed are feed =
+      distinct-both looked fed
       (subst (IsDistinct nat_eq) (sym (are ∙ looked-are t id (chooses v id) kept.named.buffers refl)) (distinct-filter (λ (c : Component). c.id) (is_looked t id (chooses v id)) t.buffers (Ascends-distinct (λ (c : Component). c.id) t.buffers kept.named.buffers)))
-      (ap (λ ids. is_among ids b) are ∙ looked-apart (λ b. length (held_frames t b)) b is)
+      (subst (IsDistinct nat_eq) (sym (feed ∙ fed-are t id kept.named.buffers)) (distinct-filter (λ (c : Component). c.id) (is_fed t id) t.buffers (Ascends-distinct (λ (c : Component). c.id) t.buffers kept.named.buffers)))
+      (in-each-among (λ b. is_among looked b ≡ false) fed (λ b is. ap (λ ids. is_among ids b) are ∙ looked-apart (λ b. length (held_frames t b)) b (ap (λ ids. is_among ids b) (sym feed) ∙ is)))
 
   -- where it does not choose it looks at its one buffer
   pub looked-one : (h : ℕ → ℕ) → chooses v id ≡ false → length (looked_at v h id) ≡ 1
@@ -284,6 +318,15 @@ module _ (t : Tables) (kept : IsKept t) (can : CanTick t) (id : ℕ) (there : Is
       (ap (λ (x : Comp). is_maker x.kind) own.2 ∙ there.kind)
       (λ plain. one (chooses-of v id there.comp there.is there.comp.kind refl ∙ ap (λ (x : Comp). is_choosy x.kind) (sym own.2) ∙ plain))
 
+  -- and feeds so many
+  pub feeds : (fed : List ℕ) → fed ≡ fed_by v id → 1 ≤ length fed → feeds_at t id (length fed) ≡ true
+  feeds fed are some =
+      ap (λ (o : Option Component). option_map_or (λ c. feeds_of c.unit (length fed)) o false) own.1
+      ∙ unit-feeds own.0.unit (length fed) (in-all (λ (c : Component). is_plain c.unit ≡ true) t.comps own.0 kept.plain own-in.0) some
+      (λ whole.
+      let one = maker.single (length (ins (graph_of t) id)) (length (outs (graph_of t) id)) (fits t kept can id is_maker there now) (ap (λ (x : Comp). splits x.kind) (sym own.2) ∙ whole) in
+      let e : length fed ≡ 1 = omega (arith, some, ap length are, filter-most (edge_fed v) (outs (graph_of t) id), one) in e)
+
   pub wide : channels_moved t id ≡ channels_of v id
   wide =
       let same = eqb-true own.0.id id own-in.1 in
@@ -305,18 +348,19 @@ module _ (t : Tables) (kept : IsKept t) (can : CanTick t) (id : ℕ) (there : Is
   -- what is looked at can be taken from, and what is fed has room
   pub inlets : (looked : List ℕ) (q n : ℕ) → looked ≡ looked_at v (λ b. length (held_frames t b)) id → n ≡ least q (map (λ b. length (held_frames t b)) looked) → AllByRecursion (IsInlet t.buffers (channels_moved t id) n) looked
   inlets looked q n are count = in-each-among (IsInlet t.buffers (channels_moved t id) n) looked (λ b is.
-      let at = looked-at (λ b. length (held_frames t b)) b (ap (λ ids. is_among ids b) (sym are) ∙ is) in
+      let at = looked-at b (ap (λ ids. is_among ids b) (sym are) ∙ is) in
       let low = all-among (λ x. least q (map (λ b. length (held_frames t b)) looked) ≤ length (held_frames t x)) looked b (least-each (λ b. length (held_frames t b)) q looked) is in
       record { there = at.there; shape = at.shape ∙ sym wide; held = omega (arith, low, count) })
 
-  pub outlet : (b q n : ℕ) (looked : List ℕ) → slice_get (fed_by v id) 0 ≡ Some b → q + length (held_frames t b) ≤ capacity_at t b → n ≡ least q (map (λ b. length (held_frames t b)) looked) → IsOutlet t.buffers (channels_moved t id) n b
-  outlet b q n looked is room count =
-      let at = fed-at b is in
+  pub outlets : (looked fed : List ℕ) (q n : ℕ) → fed ≡ fed_by v id → AllByRecursion (λ b. q + length (held_frames t b) ≤ capacity_at t b) fed → n ≡ least q (map (λ b. length (held_frames t b)) looked) → AllByRecursion (IsOutlet t.buffers (channels_moved t id) n) fed
+  outlets looked fed q n are fit count = in-each-among (IsOutlet t.buffers (channels_moved t id) n) fed (λ b is.
+      let at = fed-at b (ap (λ ids. is_among ids b) (sym are) ∙ is) in
       let low = least-most q (map (λ b. length (held_frames t b)) looked) in
-      record { there = at.there; shape = at.shape ∙ sym wide; room = omega (arith, low, count, room) }
+      let room = all-among (λ b. q + length (held_frames t b) ≤ capacity_at t b) fed b fit is in
+      record { there = at.there; shape = at.shape ∙ sym wide; room = omega (arith, low, count, room) })
 
   pub looked-there : (looked : List ℕ) → looked ≡ looked_at v (λ b. length (held_frames t b)) id → AllByRecursion (λ b. has_id t.buffers b ≡ true) looked
-  looked-there looked are = in-each-among (λ b. has_id t.buffers b ≡ true) looked (λ b is. (looked-at (λ b. length (held_frames t b)) b (ap (λ ids. is_among ids b) (sym are) ∙ is)).there)
+  looked-there looked are = in-each-among (λ b. has_id t.buffers b ≡ true) looked (λ b is. (looked-at b (ap (λ ids. is_among ids b) (sym are) ∙ is)).there)
 
   -- ---- the stage after it
 
@@ -331,10 +375,9 @@ module _ (t : Tables) (kept : IsKept t) (can : CanTick t) (id : ℕ) (there : Is
         ∙ maker.silent v id (frames_moved v blobs clock id a) (quota v clock id) (only_slice (fronts v blobs clock id a))
 
     -- nothing moves where it feeds nothing
-    pub unfed : slice_get (fed_by v id) 0 ≡ None → IsStage began start t inputs outputs (after_move v blobs clock id a)
-    unfed is =
-        let none = single-none (fed v) (outs (graph_of t) id) one-out is in
-        let idle = frames-unfed v clock (ring_length v blobs clock id a) (ring_room v blobs clock id a) id none.0 none.1 none.2 in
+    pub unfed : fed_by v id ≡ [] → IsStage began start t inputs outputs (after_move v blobs clock id a)
+    unfed none =
+        let idle = frames-unfed v clock (ring_length v blobs clock id a) (ring_room v blobs clock id a) id some-out none in
         still began start t inputs outputs a ends stage clock id idle (made-idle v blobs clock id start a idle) silent
 
     heard : (b : ℕ) → has_id t.buffers b ≡ true → held_frames t b ≡ list_of a.rings b
@@ -349,10 +392,10 @@ module _ (t : Tables) (kept : IsKept t) (can : CanTick t) (id : ℕ) (there : Is
         same b is = ap length (heard b (has-buffer b ∙ (among-filter (λ b. is_end (sink_of (graph_of t) b) id) (buffers (graph_of t)) b is).0))
 
     -- nor where it looks at nothing
-    pub unlooked : (b : ℕ) → slice_get (fed_by v id) 0 ≡ Some b → looked_at v (λ b. length (held_frames t b)) id ≡ [] → IsStage began start t inputs outputs (after_move v blobs clock id a)
-    unlooked b is none =
+    pub unlooked : is_empty (fed_by v id) ≡ false → looked_at v (λ b. length (held_frames t b)) id ≡ [] → IsStage began start t inputs outputs (after_move v blobs clock id a)
+    unlooked feeds none =
         let now_none : looked_now v blobs clock id a ≡ [] = sym look ∙ none in
-        let idle = frames-looked v clock (ring_length v blobs clock id a) (ring_room v blobs clock id a) id b [] run now_none (fed-one b is).1 (by (chooses v id) refl (is_empty (looked_now v blobs clock id a)) (ap is_empty now_none)) in
+        let idle = frames-looked v clock (ring_length v blobs clock id a) (ring_room v blobs clock id a) id [] (fed_by v id) run now_none refl feeds (by (chooses v id) refl (is_empty (looked_now v blobs clock id a)) (ap is_empty now_none)) in
         still began start t inputs outputs a ends stage clock id idle (made-idle v blobs clock id start a idle) silent
       where
         by : (h : Bool) → chooses v id ≡ h → (k : Bool) → k ≡ true → (not (chooses v id) || not k) ≡ false
@@ -363,12 +406,13 @@ module _ (t : Tables) (kept : IsKept t) (can : CanTick t) (id : ℕ) (there : Is
             no e = omega (arith, e)
 
     -- else frames move
-    module _ (b : ℕ) (is : slice_get (fed_by v id) 0 ≡ Some b) (looked : List ℕ) (are : looked ≡ looked_at v (λ b. length (held_frames t b)) id) (some : is_empty looked ≡ false) (n free most : ℕ) (room : free + length (held_frames t b) ≡ capacity_at t b) (bound : most ≡ min (quota v clock id) free) (count : n ≡ least most (map (λ b. length (held_frames t b)) looked)) where
+    module _ (fed : List ℕ) (feed : fed ≡ fed_by v id) (feeds_some : is_empty fed ≡ false) (looked : List ℕ) (are : looked ≡ looked_at v (λ b. length (held_frames t b)) id) (some : is_empty looked ≡ false) (n most : ℕ)
+        (bound : most ≡ least (quota v clock id) (map (λ b. capacity_at t b - length (held_frames t b)) fed)) (count : n ≡ least most (map (λ b. length (held_frames t b)) looked)) where
       now_looked : looked_now v blobs clock id a ≡ looked
       now_looked = sym look ∙ sym are
 
       each-heard : AllByRecursion (λ b. held_frames t b ≡ list_of a.rings b) looked
-      each-heard = in-each-among (λ b. held_frames t b ≡ list_of a.rings b) looked (λ b at. heard b (looked-at (λ b. length (held_frames t b)) b (ap (λ ids. is_among ids b) (sym are) ∙ at)).there)
+      each-heard = in-each-among (λ b. held_frames t b ≡ list_of a.rings b) looked (λ b at. heard b (looked-at b (ap (λ ids. is_among ids b) (sym are) ∙ at)).there)
 
       lengths : (xs : List ℕ) → AllByRecursion (λ b. held_frames t b ≡ list_of a.rings b) xs → map (ring_length v blobs clock id a) xs ≡ map (λ b. length (held_frames t b)) xs
       lengths [] same = refl
@@ -383,17 +427,20 @@ module _ (t : Tables) (kept : IsKept t) (can : CanTick t) (id : ℕ) (there : Is
 
       frames : frames_moved v blobs clock id a ≡ n
       frames =
-          frames-looked v clock (ring_length v blobs clock id a) (ring_room v blobs clock id a) id b looked run now_looked (fed-one b is).1 chosen
-          ∙ ap (λ h. cond h 0 (least (quota v clock id) (map (ring_length v blobs clock id a) looked ++ ring_room v blobs clock id a b ∷ []))) some
-          ∙ least-last (quota v clock id) (ring_room v blobs clock id a b) (map (ring_length v blobs clock id a) looked)
+          frames-looked v clock (ring_length v blobs clock id a) (ring_room v blobs clock id a) id looked fed run now_looked (sym feed) feeds_some chosen
+          ∙ ap (λ h. cond h 0 (least (quota v clock id) (map (ring_length v blobs clock id a) looked ++ map (ring_room v blobs clock id a) fed))) some
+          ∙ least-append (quota v clock id) (map (ring_length v blobs clock id a) looked) (map (ring_room v blobs clock id a) fed)
           ∙ (λ i. least (top i) (lengths looked each-heard i))
           ∙ sym count
         where
-          top : min (ring_room v blobs clock id a b) (quota v clock id) ≡ most
-          top =
-              let at = fed-at b is in
-              let own = ap length (heard b at.there) in
-              omega (arith, at.room, own, room, bound)
+          rooms : map (ring_room v blobs clock id a) fed ≡ map (λ b. capacity_at t b - length (held_frames t b)) fed
+          rooms = map-same-among (ring_room v blobs clock id a) (λ b. capacity_at t b - length (held_frames t b)) fed
+              (in-each-among (λ b. ring_room v blobs clock id a b ≡ capacity_at t b - length (held_frames t b)) fed (λ b is.
+              let at = fed-at b (ap (λ ids. is_among ids b) (sym feed) ∙ is) in
+              (λ i. at.room i - length (sym (heard b at.there) i))))
+
+          top : least (quota v clock id) (map (ring_room v blobs clock id a) fed) ≡ most
+          top = ap (least (quota v clock id)) rooms ∙ sym bound
 
       slices : slices_in t.buffers looked n ≡ fronts v blobs clock id a
       slices = takes n looked each-heard ∙ (λ i. table (sym now_looked i) (λ b. take (sym frames i) (list_of a.rings b)))
@@ -410,11 +457,12 @@ module _ (t : Tables) (kept : IsKept t) (can : CanTick t) (id : ℕ) (there : Is
       volume-by kind = and_from (live v id) (is_of (graph_of t) keeps_numbers id) (active-live v can.wired can.linked can.played id now) (volume-keeps (graph_of t) id kind)
 
       module _ (u : Tables) (bare : bare_of u ≡ bare_of t)
-          (rings-law : rings_of u ≡ moved_rings looked n b (made_at t id looked n) (rings_of t))
+          (rings-law : rings_of u ≡ moved_rings looked n fed (λ b. output_at t id b (made_at t id looked n)) (rings_of t))
           (histories-law : histories_of u ≡ map (with_numbers id (eq_numbers_at u id)) (histories_of t))
           (staging-law : staging_of u ≡ staging_of t)
           (made-law : (read : List Frame) → frames_made v id n read (slices_in t.buffers looked n) (λ blob channels frames. passed_frames blob channels (eq_numbers_at t id) frames)
           (ramped_frames (numbers_from (eq_numbers_at t id)) (ramp_length v id) (numbers_place (eq_numbers_at t id))) ≡ made_at t id looked n)
+          (outputs-law : (b : ℕ) → frames_for v id b (made_at t id looked n) ≡ output_at t id b (made_at t id looked n))
           (numbers-law : is_of (graph_of t) is_equaliser id ≡ true → numbers_after (blob_in v id) (channels_of v id) (eq_numbers_at t id) (only_slice (slices_in t.buffers looked n)) ≡ eq_numbers_at u id)
           (places-law : is_of (graph_of t) is_volume id ≡ true → ramped_on (ramp_length v id) (eq_numbers_at t id) (length (only_slice (slices_in t.buffers looked n))) ≡ eq_numbers_at u id) where
         made : made_now v blobs clock id a ≡ made_at t id looked n
@@ -429,29 +477,42 @@ module _ (t : Tables) (kept : IsKept t) (can : CanTick t) (id : ℕ) (there : Is
         next : Audio
         next = after_move v blobs clock id a
 
-        ring-each : (r : RingView) → with_frames (λ own. own ++ made_at t id looked n) b (drained_ring looked n (heard_ring a r)) ≡ heard_ring (after_move v blobs clock id a) r
+        -- what an edge that is fed gets
+        abbrev gets : ℕ → List Frame
+        gets b = output_at t id b (made_at t id looked n)
+
+        gets-now : (b : ℕ) → frames_for v id b (made_now v blobs clock id a) ≡ gets b
+        gets-now b = ap (frames_for v id b) made ∙ outputs-law b
+
+        ring-each : (r : RingView) → fed_ring fed gets (drained_ring looked n (heard_ring a r)) ≡ heard_ring (after_move v blobs clock id a) r
         ring-each r =
-            by (is_among looked r.buffer) refl (r.buffer == b) refl
-            ∙ ap (ring r.buffer) (sym (rings-made v blobs clock id start a b looked now_looked (fed-one b is).1 r.buffer
-            ∙ (λ i. cond (b == r.buffer) (list_of a.rings b ++ made i) (cond (is_among looked r.buffer) (drop (frames i) (list_of a.rings r.buffer)) (list_of a.rings r.buffer)))))
+            by (is_among looked r.buffer) refl (is_among fed r.buffer) refl
+            ∙ ap (ring r.buffer) (sym (rings-made v blobs clock id start a looked fed now_looked (sym feed) r.buffer
+            ∙ (λ i. cond (is_among fed r.buffer) (list_of a.rings r.buffer ++ gets-now r.buffer i) (cond (is_among looked r.buffer) (drop (frames i) (list_of a.rings r.buffer)) (list_of a.rings r.buffer)))))
           where
             fs : List Frame
-            fs = made_at t id looked n
+            fs = list_of a.rings r.buffer
 
-            by : (k : Bool) → is_among looked r.buffer ≡ k → (h : Bool) → (r.buffer == b) ≡ h → with_frames (λ own. own ++ made_at t id looked n) b (cond k (ring r.buffer (drop n (list_of a.rings r.buffer))) (ring r.buffer (list_of a.rings r.buffer))) ≡ ring r.buffer (cond (b == r.buffer) (list_of a.rings b ++ made_at t id looked n) (cond (is_among looked r.buffer) (drop n (list_of a.rings r.buffer)) (list_of a.rings r.buffer)))
-            by true at true h = absurd (true≢false (sym at ∙ ap (is_among looked) (eqb-true r.buffer b h) ∙ ap (λ ids. is_among ids b) are ∙ looked-apart (λ b. length (held_frames t b)) b is))
+            after : Bool → Bool → List Frame
+            after h k = cond h (fs ++ gets r.buffer) (cond k (drop n fs) fs)
+
+            by : (k : Bool) → is_among looked r.buffer ≡ k → (h : Bool) → is_among fed r.buffer ≡ h → fed_ring fed gets (cond (is_among looked r.buffer) (ring r.buffer (drop n fs)) (ring r.buffer fs)) ≡ ring r.buffer (after (is_among fed r.buffer) (is_among looked r.buffer))
+            by true at true h =
+                absurd (true≢false (sym at ∙ ap (λ ids. is_among ids r.buffer) are ∙ looked-apart (λ b. length (held_frames t b)) r.buffer (ap (λ ids. is_among ids r.buffer) (sym feed) ∙ h)))
             by false at true h =
-                ap (λ q. cond q (ring r.buffer (list_of a.rings r.buffer ++ made_at t id looked n)) (ring r.buffer (list_of a.rings r.buffer))) h
-                ∙ ap (λ x. ring r.buffer (list_of a.rings x ++ made_at t id looked n)) (eqb-true r.buffer b h)
-                ∙ sym (ap (λ q. ring r.buffer (cond q (list_of a.rings b ++ made_at t id looked n) (cond (is_among looked r.buffer) (drop n (list_of a.rings r.buffer)) (list_of a.rings r.buffer)))) (eqb-turned b r.buffer ∙ h))
+                ap (λ k. fed_ring fed gets (cond k (ring r.buffer (drop n fs)) (ring r.buffer fs))) at
+                ∙ ap (λ h. cond h (ring r.buffer (fs ++ gets r.buffer)) (ring r.buffer fs)) h
+                ∙ sym (λ i. ring r.buffer (after (h i) (at i)))
             by true at false h =
-                ap (λ q. cond q (ring r.buffer (drop n (list_of a.rings r.buffer) ++ made_at t id looked n)) (ring r.buffer (drop n (list_of a.rings r.buffer)))) h
-                ∙ sym (λ i. ring r.buffer (cond ((eqb-turned b r.buffer ∙ h) i) (list_of a.rings b ++ made_at t id looked n) (cond (at i) (drop n (list_of a.rings r.buffer)) (list_of a.rings r.buffer))))
+                ap (λ k. fed_ring fed gets (cond k (ring r.buffer (drop n fs)) (ring r.buffer fs))) at
+                ∙ ap (λ h. cond h (ring r.buffer (drop n fs ++ gets r.buffer)) (ring r.buffer (drop n fs))) h
+                ∙ sym (λ i. ring r.buffer (after (h i) (at i)))
             by false at false h =
-                ap (λ q. cond q (ring r.buffer (list_of a.rings r.buffer ++ made_at t id looked n)) (ring r.buffer (list_of a.rings r.buffer))) h
-                ∙ sym (λ i. ring r.buffer (cond ((eqb-turned b r.buffer ∙ h) i) (list_of a.rings b ++ made_at t id looked n) (cond (at i) (drop n (list_of a.rings r.buffer)) (list_of a.rings r.buffer))))
+                ap (λ k. fed_ring fed gets (cond k (ring r.buffer (drop n fs)) (ring r.buffer fs))) at
+                ∙ ap (λ h. cond h (ring r.buffer (fs ++ gets r.buffer)) (ring r.buffer fs)) h
+                ∙ sym (λ i. ring r.buffer (after (h i) (at i)))
 
-        rings-each : (rs : List RingView) → moved_rings looked n b (made_at t id looked n) (map (heard_ring a) rs) ≡ map (heard_ring (after_move v blobs clock id a)) rs
+        rings-each : (rs : List RingView) → moved_rings looked n fed gets (map (heard_ring a) rs) ≡ map (heard_ring (after_move v blobs clock id a)) rs
         rings-each [] = refl
         rings-each (r ∷ rs) = λ i. ring-each r i ∷ rings-each rs i
 
@@ -479,7 +540,7 @@ module _ (t : Tables) (kept : IsKept t) (can : CanTick t) (id : ℕ) (there : Is
         pub processed-stage : IsStage began start u inputs outputs (after_move v blobs clock id a)
         processed-stage = record {
           bare = bare ∙ stage.bare;
-          rings = rings-law ∙ ap (moved_rings looked n b (made_at t id looked n)) stage.rings ∙ rings-each (rings_of began);
+          rings = rings-law ∙ ap (moved_rings looked n fed gets) stage.rings ∙ rings-each (rings_of began);
           histories = histories-law ∙ ap (map (with_numbers id (eq_numbers_at u id))) stage.histories ∙ histories-each-moved (histories_of began) (histories-each began);
           staging = staging-law ∙ stage.staging;
           inputs = sym (inputs-still began start t inputs outputs a ends stage clock id moved);

@@ -11,5 +11,5 @@ use Rattle.fw_schedule.specs.Schedules.{IsStepOf, IsScheduleOf}
 pub schedule-seen : (t u : Tables) (s : Schedule) → view_by t ≡ view_by u → IsScheduleOf t s → IsScheduleOf u s
 schedule-seen t u s same was = record {
   order = subst (λ (v : View). map (λ (s : Step). s.id) s.steps.items ≡ order v.graph) same was.order;
-  steps = subst (λ (v : View). AllByRecursion (IsStepOf v s.inlets.items) s.steps.items) same was.steps;
+  steps = subst (λ (v : View). AllByRecursion (IsStepOf v s.ends.items) s.steps.items) same was.steps;
 }

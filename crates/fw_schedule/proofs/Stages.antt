@@ -10,7 +10,7 @@ use Rattle.stream_law.specs.State.{View, RingView, History}
 use Rattle.stream_law.specs.Table.{table, list_of, number_of}
 use Rattle.stream_law.specs.Ways.{is_of, channels_of}
 use Rattle.stream_law.specs.Moves.{fed_by}
-use Rattle.stream_law.specs.Made.{only_slice}
+use Rattle.stream_law.specs.Made.{only_slice, frames_for}
 use Rattle.stream_law.specs.Seen.{is_volume, remembers, blob_in, ramp_length}
 use Rattle.stream_law.specs.Equaliser.{numbers_after}
 use Rattle.stream_law.specs.Ramps.{ramped_on}
@@ -138,7 +138,7 @@ module _ (began : Tables) (start : Io) (t : Tables) (inputs : List InputView) (o
   }
 
   -- one that looks at nothing puts its frames into the buffer that it feeds
-  pub fed : IsKept t → (b m : ℕ) (fs : List Frame) (w : List ℤ) → looked_now v blobs clock c a ≡ [] → fed_by v c ≡ b ∷ [] → made_now v blobs clock c a ≡ fs → bytes_moved v blobs clock c a ≡ m → bytes_now v blobs clock c a ≡ [] → IsStage began start (pushed b fs w t) (input_taken c m inputs) outputs next
+  pub fed : IsKept t → (b m : ℕ) (fs : List Frame) (w : List ℤ) → looked_now v blobs clock c a ≡ [] → fed_by v c ≡ b ∷ [] → frames_for v c b (made_now v blobs clock c a) ≡ fs → bytes_moved v blobs clock c a ≡ m → bytes_now v blobs clock c a ≡ [] → IsStage began start (pushed b fs w t) (input_taken c m inputs) outputs next
   fed kept b m fs w look feed made moved silent = record {
     bare = bare-pushed b fs w t ∙ stage.bare;
     rings =

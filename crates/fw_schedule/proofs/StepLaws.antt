@@ -1,7 +1,8 @@
 -- What a step says stays so as ids come behind those that are there.
-use Rattle.std.proofs.Common.{◌≡◌, ap, ◌∙◌, ℕ, ◌-◌, ◌≤◌, List, [], ◌∷◌, ◌++◌, length, length-append, take, drop, length-drop, arith}
+use Rattle.std.proofs.Common.{◌≡◌, refl, sym, ap, ◌∙◌, ℕ, zero, suc, ◌-◌, ◌≤◌, List, [], ◌∷◌, ◌++◌, length, length-append, take, drop, length-drop, arith}
 use Rattle.std.proofs.lemmas.List.{drop-append-le, take-append-le, take_all}
 use Rattle.std.proofs.Math.Seq.{drop-append_seam}
+use Rattle.std.specs.Prelude.{slice_get}
 use Rattle.std.specs.List.{AllByRecursion}
 use Rattle.stream_law.specs.State.{View}
 use Rattle.fw_schedule.specs.declared.steps.Step.{Step}
@@ -9,7 +10,7 @@ use Rattle.fw_schedule.specs.Schedules.{IsStepOf}
 
 -- ---- parts of lists
 
-front-more : (ids more : List ℕ) (a b : ℕ) → a ≤ b → b ≤ length ids → take (b - a) (drop a (ids ++ more)) ≡ take (b - a) (drop a ids)
+pub front-more : (ids more : List ℕ) (a b : ℕ) → a ≤ b → b ≤ length ids → take (b - a) (drop a (ids ++ more)) ≡ take (b - a) (drop a ids)
 front-more ids more a b some low =
     ap (take (b - a)) (drop-append-le a ids more (omega (arith, some, low)))
     ∙ take-append-le (b - a) (drop a ids) more (omega (arith, some, low, length-drop a ids))
@@ -20,6 +21,15 @@ behind ids more a b first past =
     ap (λ n. take (b - a) (drop n (ids ++ more))) first
     ∙ ap (take (b - a)) (drop-append_seam ids more)
     ∙ take_all (b - a) more (omega (arith, first, past, length-append ids more))
+
+-- the one at the place where a part ends the list is the part's first
+pub first-of : (ids part : List ℕ) (a b : ℕ) → take (b - a) (drop a ids) ≡ part → b ≡ length ids → slice_get ids a ≡ slice_get part 0
+first-of ids part a b is all = first-drop ids a ∙ ap (λ (xs : List ℕ). slice_get xs 0) (sym (take_all (b - a) (drop a ids) (omega (arith, all, length-drop a ids))) ∙ is)
+  where
+    first-drop : (xs : List ℕ) (k : ℕ) → slice_get xs k ≡ slice_get (drop k xs) 0
+    first-drop xs zero = refl
+    first-drop [] (suc k) = refl
+    first-drop (x ∷ xs) (suc k) = first-drop xs k
 
 -- ---- steps
 
@@ -32,8 +42,9 @@ step-more v ids more s is = record {
   period = is.period;
   rate = is.rate;
   fed = is.fed;
-  within = (is.within.0, omega (arith, is.within.1, length-append ids more));
-  inlets = front-more ids more s.first s.past is.within.0 is.within.1 ∙ is.inlets;
+  within = (is.within.0, is.within.1, omega (arith, is.within.2, length-append ids more));
+  inlets = front-more ids more s.first s.past is.within.0 (omega (arith, is.within.1, is.within.2)) ∙ is.inlets;
+  outlets = front-more ids more s.past s.end is.within.1 is.within.2 ∙ is.outlets;
 }
 
 pub steps-more : (v : View) (ids more : List ℕ) (ss : List Step) → AllByRecursion (IsStepOf v ids) ss → AllByRecursion (IsStepOf v (ids ++ more)) ss

@@ -13,6 +13,7 @@ use Rattle.stream_law.specs.Table.{list_of}
 use Rattle.stream_law.specs.Order.{is_among}
 use Rattle.stream_law.specs.Placed.{placed}
 use Rattle.stream_law.specs.Ways.{live, rate_of, channels_of}
+use Rattle.stream_law.specs.Seen.{flows}
 use Rattle.stream_law.specs.Move.{Audio}
 use Rattle.row_laws.specs.Wired.{IsWired, HasJoinedSides}
 use Rattle.row_laws.specs.Played.{AreStreamsPlayable}
@@ -20,12 +21,12 @@ use Rattle.fw_units.specs.declared.component.Unit as units
 use Rattle.fw_units.specs.declared.component.Unit.TheVariants.{Volume, Buffer}
 use Rattle.fw_units.specs.declared.component.Component.{Component}
 use Rattle.fw_units.specs.Units.{piece_of, comp_by, edge_by, kind_by, setting_by, ramp_by, streams_by, with_stream_by, ring_by, unit_frames, piece_by, pieces_by}
-use Rattle.fw_components.specs.Tables.{Tables, graph_of, view_by, streams_of, rings_of, carved_pieces}
+use Rattle.fw_components.specs.Tables.{Tables, graph_of, view_by, streams_of, rings_of, held_frames, carved_pieces}
 use Rattle.fw_units.specs.Changes.{has_id, IsOfHome}
 use Rattle.fw_components.specs.Kept.{IsKept, IsBuffering}
 use Rattle.fw_units.specs.Frames.{channels_by, taken_unit, taken_at, pushed_unit, pushed_at}
 use Rattle.fw_components.specs.Frames.{with_taken, pushed, with_frames}
-use Rattle.fw_units.specs.Processed.{drained_at, run_unit, run_at}
+use Rattle.fw_units.specs.Processed.{fed_at, drained_at, run_unit, run_at}
 use Rattle.fw_components.specs.Processed.{processed, ramp_frames_by}
 use Rattle.fw_components.specs.States.{AreOf}
 use Rattle.fw_schedule.specs.Ticks.{CanTick}
@@ -67,11 +68,11 @@ bare-taken b n t = bare-changed t t.comps (map (taken_at b n) t.buffers) refl (m
 pub bare-pushed : (b : ℕ) (fs : List Frame) (w : List ℤ) (t : Tables) → bare_of (pushed b fs w t) ≡ bare_of t
 bare-pushed b fs w t = bare-changed t t.comps (map (pushed_at b fs w) t.buffers) refl (map-same bare_by (pushed_at b fs w) (λ c. where-bare (pushed_unit fs w) (pushed-bare fs w) (c.id == b) c) t.buffers)
 
-pub bare-processed : (id n fed : ℕ) (looked : List ℕ) (fs : List Frame) (v w : List ℤ) (t : Tables) → bare_of (processed id looked n fed fs v w t) ≡ bare_of t
-bare-processed id n fed looked fs v w t =
-    bare-changed t (map (run_at id w n) t.comps) (map (pushed_at fed fs v) (map (drained_at looked n) t.buffers))
+pub bare-processed : (id n : ℕ) (looked fed : List ℕ) (fs : ℕ → List Frame) (v : ℕ → List ℤ) (w : List ℤ) (t : Tables) → bare_of (processed id looked n fed fs v w t) ≡ bare_of t
+bare-processed id n looked fed fs v w t =
+    bare-changed t (map (run_at id w n) t.comps) (map (fed_at fed fs v) (map (drained_at looked n) t.buffers))
     (map-same bare_by (run_at id w n) (λ c. where-bare (run_unit w n) (run-bare w n) (c.id == id) c) t.comps)
-    (map-same bare_by (pushed_at fed fs v) (λ c. where-bare (pushed_unit fs v) (pushed-bare fs v) (c.id == fed) c) (map (drained_at looked n) t.buffers)
+    (map-same bare_by (fed_at fed fs v) (λ c. where-bare (pushed_unit (fs c.id) (v c.id)) (pushed-bare (fs c.id) (v c.id)) (is_among fed c.id) c) (map (drained_at looked n) t.buffers)
     ∙ map-same bare_by (drained_at looked n) (λ c. where-bare (taken_unit n) (taken-bare n) (is_among looked c.id) c) t.buffers)
 
 -- ---- what is read of what is bare
@@ -213,8 +214,8 @@ module _ (v : View) where
 abbrev CanBy : View → Tables → Type 0
 CanBy v t = AreWide v t.comps × AreFramed v t.buffers × AreTied v t.comps
 
-pub can-still : (t u : Tables) → bare_of t ≡ bare_of u → CanTick t → CanTick u
-can-still t u same can =
+pub can-still : (t u : Tables) → bare_of t ≡ bare_of u → ((b : ℕ) → flows (view_by u) b ≡ false → held_frames u b ≡ []) → CanTick t → CanTick u
+can-still t u same none can =
     let view = view-still t u same in
     let bare : CanBy (view_by t) (bare_of t) = (wide-in (view_by t) t.comps can.shapes.comps, framed-in (view_by t) t.buffers can.shapes.buffers, tied-in (view_by t) t.comps can.shapes.ramps) in
     let moved : CanBy (view_by u) (bare_of u) = subst (λ (p : View × Tables). CanBy p.0 p.1) (λ i. (view i, same i)) bare in
@@ -223,6 +224,7 @@ can-still t u same can =
       linked = subst (λ (v : View). HasJoinedSides v.graph) view can.linked;
       played = subst AreStreamsPlayable view can.played;
       shapes = record { comps = wide-out (view_by u) u.comps moved.0; buffers = framed-out (view_by u) u.buffers moved.1; ramps = tied-out (view_by u) u.comps moved.2 };
+      empty = none;
     }
 
 -- ---- rings
@@ -248,6 +250,29 @@ rings-pushed b fs w t kept = all t.buffers kept.buffering
     all : (cs : List Component) → AllByRecursion (λ c. IsBuffering c.unit) cs → map ring_by (map (pushed_at b fs w) cs) ≡ map (with_frames (λ own. own ++ fs) b) (map ring_by cs)
     all [] are = refl
     all (c ∷ cs) are = λ i. where-frames (λ own. own ++ fs) (pushed_unit fs w) b c (pushed-frames fs w c.unit are.0.0) i ∷ all cs are.1 i
+
+-- a buffer holds none where the audio has none
+pub frames-none : (a : Audio) (cs : List Component) (rs : List RingView) → map ring_by cs ≡ map (heard_ring a) rs → (b : ℕ) → list_of a.rings b ≡ [] → option_map_or (λ c. unit_frames c.unit) (find (λ c. c.id == b) cs) [] ≡ []
+frames-none a [] rs same b none = refl
+frames-none a (c ∷ cs) [] same b none = absurd (cc same)
+frames-none a (c ∷ cs) (r ∷ rs) same b none = by (c.id == b) refl (frames-none a cs rs (cc same) b none)
+  where
+    first : ring_by c ≡ heard_ring a r
+    first = cc same
+
+    by : (h : Bool) → (c.id == b) ≡ h → option_map_or (λ c. unit_frames c.unit) (find (λ c. c.id == b) cs) [] ≡ [] → option_map_or (λ c. unit_frames c.unit) (cond h (Some c) (find (λ c. c.id == b) cs)) [] ≡ []
+    by true is rest =
+        ap (λ (r : RingView). r.frames) first ∙ ap (list_of a.rings) (sym (ap (λ (r : RingView). r.buffer) first) ∙ eqb-true c.id b is) ∙ none
+    by false is rest = rest
+
+-- what a list of rings has of a buffer is what it holds
+pub frames-listed : (cs : List Component) (b : ℕ) → list_of (map (λ (r : RingView). (r.buffer, r.frames)) (map ring_by cs)) b ≡ option_map_or (λ c. unit_frames c.unit) (find (λ c. c.id == b) cs) []
+frames-listed [] b = refl
+frames-listed (c ∷ cs) b = by (c.id == b) (frames-listed cs b)
+  where
+    by : (h : Bool) → list_of (map (λ (r : RingView). (r.buffer, r.frames)) (map ring_by cs)) b ≡ option_map_or (λ c. unit_frames c.unit) (find (λ c. c.id == b) cs) [] → cond h (unit_frames c.unit) (list_of (map (λ (r : RingView). (r.buffer, r.frames)) (map ring_by cs)) b) ≡ option_map_or (λ c. unit_frames c.unit) (cond h (Some c) (find (λ c. c.id == b) cs)) []
+    by true rest = refl
+    by false rest = rest
 
 -- the frames of a buffer that is there are those of the audio
 pub frames-heard : (a : Audio) (cs : List Component) (rs : List RingView) → map ring_by cs ≡ map (heard_ring a) rs → (b : ℕ) → has_id cs b ≡ true → option_map_or (λ c. unit_frames c.unit) (find (λ c. c.id == b) cs) [] ≡ list_of a.rings b

@@ -1,5 +1,5 @@
 // The buffers at a component that frames move along.
-ghost use Rattle.std.specs.Prelude.{◌≡◌, ◌≤◌, ◌+◌, ◌++◌, ◌&&◌, ◌||◌, not, find, length, option_copied, slice_get};
+ghost use Rattle.std.specs.Prelude.{◌≡◌, ◌≤◌, ◌+◌, ◌++◌, ◌&&◌, ◌||◌, not, length};
 ghost use Rattle.stream_law.specs.Ways.{is_end, live, active, active_end};
 ghost use Rattle.stream_law.specs.Moves.{fed_by, chooses as is_choosing};
 ghost use Rattle.fw_components.specs.Tables.{view_by};
@@ -10,22 +10,17 @@ use arrayvec::ArrayVec;
 use fw_components::{Component, Registry};
 use fw_walks::{active as is_active, live as is_live, sink_in, source_in};
 
-/// The first buffer that a component feeds.
-pub(crate) fn fed_of(registry: &Registry, id: u32) -> Option<u32>
-    ensures { result ≡ slice_get (fed_by (view_by registry.now) id) 0 }
+/// The buffers that a component feeds come behind the ids that are there.
+pub(crate) fn add_outlets(registry: &Registry, id: u32, ends: &mut ArrayVec<u32, 256>)
+    requires room { length ends.old.items + length (fed_by (view_by registry.now) id) ≤ 256 }
+    ensures { ends.new.items ≡ ends.old.items ++ fed_by (view_by registry.now) id }
 {
     let buffers = registry.buffers();
-    match buffer_from(buffers, registry, id) {
-        Some(buffer) => Some(buffer.id),
-        None => None,
+    for buffer in buffers {
+        if is_fed(registry, buffer, id) {
+            ends.push(buffer.id);
+        }
     }
-}
-
-// The first of these buffers that comes from a component and is fed.
-fn buffer_from<'a>(buffers: &'a [Component], registry: &Registry, id: u32) -> Option<&'a Component>
-    ensures { option_copied result ≡ find (λ b. is_end (source_by b.unit) id && (live (view_by registry.now) b.id && active_end (view_by registry.now) (sink_by b.unit))) buffers.now }
-{
-    buffers.iter().find(|buffer| is_fed(registry, buffer, id))
 }
 
 // Whether a buffer comes from a component and is fed.
@@ -39,20 +34,15 @@ fn is_fed(registry: &Registry, buffer: &Component, id: u32) -> bool
 
 /// The buffers that a component may look at come behind the ids that are there: all into it, or where it chooses those whose source
 /// is Active.
-pub(crate) fn add_inlets(
-    registry: &Registry,
-    id: u32,
-    chooses: bool,
-    inlets: &mut ArrayVec<u32, 128>,
-)
+pub(crate) fn add_inlets(registry: &Registry, id: u32, chooses: bool, ends: &mut ArrayVec<u32, 256>)
     requires chooses { chooses ≡ is_choosing (view_by registry.now) id }
-    requires room { length inlets.old.items + length (inlets_of (view_by registry.now) id) ≤ 128 }
-    ensures { inlets.new.items ≡ inlets.old.items ++ inlets_of (view_by registry.now) id }
+    requires room { length ends.old.items + length (inlets_of (view_by registry.now) id) ≤ 256 }
+    ensures { ends.new.items ≡ ends.old.items ++ inlets_of (view_by registry.now) id }
 {
     let buffers = registry.buffers();
     for buffer in buffers {
         if is_inlet(registry, buffer, id, chooses) {
-            inlets.push(buffer.id);
+            ends.push(buffer.id);
         }
     }
 }

@@ -3,9 +3,9 @@ ghost use Rattle.std.specs.Prelude.{◌≡◌, ◌+◌, ◌<◌, ◌≤◌, ◌+
 ghost use Rattle.std.specs.Option.{option_map_or};
 ghost use Rattle.stream_law.specs.Ways.{components};
 ghost use Rattle.fw_components.specs.Tables.{graph_of, view_by};
-ghost use Rattle.fw_schedule.specs.Schedules.{IsScheduleOf, IsStepOf, inlets_of};
+ghost use Rattle.fw_schedule.specs.Schedules.{IsScheduleOf, IsStepOf, step_edges};
 
-use crate::ends::{add_inlets, fed_of};
+use crate::ends::{add_inlets, add_outlets};
 use crate::ordering::order;
 use crate::steps::Step;
 use crate::units::{chooses, format_in, period_in};
@@ -15,11 +15,11 @@ use fw_walks::{active, kind_of};
 use sof_base::Params;
 
 /// A step for each component of a registry, in the order in which they move, and the ids of the buffers that they take frames
-/// from. A tick goes by it, and searches nothing. It takes no memory.
+/// from and that they feed. A tick goes by it, and searches nothing. It takes no memory.
 #[derive(Drop)]
 pub struct Schedule {
     pub(crate) steps: ArrayVec<Step, 128>,
-    pub(crate) inlets: ArrayVec<u32, 128>,
+    pub(crate) ends: ArrayVec<u32, 256>,
 }
 
 impl Schedule {
@@ -32,28 +32,30 @@ impl Schedule {
         // For the proof alone, which takes from it what a registry keeps.
         let _buffers = registry.buffers();
         let mut steps: ArrayVec<Step, 128> = ArrayVec::new();
-        let mut inlets: ArrayVec<u32, 128> = ArrayVec::new();
+        let mut ends: ArrayVec<u32, 256> = ArrayVec::new();
         for i in 0..places.len() {
-            let step = step_at(registry, usize::from(places[i]), &mut inlets);
+            let step = step_at(registry, usize::from(places[i]), &mut ends);
             steps.push(step);
         }
-        Schedule { steps, inlets }
+        Schedule { steps, ends }
     }
 }
 
-// The step of the component at a place, whose inlets come behind those that are there.
-fn step_at(registry: &Registry, at: usize, inlets: &mut ArrayVec<u32, 128>) -> Step
+// The step of the component at a place, whose inlets and then the buffers that it feeds come behind the ids that are there.
+fn step_at(registry: &Registry, at: usize, ends: &mut ArrayVec<u32, 256>) -> Step
     requires there { at < length registry.now.comps }
-    requires room { length inlets.old.items + length (inlets_of (view_by registry.now) (slice_index (components (graph_of registry.now)) at)) ≤ 128 }
+    requires room { length ends.old.items + length (step_edges (view_by registry.now) (slice_index (components (graph_of registry.now)) at)) ≤ 256 }
     ensures id { result.id ≡ slice_index (components (graph_of registry.now)) at }
-    ensures inlets { inlets.new.items ≡ inlets.old.items ++ inlets_of (view_by registry.now) result.id }
-    ensures step { IsStepOf (view_by registry.now) inlets.new.items result }
+    ensures ends { ends.new.items ≡ ends.old.items ++ step_edges (view_by registry.now) result.id }
+    ensures step { IsStepOf (view_by registry.now) ends.new.items result }
 {
     let comps = registry.comps();
     let comp = &comps[at];
     let kind = kind_of(&comp.unit);
-    let first = inlets.len();
-    add_inlets(registry, comp.id, chooses(kind), inlets);
+    let first = ends.len();
+    add_inlets(registry, comp.id, chooses(kind), ends);
+    let past = ends.len();
+    add_outlets(registry, comp.id, ends);
     let params = registry.live_params(comp.id);
     Step {
         id: comp.id,
@@ -63,9 +65,10 @@ fn step_at(registry: &Registry, at: usize, inlets: &mut ArrayVec<u32, 128>) -> S
         channels: channels_in(params),
         period: period_in(registry.pipes(), comp.pipe) / 1000,
         rate: rate_in(params),
-        fed: fed_of(registry, comp.id),
+        fed: ends.as_slice().get(past).copied(),
         first,
-        past: inlets.len(),
+        past,
+        end: ends.len(),
     }
 }
 

@@ -8,8 +8,8 @@ use sof_base::Format;
 use stream_law::Kind;
 
 /// A component that moves: its id and kind, the format of its samples where it is an endpoint, whether it is Active, how many
-/// channels it moves, the period of its pipeline in ticks, its frames a second, the buffer that it feeds, and where the ids of its
-/// inlets begin and end among those of all.
+/// channels it moves, the period of its pipeline in ticks, its frames a second, the first buffer that it feeds, and where the ids of
+/// its inlets begin and end among those of all; those of the buffers that it feeds come behind them, up to `end`.
 #[derive(Clone, Copy)]
 pub(crate) struct Step {
     pub(crate) id: u32,
@@ -22,6 +22,7 @@ pub(crate) struct Step {
     pub(crate) fed: Option<u32>,
     pub(crate) first: usize,
     pub(crate) past: usize,
+    pub(crate) end: usize,
 }
 
 impl Step {
@@ -61,6 +62,14 @@ impl Step {
     {
         &all[self.first..self.past]
     }
+
+    /// The buffers that it feeds, of those of all.
+    pub(crate) fn outlets<'a>(&self, all: &'a [u32]) -> &'a [u32]
+        requires { (self.now.past ≤ self.now.end) × (self.now.end ≤ length all.now) }
+        ensures { result.now ≡ slice_range all.now self.now.past self.now.end }
+    {
+        &all[self.past..self.end]
+    }
 }
 
 impl Default for Step {
@@ -77,6 +86,7 @@ impl Default for Step {
             fed: None,
             first: 0,
             past: 0,
+            end: 0,
         }
     }
 }

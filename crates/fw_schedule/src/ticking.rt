@@ -10,7 +10,8 @@ ghost use Rattle.stream_law.specs.State.{FwState};
 ghost use Rattle.stream_law.specs.Ways.{active, comp_of};
 ghost use Rattle.stream_law.specs.Endpoints.{is_input};
 ghost use Rattle.stream_law.specs.Moves.{runs, quota, fed_by, looked_at, least as least_of};
-ghost use Rattle.stream_law.specs.Move.{Move, next_clock};
+ghost use Rattle.stream_law.specs.Move.{next_clock};
+ghost use Rattle.stream_law.specs.TickMoves.{Move};
 ghost use Rattle.stream_law.specs.TickLaws.{clocked};
 ghost use Rattle.fw_heap.specs.declared.run.Home.{Home};
 ghost use Rattle.fw_components.specs.Tables.{graph_of, view_by, held_frames, capacity_at};
@@ -69,9 +70,9 @@ pub fn tick_by(
     let _inputs = io.len();
     let _outputs = out.len();
     let steps = schedule.steps.as_slice();
-    let inlets = schedule.inlets.as_slice();
+    let ends = schedule.ends.as_slice();
     for i in 0..steps.len() {
-        move_by(registry, io, out, scratch, &steps[i], inlets, clock);
+        move_by(registry, io, out, scratch, &steps[i], ends, clock);
     }
 }
 
@@ -82,11 +83,11 @@ fn move_by(
     out: &mut Outputs,
     scratch: &mut Scratch,
     step: &Step,
-    inlets: &[u32],
+    ends: &[u32],
     clock: u32,
 )
     requires can { CanTick registry.old }
-    requires step { IsStepOf (view_by registry.old) inlets.now step.now }
+    requires step { IsStepOf (view_by registry.old) ends.now step.now }
     requires room { 61440 ≤ room_at step.now.id out.old }
     ensures bare { bare_of registry.new ≡ bare_of registry.old }
     ensures grew { Grew (step.now.id ∷ []) out.old out.new }
@@ -94,7 +95,7 @@ fn move_by(
 {
     if step.runs(clock) {
         let most = step.quota(clock);
-        carry(registry, io, out, scratch, step, most, inlets);
+        carry(registry, io, out, scratch, step, most, ends);
     }
 }
 
@@ -106,10 +107,10 @@ fn carry(
     scratch: &mut Scratch,
     step: &Step,
     most: u32,
-    inlets: &[u32],
+    ends: &[u32],
 )
     requires can { CanTick registry.old }
-    requires step { IsStepOf (view_by registry.old) inlets.now step.now }
+    requires step { IsStepOf (view_by registry.old) ends.now step.now }
     requires active { active (view_by registry.old) step.now.id ≡ true }
     requires few { most ≤ 1920 }
     requires room { 61440 ≤ room_at step.now.id out.old }
@@ -120,9 +121,9 @@ fn carry(
     if reads(step.kind) {
         feed(registry, io, scratch, step, most);
     } else if writes(step.kind) {
-        drain(registry, out, step, most, inlets);
+        drain(registry, out, step, most, ends);
     } else {
-        process(registry, step, most, inlets);
+        process(registry, step, most, ends);
     }
 }
 
@@ -164,9 +165,9 @@ fn feed_into(
 }
 
 // A sink moves frames out of its buffer.
-fn drain(registry: &mut Registry, out: &mut Outputs, step: &Step, most: u32, inlets: &[u32])
+fn drain(registry: &mut Registry, out: &mut Outputs, step: &Step, most: u32, ends: &[u32])
     requires can { CanTick registry.old }
-    requires step { IsStepOf (view_by registry.old) inlets.now step.now }
+    requires step { IsStepOf (view_by registry.old) ends.now step.now }
     requires active { active (view_by registry.old) step.now.id ≡ true }
     requires kind { is_output_kind step.now.kind ≡ true }
     requires few { most ≤ 1920 }
@@ -177,7 +178,7 @@ fn drain(registry: &mut Registry, out: &mut Outputs, step: &Step, most: u32, inl
 {
     // For the proof alone, which takes from it what a registry keeps.
     let _comps = registry.comps();
-    if let Some(buffer) = step.inlets(inlets).first() {
+    if let Some(buffer) = step.inlets(ends).first() {
         drain_from(registry, out, step, most, *buffer);
     }
 }
@@ -203,10 +204,10 @@ fn drain_from(registry: &mut Registry, out: &mut Outputs, step: &Step, most: u32
     fill(out, step.id, zeros);
 }
 
-// Any other component moves frames from the buffers that it looks at into the one that it feeds.
-fn process(registry: &mut Registry, step: &Step, most: u32, inlets: &[u32])
+// Any other component moves frames from the buffers that it looks at into those that it feeds.
+fn process(registry: &mut Registry, step: &Step, most: u32, ends: &[u32])
     requires can { CanTick registry.old }
-    requires step { IsStepOf (view_by registry.old) inlets.now step.now }
+    requires step { IsStepOf (view_by registry.old) ends.now step.now }
     requires active { active (view_by registry.old) step.now.id ≡ true }
     requires kind { (not (is_input step.now.kind) && not (is_output_kind step.now.kind)) ≡ true }
     ensures bare { bare_of registry.new ≡ bare_of registry.old }
@@ -214,25 +215,27 @@ fn process(registry: &mut Registry, step: &Step, most: u32, inlets: &[u32])
 {
     // For the proof alone, which takes from it what a registry keeps.
     let _comps = registry.comps();
-    let Some(buffer) = step.fed else {
+    let fed = step.outlets(ends);
+    if fed.is_empty() {
         return;
-    };
-    let own = step.inlets(inlets);
+    }
+    let own = step.inlets(ends);
     if chooses(step.kind) {
         let looked = holding(registry, own);
-        pass(registry, step.id, most, looked.as_slice(), buffer);
+        pass(registry, step.id, most, looked.as_slice(), fed);
     } else {
-        pass(registry, step.id, most, own, buffer);
+        pass(registry, step.id, most, own, fed);
     }
 }
 
-// It moves as many frames as each buffer that it looks at holds, and as the one that it feeds has room for, at most so many.
-fn pass(registry: &mut Registry, id: u32, most: u32, looked: &[u32], buffer: u32)
+// It moves as many frames as each buffer that it looks at holds, and as each that it feeds has room for, at most so many.
+fn pass(registry: &mut Registry, id: u32, most: u32, looked: &[u32], fed: &[u32])
     requires can { CanTick registry.old }
     requires active { active (view_by registry.old) id ≡ true }
     requires kind { option_map_or (λ x. not (is_input x.kind) && not (is_output_kind x.kind)) (comp_of (graph_of registry.old) id) false ≡ true }
     requires looked { looked.now ≡ looked_at (view_by registry.old) (λ b. length (held_frames registry.old b)) id }
-    requires fed { slice_get (fed_by (view_by registry.old) id) 0 ≡ Some buffer }
+    requires fed { fed.now ≡ fed_by (view_by registry.old) id }
+    requires some { 1 ≤ length fed.now }
     ensures bare { bare_of registry.new ≡ bare_of registry.old }
     ensures moved { (clock : ℕ) (inputs : List InputView) (outputs : List OutputView) → runs (view_by registry.old) clock id ≡ true → most ≡ quota (view_by registry.old) clock id → Moves clock id registry.old inputs outputs registry.new inputs outputs }
 {
@@ -243,9 +246,9 @@ fn pass(registry: &mut Registry, id: u32, most: u32, looked: &[u32], buffer: u32
     if looked.is_empty() {
         return;
     }
-    let bound = most.min(registry.free(buffer));
+    let bound = least_free(registry, fed, most);
     let n = least_held(registry, looked, bound);
-    registry.process(id, looked, &[buffer], n);
+    registry.process(id, looked, fed, n);
 }
 
 // Of these buffers those that hold a frame.
@@ -261,6 +264,19 @@ fn holding(registry: &Registry, inlets: &[u32]) -> ArrayVec<u32, 8>
         }
     }
     holding
+}
+
+// The least of a number and of how many more frames each of these buffers has room for.
+fn least_free(registry: &Registry, fed: &[u32], most: u32) -> u32
+    requires { AllByRecursion (λ b. has_id registry.now.buffers b ≡ true) fed.now }
+    ensures least { result ≡ least_of most (map (λ b. capacity_at registry.now b - length (held_frames registry.now b)) fed.now) }
+    ensures fit { AllByRecursion (λ b. result + length (held_frames registry.now b) ≤ capacity_at registry.now b) fed.now }
+{
+    let mut n = most;
+    for b in fed {
+        n = n.min(registry.free(*b));
+    }
+    n
 }
 
 // The least of a number and of what each of these buffers holds.

@@ -63,7 +63,7 @@ pub(crate) fn least(kind: Kind, quota: u32) -> u32
     match kind {
         Kind::DaiPlay(_) => quota,
         Kind::HostPlay | Kind::HostCapture | Kind::DaiCapture(_) => 0,
-        Kind::Volume | Kind::Mixer | Kind::Mux | Kind::Eq => 0,
+        Kind::Volume | Kind::Mixer | Kind::Mux | Kind::Eq | Kind::Demux => 0,
     }
 }
 

@@ -1,6 +1,7 @@
 pub mod Draining
 pub mod Found
 pub mod FrameLaws
+pub mod OutletLaws
 pub mod Hinted
 pub mod Ids
 pub mod Inserting

@@ -1,20 +1,24 @@
 -- Two moves of a component, one after the other, are one move.
-use Rattle.std.proofs.Common.{◌≡◌, refl, sym, ap, ◌∙◌, subst, ℕ, ◌+◌, ◌≤◌, List, [], ◌∷◌, ◌++◌, map, drop, length, Bool, true, false, cond, ◌==◌, Option, Some, None, arith, ℤ, length-drop}
-use Rattle.std.proofs.lemmas.Bool.{eqb-true, eq-eqb, true≢false}
+use Rattle.std.proofs.Common.{◌≡◌, refl, sym, ap, ◌∙◌, subst, ℕ, ◌+◌, ◌≤◌, List, [], ◌∷◌, ◌++◌, map, drop, length, get_or, Bool, true, false, cond, ◌==◌, Option, Some, None, arith, ℤ, length-drop}
+use Rattle.std.proofs.lemmas.List.{length-map, map-append}
+use Rattle.std.proofs.lemmas.Bool.{eqb-true, true≢false}
 use Rattle.std.proofs.Math.Seq.{drop-nil}
 use Rattle.std.specs.Prelude.{find, option_map}
 use Rattle.std.specs.List.{AllByRecursion}
 use Rattle.std.specs.Option.{option_map_or}
 use Rattle.sof_base.specs.Samples.{Frame}
+use Rattle.sof_base.specs.Masks.{kept_of}
+use Rattle.stream_law.specs.declared.graph.Join.{Join}
 use Rattle.stream_law.specs.Order.{is_among}
 use Rattle.stream_law.specs.Table.{table}
 use Rattle.fw_units.specs.declared.component.Unit as units
-use Rattle.fw_units.specs.declared.component.Unit.TheVariants.{Volume, Buffer}
+use Rattle.fw_units.specs.declared.component.Unit.TheVariants.{Volume, Demux, Buffer}
 use Rattle.fw_units.specs.declared.component.Component.{Component}
 use Rattle.fw_units.specs.Units.{unit_frames, capacity_by}
-use Rattle.fw_units.specs.Frames.{channels_by, buffer_frames, taken_unit, taken_by, pushed_unit, pushed_by, pushed_at}
-use Rattle.fw_units.specs.Processed.{moves_of, IsLevel, IsInlet, IsOutlet, drained_at, run_unit}
+use Rattle.fw_units.specs.Frames.{channels_by, buffer_frames, taken_unit, taken_by, pushed_unit, pushed_by}
+use Rattle.fw_units.specs.Processed.{moves_of, feeds_of, chosen_by, IsLevel, IsInlet, IsOutlet, output_frames, fed_at, drained_at, run_unit}
 use Rattle.fw_units.proofs.Ids.{has-map}
+use Rattle.fw_units.proofs.MadeLaws.{all-among}
 use Rattle.fw_units.proofs.RunLaws.{done-add}
 use Rattle.fw_units.proofs.Units.{taken-unit, pushed-unit, taken-channels, pushed-channels, taken-capacity, pushed-capacity, taken-frames, pushed-most}
 
@@ -30,7 +34,29 @@ run-kind w a n u = refl
 
 pub run-level : (w : List ℤ) (a : ℕ) (u : units.Unit) → IsLevel u → IsLevel (run_unit w a u)
 run-level w a (Volume gains ramp from done frames piece) level = level
+run-level w a (Demux masks piece) level = level
 run-level w a u level = tt
+
+pub run-feeds : (w : List ℤ) (a n : ℕ) (u : units.Unit) → feeds_of (run_unit w a u) n ≡ feeds_of u n
+run-feeds w a n (Buffer size ring source sink) = refl
+run-feeds w a n u = refl
+
+pub run-chosen : (w : List ℤ) (a id : ℕ) (u : units.Unit) (joins : List Join) → chosen_by (run_unit w a u) id joins ≡ chosen_by u id joins
+run-chosen w a id (Buffer size ring source sink) joins = refl
+run-chosen w a id u joins = refl
+
+-- what an output gets, of a unit that has moved frames, of frames and more, and how many
+pub run-output : (w : List ℤ) (a channels k : ℕ) (u : units.Unit) (fs : List Frame) → output_frames (run_unit w a u) channels k fs ≡ output_frames u channels k fs
+run-output w a channels k (Buffer size ring source sink) fs = refl
+run-output w a channels k u fs = refl
+
+pub output-more : (channels k : ℕ) (u : units.Unit) (xs ys : List Frame) → output_frames u channels k (xs ++ ys) ≡ output_frames u channels k xs ++ output_frames u channels k ys
+output-more channels k (Demux masks piece) xs ys = map-append (kept_of channels (get_or masks k 0)) xs ys
+output-more channels k u xs ys = refl
+
+pub output-length : (channels k : ℕ) (u : units.Unit) (fs : List Frame) → length (output_frames u channels k fs) ≡ length fs
+output-length channels k (Demux masks piece) fs = length-map fs (kept_of channels (get_or masks k 0))
+output-length channels k u fs = refl
 
 -- what a ring keeps when frames are taken and pushed
 pub record Keeps {X : Type 0} (g : units.Unit → X) : Type 0 where
@@ -63,9 +89,16 @@ found-id b (x ∷ cs) c e = by (x.id == b) (eqb-true x.id b) e (found-id b cs c)
 
 -- ---- one buffer of a table
 
-module _ (looked : List ℕ) (fed : ℕ) (apart : is_among looked fed ≡ false) where
-  abbrev after : ℕ → List Frame → List ℤ → Component → Component
-  after n fs w c = pushed_at fed fs w (drained_at looked n c)
+pub fed-id : (fed : List ℕ) (fs : ℕ → List Frame) (w : ℕ → List ℤ) (c : Component) → (fed_at fed fs w c).id ≡ c.id
+fed-id fed fs w c = by (is_among fed c.id)
+  where
+    by : (h : Bool) → (cond {A = Component} h (pushed_by (fs c.id) (w c.id) c) c).id ≡ c.id
+    by true = refl
+    by false = refl
+
+module _ (looked fed : List ℕ) (apart : AllByRecursion (λ b. is_among looked b ≡ false) fed) where
+  abbrev after : ℕ → (ℕ → List Frame) → (ℕ → List ℤ) → Component → Component
+  after n fs w c = fed_at fed fs w (drained_at looked n c)
 
   pub drained-id : (n : ℕ) (c : Component) → (drained_at looked n c).id ≡ c.id
   drained-id n c = by (is_among looked c.id)
@@ -74,62 +107,62 @@ module _ (looked : List ℕ) (fed : ℕ) (apart : is_among looked fed ≡ false)
       by true = refl
       by false = refl
 
-  pub pushed-id : (fs : List Frame) (w : List ℤ) (c : Component) → (pushed_at fed fs w c).id ≡ c.id
-  pushed-id fs w c = by (c.id == fed)
-    where
-      by : (h : Bool) → (cond {A = Component} h (pushed_by fs w c) c).id ≡ c.id
-      by true = refl
-      by false = refl
-
-  after-id : (n : ℕ) (fs : List Frame) (w : List ℤ) (c : Component) → (after n fs w c).id ≡ c.id
-  after-id n fs w c = pushed-id fs w (drained_at looked n c) ∙ drained-id n c
+  after-id : (n : ℕ) (fs : ℕ → List Frame) (w : ℕ → List ℤ) (c : Component) → (after n fs w c).id ≡ c.id
+  after-id n fs w c = fed-id fed fs w (drained_at looked n c) ∙ drained-id n c
 
   -- what becomes of a buffer, by what it is to the component
-  is-looked : (n : ℕ) (fs : List Frame) (w : List ℤ) (c : Component) → is_among looked c.id ≡ true → (c.id == fed) ≡ false → after n fs w c ≡ taken_by n c
+  is-looked : (n : ℕ) (fs : ℕ → List Frame) (w : ℕ → List ℤ) (c : Component) → is_among looked c.id ≡ true → is_among fed c.id ≡ false → after n fs w c ≡ taken_by n c
   is-looked n fs w c looks other =
-      ap (λ (x : Component). pushed_at fed fs w x) (ap (λ h. cond {A = Component} h (taken_by n c) c) looks) ∙ ap (λ h. cond {A = Component} h (pushed_by fs w (taken_by n c)) (taken_by n c)) other
+      ap (λ (x : Component). fed_at fed fs w x) (ap (λ h. cond {A = Component} h (taken_by n c) c) looks) ∙ ap (λ h. cond {A = Component} h (pushed_by (fs c.id) (w c.id) (taken_by n c)) (taken_by n c)) other
 
-  is-fed : (n : ℕ) (fs : List Frame) (w : List ℤ) (c : Component) → is_among looked c.id ≡ false → (c.id == fed) ≡ true → after n fs w c ≡ pushed_by fs w c
+  is-fed : (n : ℕ) (fs : ℕ → List Frame) (w : ℕ → List ℤ) (c : Component) → is_among looked c.id ≡ false → is_among fed c.id ≡ true → after n fs w c ≡ pushed_by (fs c.id) (w c.id) c
   is-fed n fs w c looks it =
-      ap (λ (x : Component). pushed_at fed fs w x) (ap (λ h. cond {A = Component} h (taken_by n c) c) looks) ∙ ap (λ h. cond {A = Component} h (pushed_by fs w c) c) it
+      ap (λ (x : Component). fed_at fed fs w x) (ap (λ h. cond {A = Component} h (taken_by n c) c) looks) ∙ ap (λ h. cond {A = Component} h (pushed_by (fs c.id) (w c.id) c) c) it
 
-  is-other : (n : ℕ) (fs : List Frame) (w : List ℤ) (c : Component) → is_among looked c.id ≡ false → (c.id == fed) ≡ false → after n fs w c ≡ c
+  is-other : (n : ℕ) (fs : ℕ → List Frame) (w : ℕ → List ℤ) (c : Component) → is_among looked c.id ≡ false → is_among fed c.id ≡ false → after n fs w c ≡ c
   is-other n fs w c looks other =
-      ap (λ (x : Component). pushed_at fed fs w x) (ap (λ h. cond {A = Component} h (taken_by n c) c) looks) ∙ ap (λ h. cond {A = Component} h (pushed_by fs w c) c) other
+      ap (λ (x : Component). fed_at fed fs w x) (ap (λ h. cond {A = Component} h (taken_by n c) c) looks) ∙ ap (λ h. cond {A = Component} h (pushed_by (fs c.id) (w c.id) c) c) other
 
   -- a buffer is not both
-  not-both : (c : Component) → (c.id == fed) ≡ true → is_among looked c.id ≡ false
-  not-both c it = ap (is_among looked) (eqb-true c.id fed it) ∙ apart
+  not-both : (id : ℕ) → is_among fed id ≡ true → is_among looked id ≡ false
+  not-both id it = all-among (λ b. is_among looked b ≡ false) id fed it apart
 
-  after-twice : (a m : ℕ) (xs ys : List Frame) (v w : List ℤ) (c : Component) → after m ys w (after a xs v c) ≡ after (a + m) (xs ++ ys) w c
-  after-twice a m xs ys v w c = by (c.id == fed) (is_among looked c.id) refl refl
+  not-fed : (id : ℕ) → is_among looked id ≡ true → is_among fed id ≡ false
+  not-fed id looks = by (is_among fed id) refl
     where
-      by : (feeds looks : Bool) → (c.id == fed) ≡ feeds → is_among looked c.id ≡ looks → after m ys w (after a xs v c) ≡ after (a + m) (xs ++ ys) w c
+      by : (h : Bool) → is_among fed id ≡ h → is_among fed id ≡ false
+      by true it = absurd (true≢false (sym looks ∙ not-both id it))
+      by false it = it
+
+  after-twice : (a m : ℕ) (xs ys : ℕ → List Frame) (v w : ℕ → List ℤ) (c : Component) → after m ys w (after a xs v c) ≡ after (a + m) (λ b. xs b ++ ys b) w c
+  after-twice a m xs ys v w c = by (is_among fed c.id) (is_among looked c.id) refl refl
+    where
+      by : (feeds looks : Bool) → is_among fed c.id ≡ feeds → is_among looked c.id ≡ looks → after m ys w (after a xs v c) ≡ after (a + m) (λ b. xs b ++ ys b) w c
       by true looks it is =
-          ap (after m ys w) (is-fed a xs v c (not-both c it) it)
-          ∙ is-fed m ys w (pushed_by xs v c) (not-both c it) it
-          ∙ ap (λ u. record { id = c.id; pipe = c.pipe; channels = c.channels; unit = u }) (pushed-unit xs ys v w c.unit)
-          ∙ sym (is-fed (a + m) (xs ++ ys) w c (not-both c it) it)
+          ap (after m ys w) (is-fed a xs v c (not-both c.id it) it)
+          ∙ is-fed m ys w (pushed_by (xs c.id) (v c.id) c) (not-both c.id it) it
+          ∙ ap (λ u. record { id = c.id; pipe = c.pipe; channels = c.channels; unit = u }) (pushed-unit (xs c.id) (ys c.id) (v c.id) (w c.id) c.unit)
+          ∙ sym (is-fed (a + m) (λ b. xs b ++ ys b) w c (not-both c.id it) it)
       by false true it is =
           ap (after m ys w) (is-looked a xs v c is it)
           ∙ is-looked m ys w (taken_by a c) is it
           ∙ ap (λ u. record { id = c.id; pipe = c.pipe; channels = c.channels; unit = u }) (taken-unit a m c.unit)
-          ∙ sym (is-looked (a + m) (xs ++ ys) w c is it)
+          ∙ sym (is-looked (a + m) (λ b. xs b ++ ys b) w c is it)
       by false false it is =
           ap (after m ys w) (is-other a xs v c is it)
           ∙ is-other m ys w c is it
-          ∙ sym (is-other (a + m) (xs ++ ys) w c is it)
+          ∙ sym (is-other (a + m) (λ b. xs b ++ ys b) w c is it)
 
-  abbrev tables : ℕ → List Frame → List ℤ → List Component → List Component
-  tables n fs w cs = map (pushed_at fed fs w) (map (drained_at looked n) cs)
+  abbrev tables : ℕ → (ℕ → List Frame) → (ℕ → List ℤ) → List Component → List Component
+  tables n fs w cs = map (fed_at fed fs w) (map (drained_at looked n) cs)
 
-  pub tables-twice : (a m : ℕ) (xs ys : List Frame) (v w : List ℤ) (cs : List Component) → tables m ys w (tables a xs v cs) ≡ tables (a + m) (xs ++ ys) w cs
+  pub tables-twice : (a m : ℕ) (xs ys : ℕ → List Frame) (v w : ℕ → List ℤ) (cs : List Component) → tables m ys w (tables a xs v cs) ≡ tables (a + m) (λ b. xs b ++ ys b) w cs
   tables-twice a m xs ys v w [] = refl
   tables-twice a m xs ys v w (c ∷ cs) = (λ i. after-twice a m xs ys v w c i ∷ tables-twice a m xs ys v w cs i)
 
   -- ---- what is found in the table
 
-  find-after : (n : ℕ) (fs : List Frame) (w : List ℤ) (b : ℕ) (cs : List Component) → find (λ c. c.id == b) (tables n fs w cs) ≡ option_map (after n fs w) (find (λ c. c.id == b) cs)
+  find-after : (n : ℕ) (fs : ℕ → List Frame) (w : ℕ → List ℤ) (b : ℕ) (cs : List Component) → find (λ c. c.id == b) (tables n fs w cs) ≡ option_map (after n fs w) (find (λ c. c.id == b) cs)
   find-after n fs w b [] = refl
   find-after n fs w b (c ∷ cs) =
       ap (λ k. cond (k == b) (Some (after n fs w c)) (find (λ c. c.id == b) (tables n fs w cs))) (after-id n fs w c) ∙ by (c.id == b) (find-after n fs w b cs)
@@ -138,13 +171,13 @@ module _ (looked : List ℕ) (fed : ℕ) (apart : is_among looked fed ≡ false)
       by true rest = refl
       by false rest = rest
 
-  module _ (n : ℕ) (fs : List Frame) (w : List ℤ) (cs : List Component) where
+  module _ (n : ℕ) (fs : ℕ → List Frame) (w : ℕ → List ℤ) (cs : List Component) where
     -- what a ring keeps
     kept-at : {X : Type 0} (g : units.Unit → X) → Keeps g → (c : Component) → g (after n fs w c).unit ≡ g c.unit
-    kept-at {X} g keeps c = by (c.id == fed) (is_among looked c.id) refl refl
+    kept-at {X} g keeps c = by (is_among fed c.id) (is_among looked c.id) refl refl
       where
-        by : (feeds looks : Bool) → (c.id == fed) ≡ feeds → is_among looked c.id ≡ looks → g (after n fs w c).unit ≡ g c.unit
-        by true looks it is = ap (λ (x : Component). g x.unit) (is-fed n fs w c (not-both c it) it) ∙ keeps.pushed fs w c.unit
+        by : (feeds looks : Bool) → is_among fed c.id ≡ feeds → is_among looked c.id ≡ looks → g (after n fs w c).unit ≡ g c.unit
+        by true looks it is = ap (λ (x : Component). g x.unit) (is-fed n fs w c (not-both c.id it) it) ∙ keeps.pushed (fs c.id) (w c.id) c.unit
         by false true it is = ap (λ (x : Component). g x.unit) (is-looked n fs w c is it) ∙ keeps.taken n c.unit
         by false false it is = ap (λ (x : Component). g x.unit) (is-other n fs w c is it)
 
@@ -164,37 +197,32 @@ module _ (looked : List ℕ) (fed : ℕ) (apart : is_among looked fed ≡ false)
         by (Some c) is =
             let id = found-id b cs c is in
             let looks_there : is_among looked c.id ≡ true = ap (is_among looked) id ∙ looks in
-            ap (λ (x : Component). unit_frames x.unit) (is-looked n fs w c looks_there (other c looks_there)) ∙ taken-frames n c.unit
-          where
-            other : (c : Component) → is_among looked c.id ≡ true → (c.id == fed) ≡ false
-            other c looks = test (c.id == fed) refl
-              where
-                test : (h : Bool) → (c.id == fed) ≡ h → (c.id == fed) ≡ false
-                test true it = absurd (true≢false (sym looks ∙ not-both c it))
-                test false it = it
+            ap (λ (x : Component). unit_frames x.unit) (is-looked n fs w c looks_there (not-fed c.id looks_there)) ∙ taken-frames n c.unit
 
-    -- and of the one that is fed
-    frames-most : length (buffer_frames (tables n fs w cs) fed) ≤ length (buffer_frames cs fed) + length fs
-    frames-most = subst (λ (o : Option Component). length (option_map_or (λ c. unit_frames c.unit) o []) ≤ length (buffer_frames cs fed) + length fs) (sym (find-after n fs w fed cs)) (by (find (λ c. c.id == fed) cs) refl)
+    -- and of one that is fed
+    frames-most : (b : ℕ) → is_among fed b ≡ true → length (buffer_frames (tables n fs w cs) b) ≤ length (buffer_frames cs b) + length (fs b)
+    frames-most b it = subst (λ (o : Option Component). length (option_map_or (λ c. unit_frames c.unit) o []) ≤ length (buffer_frames cs b) + length (fs b)) (sym (find-after n fs w b cs)) (by (find (λ c. c.id == b) cs) refl)
       where
-        by : (o : Option Component) → find (λ c. c.id == fed) cs ≡ o → length (option_map_or (λ c. unit_frames c.unit) (option_map (after n fs w) o) []) ≤ length (option_map_or (λ c. unit_frames c.unit) o []) + length fs
+        by : (o : Option Component) → find (λ c. c.id == b) cs ≡ o → length (option_map_or (λ c. unit_frames c.unit) (option_map (after n fs w) o) []) ≤ length (option_map_or (λ c. unit_frames c.unit) o []) + length (fs b)
         by None is = omega arith
         by (Some c) is =
-            let id = found-id fed cs c is in
-            subst (λ (x : Component). length (unit_frames x.unit) ≤ length (unit_frames c.unit) + length fs) (sym (is-fed n fs w c (ap (is_among looked) id ∙ apart) (eq-eqb c.id fed id))) (pushed-most fs w c.unit)
+            let id = found-id b cs c is in
+            let there : is_among fed c.id ≡ true = ap (is_among fed) id ∙ it in
+            subst (λ (x : Component). length (unit_frames x.unit) ≤ length (unit_frames c.unit) + length (fs b)) (sym (is-fed n fs w c (not-both c.id there) there))
+            (subst (λ k. length (unit_frames (pushed_unit (fs c.id) (w c.id) c.unit)) ≤ length (unit_frames c.unit) + length (fs k)) id (pushed-most (fs c.id) (w c.id) c.unit))
 
     -- ---- what the component can still move
 
     pub inlet-left : (channels m b : ℕ) → is_among looked b ≡ true → IsInlet cs channels (n + m) b → IsInlet (tables n fs w cs) channels m b
     inlet-left channels m b looks inlet = record {
-      there = has-map (pushed_at fed fs w) (pushed-id fs w) b (map (drained_at looked n) cs) ∙ has-map (drained_at looked n) (drained-id n) b cs ∙ inlet.there;
+      there = has-map (fed_at fed fs w) (fed-id fed fs w) b (map (drained_at looked n) cs) ∙ has-map (drained_at looked n) (drained-id n) b cs ∙ inlet.there;
       shape = kept-in channels_by 1 keeps-channels b ∙ inlet.shape;
       held = omega (arith, inlet.held, ap length (frames-left b looks), length-drop n (buffer_frames cs b));
     }
 
-    pub outlet-left : (channels m : ℕ) → length fs ≡ n → IsOutlet cs channels (n + m) fed → IsOutlet (tables n fs w cs) channels m fed
-    outlet-left channels m count outlet = record {
-      there = has-map (pushed_at fed fs w) (pushed-id fs w) fed (map (drained_at looked n) cs) ∙ has-map (drained_at looked n) (drained-id n) fed cs ∙ outlet.there;
-      shape = kept-in channels_by 1 keeps-channels fed ∙ outlet.shape;
-      room = omega (arith, outlet.room, frames-most, count, kept-in capacity_by 0 keeps-capacity fed);
+    pub outlet-left : (channels m b : ℕ) → is_among fed b ≡ true → length (fs b) ≡ n → IsOutlet cs channels (n + m) b → IsOutlet (tables n fs w cs) channels m b
+    outlet-left channels m b it count outlet = record {
+      there = has-map (fed_at fed fs w) (fed-id fed fs w) b (map (drained_at looked n) cs) ∙ has-map (drained_at looked n) (drained-id n) b cs ∙ outlet.there;
+      shape = kept-in channels_by 1 keeps-channels b ∙ outlet.shape;
+      room = omega (arith, outlet.room, frames-most b it, count, kept-in capacity_by 0 keeps-capacity b);
     }

@@ -17,7 +17,7 @@ use Rattle.stream_law.specs.Ramps.{ramped_frames, ramp_place}
 use Rattle.stream_law.proofs.Ramping.{frames-append, frames-numbers, from-numbers, place-numbers}
 use Rattle.stream_law.proofs.Equalising.{passed_frames-append, numbers_after-append}
 use Rattle.fw_units.specs.declared.component.Unit as units
-use Rattle.fw_units.specs.declared.component.Unit.TheVariants.{Host, Dai, Volume, Mixer, Mux, Eq, Buffer, Pipeline}
+use Rattle.fw_units.specs.declared.component.Unit.TheVariants.{Host, Dai, Volume, Mixer, Mux, Eq, Demux, Buffer, Pipeline}
 use Rattle.fw_units.specs.Units.{numbers_by}
 use Rattle.fw_units.specs.Processed.{made_frames, made_numbers, done_after, run_unit}
 
@@ -129,6 +129,7 @@ module _ (F : ℕ → List Frame) (a m : ℕ) where
       ap (passed_frames eq.blob channels (numbers_of eq channels)) (only-more looked)
       ∙ passed_frames-append eq.blob channels (numbers_of eq channels) (only_slice (first looked)) (only_slice (rest looked))
       ∙ ap (λ (numbers : List ℤ). passed_frames eq.blob channels (numbers_of eq channels) (only_slice (first looked)) ++ passed_frames eq.blob channels numbers (only_slice (rest looked))) (sym is)
+  made-more (Demux masks piece) words channels chosen looked is = only-more looked
   made-more (Buffer size ring source sink) words channels chosen looked is = refl
   made-more (Pipeline sched period complete piece) words channels chosen looked is = refl
 

@@ -1,7 +1,6 @@
--- One step of a move: frames are taken out of the buffers that are looked at, and what is made of them is put into one.
-use Rattle.std.proofs.Common.{◌≡◌, refl, sym, ap, ◌∙◌, subst, ℕ, ◌+◌, ◌*◌, ◌/◌, ◌%◌, ◌≤◌, List, [], ◌∷◌, map, length, Bool, true, false, cond, ◌==◌, Option, Some, arith, ℤ}
+-- One step of a move: frames are taken out of the buffers that are looked at, and what is made of them is put into those that are fed.
+use Rattle.std.proofs.Common.{◌≡◌, refl, sym, ap, ◌∙◌, subst, ℕ, ◌+◌, ◌≤◌, List, [], ◌∷◌, map, length, Bool, true, false, cond, ◌==◌, Option, Some, arith, ℤ}
 use Rattle.std.proofs.lemmas.Bool.{eqb-true, eq-eqb, false_from_ne_true}
-use Rattle.std.proofs.Math.Nat.{mul-div_cancel, mul-mod_left}
 use Rattle.std.specs.Prelude.{find}
 use Rattle.std.specs.List.{AllByRecursion}
 use Rattle.std.specs.Option.{option_map_or}
@@ -12,12 +11,12 @@ use Rattle.stream_law.specs.Placed.{AreAbove, Ascends}
 use Rattle.fw_units.specs.declared.component.Component.{Component}
 use Rattle.fw_units.specs.Units.{unit_frames, capacity_by}
 use Rattle.fw_units.specs.Changes.{has_id}
-use Rattle.fw_units.specs.Frames.{words_by, channels_by, buffer_frames, channels_in, capacity_in, taken_by, pushed_at}
-use Rattle.fw_units.specs.Processed.{drained_at}
+use Rattle.fw_units.specs.Frames.{channels_by, taken_by}
+use Rattle.fw_units.specs.Processed.{IsOutlet, output_frames, fed_at, drained_at, run_by}
 use Rattle.fw_units.specs.Moving.{CanMove}
-use Rattle.fw_units.proofs.Ids.{has-map}
+use Rattle.fw_units.proofs.Ids.{all-with, has-map}
 use Rattle.fw_units.proofs.Ids.{ascends-map}
-use Rattle.fw_units.proofs.MovedLaws.{drained-id}
+use Rattle.fw_units.proofs.MovedLaws.{drained-id, run-output}
 
 -- ---- each component is found by its id
 
@@ -57,35 +56,29 @@ find-apart looked n b (c ∷ cs) apart = by (c.id == b) refl (find-apart looked 
             test true = refl
             test false = refl
 
--- ---- the buffer that is fed
+-- ---- the buffers that are fed
 
-module _ (bs : List Component) (looked : List ℕ) (fed n : ℕ) (c : Component) (can : CanMove bs looked fed n c) (wide : 1 ≤ c.channels) (mid : List Component) (drained : mid ≡ map (drained_at looked n) bs) where
-  found-fed : find (λ x. x.id == fed) mid ≡ find (λ x. x.id == fed) bs
-  found-fed = ap (find (λ (x : Component). x.id == fed)) drained ∙ find-apart looked n fed bs can.apart
-
-  mid-channels : channels_in mid fed ≡ c.channels
-  mid-channels = ap (λ (o : Option Component). option_map_or (λ x. channels_by x.unit) o 1) found-fed ∙ can.outlet.shape
-
-  pub mid-there : has_id mid fed ≡ true
-  mid-there = ap (λ (xs : List Component). has_id xs fed) drained ∙ has-map (drained_at looked n) (drained-id looked fed can.apart n) fed bs ∙ can.outlet.there
-
+module _ (bs : List Component) (looked fed : List ℕ) (n : ℕ) (c : Component) (can : CanMove bs looked fed n c) (mid : List Component) (drained : mid ≡ map (drained_at looked n) bs) where
   pub mid-ascends : Ascends (λ x. x.id) mid
   mid-ascends = subst (Ascends (λ x. x.id)) (sym drained) (ascends-map (drained_at looked n) (drained-id looked fed can.apart n) bs can.ascends)
 
-  module _ (samples : List ℤ) (long : length samples ≡ n * c.channels) where
-    mid-count : length samples / channels_in mid fed ≡ n
-    mid-count = (λ i. long i / mid-channels i) ∙ mul-div_cancel n (omega (arith, wide))
+  mid-outlet : (b : ℕ) → is_among looked b ≡ false → IsOutlet bs c.channels n b → IsOutlet mid c.channels n b
+  mid-outlet b apart outlet =
+      let found : find (λ x. x.id == b) mid ≡ find (λ x. x.id == b) bs = ap (find (λ (x : Component). x.id == b)) drained ∙ find-apart looked n b bs apart in
+      record {
+        there = ap (λ (xs : List Component). has_id xs b) drained ∙ has-map (drained_at looked n) (drained-id looked fed can.apart n) b bs ∙ outlet.there;
+        shape = ap (λ (o : Option Component). option_map_or (λ x. channels_by x.unit) o 1) found ∙ outlet.shape;
+        room = subst (λ (o : Option Component). length (option_map_or (λ x. unit_frames x.unit) o []) + n ≤ option_map_or (λ x. capacity_by x.unit) o 0) (sym found) outlet.room;
+      }
 
-    pub mid-whole : length samples % channels_in mid fed ≡ 0
-    mid-whole = (λ i. long i % mid-channels i) ∙ mul-mod_left n c.channels
+  pub mid-outlets : AllByRecursion (IsOutlet mid c.channels n) fed
+  mid-outlets = all-with (λ b. is_among looked b ≡ false) (IsOutlet bs c.channels n) (IsOutlet mid c.channels n) mid-outlet fed can.apart can.outlets
 
-    pub mid-fit : length (buffer_frames mid fed) + length samples / channels_in mid fed ≤ capacity_in mid fed
-    mid-fit =
-        let same : length (buffer_frames mid fed) ≡ length (buffer_frames bs fed) = ap (λ (o : Option Component). length (option_map_or (λ x. unit_frames x.unit) o [])) found-fed in
-        let room : capacity_in mid fed ≡ capacity_in bs fed = ap (λ (o : Option Component). option_map_or (λ x. capacity_by x.unit) o 0) found-fed in
-        omega (arith, same, room, mid-count, can.outlet.room)
-
-    pub step-table : (new : List Component) (frames : List Frame) → frames_of c.channels n samples ≡ frames → new ≡ map (pushed_at fed (frames_of (channels_in mid fed) (length samples / channels_in mid fed) samples) (words_by (find (λ x. x.id == fed) new))) mid → new ≡ map (pushed_at fed frames (words_by (find (λ x. x.id == fed) new))) (map (drained_at looked n) bs)
-    step-table new frames made pushed =
-        let same : frames_of (channels_in mid fed) (length samples / channels_in mid fed) samples ≡ frames = (λ i. frames_of (mid-channels i) (mid-count i) samples) ∙ made in
-        pushed ∙ (λ i. map (pushed_at fed (same i) (words_by (find (λ x. x.id == fed) new))) (drained i))
+  -- what is given by the component that has moved the frames
+  pub step-table : (numbers : ℕ → ℕ → ℕ) (own : List ℤ) (x : Component) (words : ℕ → List ℤ) (new : List Component) (samples : List ℤ) (frames : List Frame) → x ≡ run_by own n c → frames_of c.channels n samples ≡ frames
+      → new ≡ map (fed_at fed (λ b. output_frames x.unit x.channels (numbers x.id b) (frames_of x.channels n samples)) words) mid
+      → new ≡ map (fed_at fed (λ b. output_frames c.unit c.channels (numbers c.id b) frames) words) (map (drained_at looked n) bs)
+  step-table numbers own x words new samples frames is made given =
+      given
+      ∙ (λ i. map (fed_at fed (λ b. output_frames (is i).unit (is i).channels (numbers (is i).id b) (frames_of (is i).channels n samples)) words) mid)
+      ∙ (λ i. map (fed_at fed (λ b. run-output own n c.channels (numbers c.id b) c.unit (made i) i) words) (drained i))

@@ -15,7 +15,7 @@ use Rattle.stream_law.specs.declared.stream.StreamView.{StreamView}
 use Rattle.stream_law.specs.State.{PieceView, RingView, Staging}
 use Rattle.stream_law.specs.Placed.{placed}
 use Rattle.fw_units.specs.declared.component.Unit.{Unit}
-use Rattle.fw_units.specs.declared.component.Unit.TheVariants.{Host, Dai, Volume, Mixer, Mux, Eq, Buffer, Pipeline}
+use Rattle.fw_units.specs.declared.component.Unit.TheVariants.{Host, Dai, Volume, Mixer, Mux, Eq, Demux, Buffer, Pipeline}
 use Rattle.fw_units.specs.declared.component.Component.{Component}
 
 -- ---- what a unit is
@@ -40,6 +40,7 @@ piece_of (Volume gains ramp from done frames piece) = piece
 piece_of (Mixer piece) = piece
 piece_of (Mux choice piece) = piece
 piece_of (Eq eq next remaining) = eq.piece
+piece_of (Demux masks piece) = piece
 piece_of (Buffer size ring source sink) = ring.piece
 piece_of (Pipeline sched period complete piece) = piece
 
@@ -61,6 +62,7 @@ kind_by (Volume gains ramp from done frames piece) = kinds.Volume
 kind_by (Mixer piece) = kinds.Mixer
 kind_by (Mux choice piece) = kinds.Mux
 kind_by (Eq eq next remaining) = kinds.Eq
+kind_by (Demux masks piece) = kinds.Demux
 kind_by (Buffer size ring source sink) = kinds.Mixer
 kind_by (Pipeline sched period complete piece) = kinds.Mixer
 
@@ -68,6 +70,7 @@ abbrev pub setting_by : Unit → Setting
 setting_by (Volume gains ramp from done frames piece) = settings.Gains gains
 setting_by (Mux choice piece) = settings.Choice choice
 setting_by (Eq eq next remaining) = settings.Blob eq.blob
+setting_by (Demux masks piece) = settings.Masks masks
 setting_by unit = settings.Nothing
 
 -- the milliseconds of a volume's ramp

@@ -38,7 +38,7 @@ impl Component {
     }
 
     /// The component has these values if it has this id: a volume these gains, if they are as many, to which its ramp goes from those
-    /// at its last frame; and a mux this choice.
+    /// at its last frame; a mux this choice; and a demux these masks, if they are eight.
     pub(crate) fn set_values(&mut self, id: u32, values: &[u32])
         ensures { self.new ≡ valued_at id values.now self.old }
     {
@@ -56,6 +56,7 @@ impl Component {
                         *choice = *value;
                     }
                 }
+                Unit::Demux { masks, .. } => set_masks(masks, values),
                 _ => (),
             }
         }
@@ -102,6 +103,17 @@ fn set_gains(
             *from = last_gains(from, gains, count, *done);
             *done = 0;
             *gains = given;
+        }
+    }
+}
+
+// Sets masks, if they are eight.
+fn set_masks(masks: &mut Bounded<u32, 8>, values: &[u32])
+    ensures { masks.new ≡ (if length values.now == 8 then values.now else masks.old) }
+{
+    if values.len() == 8 {
+        if let Some(given) = Bounded::new(values) {
+            *masks = given;
         }
     }
 }

@@ -1,21 +1,27 @@
 // What stands in a registry.
 ghost use Rattle.std.specs.Prelude.{◌≡◌, ◌+◌, length, nat_le};
-ghost use Rattle.fw_units.specs.Units.{is_buffer, is_pipeline, piece_of, unit_frames, capacity_by};
+ghost use Rattle.stream_law.specs.Ways.{splits};
+ghost use Rattle.fw_units.specs.Units.{is_buffer, is_pipeline, kind_by, piece_of, unit_frames, capacity_by};
 ghost use Rattle.fw_units.specs.Values.{unit_values, takes_values};
 ghost use Rattle.std.specs.List.{list_all};
 
 use eq_biquad::Eq;
 use fw_heap::Piece;
 use fw_ring::Ring;
-use ipc3_model::{CTRL_ENUM, CTRL_VOLUME};
+use ipc3_model::{CTRL_ENUM, CTRL_SWITCH, CTRL_VOLUME};
 use sof_base::{Bounded, Format, Params};
 use stream_law::Phase;
 
 // The greatest gain, 256 in units of 1/65536.
 const GREATEST_GAIN: u32 = 16_777_216;
 
+// How many masks a demux has, one for each output, and the greatest: a bit for each of 8 channels.
+const MASKS: usize = 8;
+
+const GREATEST_MASK: u32 = 255;
+
 /// What a component is, with its piece. A volume has its ramp in milliseconds, the gains from which it goes to those that are set,
-/// how many of its frames are done, held at its end, and of how many it is. An equaliser has the number of the part that is next and
+/// how many of its frames are done, held at its end, and of how many it is. A demux has a mask for each output. An equaliser has the number of the part that is next and
 /// how many bytes remain; a buffer has the components that are joined to it.
 pub enum Unit {
     Host {
@@ -48,6 +54,10 @@ pub enum Unit {
         eq: Eq,
         next: u32,
         remaining: u32,
+    },
+    Demux {
+        masks: Bounded<u32, 8>,
+        piece: Piece,
     },
     Buffer {
         size: u32,
@@ -82,6 +92,13 @@ impl Unit {
         ensures { result ≡ is_pipeline self.now }
     {
         matches!(self, Unit::Pipeline { .. })
+    }
+
+    /// Whether it splits what it takes among its outputs.
+    pub(crate) fn splits(&self) -> bool
+        ensures { result ≡ splits (kind_by self.now) }
+    {
+        matches!(self, Unit::Demux { .. })
     }
 }
 
@@ -123,6 +140,7 @@ impl Component {
                 next: _,
                 remaining: _,
             } => eq.into_piece(),
+            Unit::Demux { masks: _, piece } => piece,
             Unit::Buffer {
                 size: _,
                 ring,
@@ -158,7 +176,7 @@ impl Component {
         }
     }
 
-    /// The values of a volume by CTRL_VOLUME, and of a mux by CTRL_ENUM.
+    /// The values of a volume by CTRL_VOLUME, of a mux by CTRL_ENUM, and of a demux by CTRL_SWITCH.
     pub fn values(&self, command: u32) -> Option<Bounded<u32, 8>>
         ensures { result ≡ unit_values self.now.unit command }
     {
@@ -177,6 +195,13 @@ impl Component {
                     None
                 }
             }
+            Unit::Demux { masks, .. } => {
+                if command == CTRL_SWITCH {
+                    Some(masks.copied())
+                } else {
+                    None
+                }
+            }
             _ => None,
         }
     }
@@ -190,6 +215,9 @@ impl Component {
                 command == CTRL_VOLUME && values.len() == gains.items().len() && are_gains(values)
             }
             Unit::Mux { .. } => command == CTRL_ENUM && values.len() == 1,
+            Unit::Demux { .. } => {
+                command == CTRL_SWITCH && values.len() == MASKS && are_masks(values)
+            }
             _ => false,
         }
     }
@@ -200,4 +228,11 @@ fn are_gains(gains: &[u32]) -> bool
     ensures { result ≡ list_all (λ v. nat_le v 16777216) gains.now }
 {
     gains.iter().all(|gain| *gain <= GREATEST_GAIN)
+}
+
+// Whether no mask passes the greatest.
+fn are_masks(masks: &[u32]) -> bool
+    ensures { result ≡ list_all (λ v. nat_le v 255) masks.now }
+{
+    masks.iter().all(|mask| *mask <= GREATEST_MASK)
 }

@@ -4,6 +4,7 @@
 mod changing;
 mod component;
 mod frames;
+mod giving;
 mod hints;
 mod making;
 mod moving;

@@ -1,4 +1,4 @@
-// What a volume, a mixer, a mux and an equaliser make of the frames of buffers.
+// What a volume, a mixer, a mux, an equaliser and a demux make of the frames of buffers.
 ghost use Rattle.std.specs.Prelude.{◌≡◌, ◌+◌, ◌*◌, ◌/◌, ◌%◌, ◌≤◌, ◌<◌, ◌^◌, ◌++◌, true, map, length, min, replicate, pos, nat_abs, filter, slice_get, option_copied, ◌==◌};
 ghost use Rattle.std.specs.List.{AllByRecursion};
 ghost use Rattle.sof_base.specs.FrameLists.{frames_of};
@@ -85,6 +85,7 @@ impl Component {
                 copy(looked[0], n, hints, buffers, samples);
                 eq.run(samples, self.channels);
             }
+            Unit::Demux { .. } => copy(looked[0], n, hints, buffers, samples),
             _ => (),
         }
     }

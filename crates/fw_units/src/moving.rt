@@ -1,10 +1,10 @@
 // One component moves frames between the buffers of a table.
-ghost use Rattle.std.specs.Prelude.{◌≡◌, ◌+◌, ◌*◌, ◌/◌, ◌≤◌, true, map, length, nat_eq, vec_capacity};
+ghost use Rattle.std.specs.Prelude.{◌≡◌, ◌*◌, ◌/◌, ◌≤◌, true, map, length, nat_eq, vec_capacity};
 ghost use Rattle.std.specs.List.{AllByRecursion, IsDistinct};
 ghost use Rattle.stream_law.specs.Placed.{Ascends};
 ghost use Rattle.fw_units.specs.Changes.{has_id};
 ghost use Rattle.fw_units.specs.Frames.{channels_in, buffer_frames};
-ghost use Rattle.fw_units.specs.Processed.{chosen_by, drained_at};
+ghost use Rattle.fw_units.specs.Processed.{chosen_by, drained_at, output_number};
 ghost use Rattle.fw_units.specs.Moving.{CanMove, IsMoved};
 
 use crate::component::Component;
@@ -14,24 +14,23 @@ use sof_base::Sample;
 use stream_law::Join;
 
 impl Component {
-    /// Moves `n` frames out of the buffers that it looks at into the one that it feeds.
+    /// Moves `n` frames out of the buffers that it looks at into those that it feeds.
     pub fn carry(
         &mut self,
         joins: &[Join],
         hints: &Hints,
         buffers: &mut Vec<Component>,
         looked: &[u32],
-        fed: u32,
+        fed: &[u32],
         n: u32,
         workspace: &mut Workspace,
     )
-        requires { CanMove buffers.old.items looked.now fed n self.old }
-        ensures moved { IsMoved (chosen_by self.old.unit self.old.id joins.now) looked.now fed n buffers.old.items self.old buffers.new.items self.new }
+        requires { CanMove buffers.old.items looked.now fed.now n self.old }
+        ensures moved { IsMoved (chosen_by self.old.unit self.old.id joins.now) (output_number joins.now self.old.id) looked.now fed.now n buffers.old.items self.old buffers.new.items self.new }
         ensures capacity { vec_capacity buffers.new ≡ vec_capacity buffers.old }
     {
-        let chosen = self.chosen(joins);
         self.steps(
-            chosen,
+            joins,
             hints,
             buffers,
             looked,
@@ -45,26 +44,26 @@ impl Component {
     // Moves them as many at a time as there is room for.
     fn steps(
         &mut self,
-        chosen: Option<u32>,
+        joins: &[Join],
         hints: &Hints,
         buffers: &mut Vec<Component>,
         looked: &[u32],
-        fed: u32,
+        fed: &[u32],
         n: u32,
         sums: &mut [i64],
         samples: &mut [Sample],
     )
-        requires can { CanMove buffers.old.items looked.now fed n self.old }
-        requires size { (2048 ≤ length sums.old) × (2048 ≤ length samples.old) }
-        ensures moved { IsMoved chosen looked.now fed n buffers.old.items self.old buffers.new.items self.new }
+        requires can { CanMove buffers.old.items looked.now fed.now n self.old }
+        requires size { (2048 ≤ length sums.old) × (4096 ≤ length samples.old) }
+        ensures moved { IsMoved (chosen_by self.old.unit self.old.id joins.now) (output_number joins.now self.old.id) looked.now fed.now n buffers.old.items self.old buffers.new.items self.new }
         ensures capacity { vec_capacity buffers.new ≡ vec_capacity buffers.old }
     {
-        let most = most_frames(width_of(hints, buffers.as_slice(), fed));
+        let most = most_frames(width_of(hints, buffers.as_slice(), fed[0]));
         let mut moved = n.min(most);
-        self.step(chosen, hints, buffers, looked, fed, moved, sums, samples);
+        self.step(joins, hints, buffers, looked, fed, moved, sums, samples);
         while moved < n {
             let more = (n - moved).min(most);
-            self.step(chosen, hints, buffers, looked, fed, more, sums, samples);
+            self.step(joins, hints, buffers, looked, fed, more, sums, samples);
             moved += more;
         }
     }
@@ -72,23 +71,24 @@ impl Component {
     // Moves as many frames as there is room for.
     fn step(
         &mut self,
-        chosen: Option<u32>,
+        joins: &[Join],
         hints: &Hints,
         buffers: &mut Vec<Component>,
         looked: &[u32],
-        fed: u32,
+        fed: &[u32],
         n: u32,
         sums: &mut [i64],
         samples: &mut [Sample],
     )
-        requires can { CanMove buffers.old.items looked.now fed n self.old }
+        requires can { CanMove buffers.old.items looked.now fed.now n self.old }
         requires channels { (1 ≤ self.old.channels) × (self.old.channels ≤ 8) }
-        requires size { (n * self.old.channels ≤ length sums.old) × (n * self.old.channels ≤ length samples.old) }
-        ensures moved { IsMoved chosen looked.now fed n buffers.old.items self.old buffers.new.items self.new }
+        requires size { (n * self.old.channels ≤ length sums.old) × (2 * (n * self.old.channels) ≤ length samples.old) }
+        ensures moved { IsMoved (chosen_by self.old.unit self.old.id joins.now) (output_number joins.now self.old.id) looked.now fed.now n buffers.old.items self.old buffers.new.items self.new }
         ensures capacity { vec_capacity buffers.new ≡ vec_capacity buffers.old }
     {
         let size = n as usize * usize::from(self.channels);
-        let made = &mut samples[..size];
+        let chosen = self.chosen(joins);
+        let (made, rest) = samples.split_at_mut(size);
         self.make(
             chosen,
             hints,
@@ -99,8 +99,7 @@ impl Component {
             made,
         );
         drain_in(hints, buffers, looked, n);
-        let at = hints.place(buffers.as_slice(), fed);
-        buffers[at].push(made);
+        self.give(joins, hints, buffers, fed, n, made, &mut rest[..size]);
     }
 }
 

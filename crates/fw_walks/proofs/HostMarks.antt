@@ -20,7 +20,7 @@ use Rattle.fw_places.specs.Walks.{place_in, is_marked}
 use Rattle.fw_places.specs.Charts.{AreHostsOf, is_capture_at}
 use Rattle.fw_places.proofs.Reaching.{at-place, both-true}
 use Rattle.fw_places.proofs.Charts.{listed-member, member-listed, place-past}
-use Rattle.fw_places.proofs.Ways.{any-each}
+use Rattle.fw_places.proofs.WayWalks.{any-each}
 use Rattle.fw_components.proofs.Listed.{listed-is}
 use Rattle.fw_walks.proofs.Counted.{live-nowhere}
 use Rattle.fw_walks.proofs.OnWays.{any-or}

@@ -1,7 +1,7 @@
 // What units are in a graph, and how many buffers a component takes.
 ghost use Rattle.std.specs.Prelude.{◌≡◌};
-ghost use Rattle.stream_law.specs.Joins.{kind_ins, kind_outs, fits_kind, is_right_number as is_right, is_play};
-ghost use Rattle.stream_law.specs.Ways.{is_capture};
+ghost use Rattle.stream_law.specs.Joins.{kind_ins, kind_outs, fits_kind, is_right_number as is_right};
+ghost use Rattle.stream_law.specs.Ways.{is_play, is_capture};
 ghost use Rattle.fw_units.specs.Units.{kind_by, source_by, sink_by};
 
 use fw_components::Unit;
@@ -34,6 +34,7 @@ pub fn kind_of(unit: &Unit) -> Kind
         Unit::Mixer { .. } => Kind::Mixer,
         Unit::Mux { .. } => Kind::Mux,
         Unit::Eq { .. } => Kind::Eq,
+        Unit::Demux { .. } => Kind::Demux,
         Unit::Buffer { .. } => Kind::Mixer,
         Unit::Pipeline { .. } => Kind::Mixer,
     }
@@ -90,6 +91,7 @@ pub fn outs_of(kind: Kind) -> usize
 {
     match kind {
         Kind::HostCapture | Kind::DaiPlay(_) => 0,
+        Kind::Demux => 8,
         _ => 1,
     }
 }

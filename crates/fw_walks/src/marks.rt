@@ -6,12 +6,13 @@ ghost use Rattle.stream_law.specs.Order.{is_among};
 ghost use Rattle.fw_components.specs.Tables.{view_by, graph_of, streams_of};
 ghost use Rattle.fw_walks.specs.Streams.{is_sort, is_host_of};
 ghost use Rattle.fw_places.specs.Charts.{IsChartOf};
+ghost use Rattle.fw_places.specs.WayCharts.{AreWaysOf};
 ghost use Rattle.fw_places.specs.Walks.{is_marked};
 
 use crate::kinds::captures;
 use crate::streams::{Sort, has_stream, live};
 use fw_components::{Component, Registry};
-use fw_places::Places;
+use fw_places::{Places, Ways};
 
 /// Marks all that is on the way of a stream that is Running or Paused.
 pub fn live_marks(registry: &Registry, places: &Places) -> [bool; 257]
@@ -29,15 +30,16 @@ pub fn live_marks(registry: &Registry, places: &Places) -> [bool; 257]
 }
 
 /// Marks all that is on the way of a stream of a sort.
-pub fn ways(registry: &Registry, places: &Places, sort: Sort) -> [bool; 257]
-    requires { IsChartOf (graph_of registry.now) places.now }
-    ensures { (x : ℕ) → is_among places.now.ids x ≡ true → is_marked places.now.ids result x ≡ list_any (λ s. is_sort sort s && on_way (graph_of registry.now) s.host x) (streams_of registry.now) }
+pub fn ways(registry: &Registry, along: &Ways, sort: Sort) -> [bool; 257]
+    requires { AreWaysOf (graph_of registry.now) along.now }
+    ensures { (x : ℕ) → is_among along.now.ids x ≡ true → is_marked along.now.ids result x ≡ list_any (λ s. is_sort sort s && on_way (graph_of registry.now) s.host x) (streams_of registry.now) }
 {
     let comps = registry.comps();
-    let mut marks = mark_hosts(comps, places, sort, false);
-    places.ways(&mut marks, false);
-    let mut behind = mark_hosts(comps, places, sort, true);
-    places.ways(&mut behind, true);
+    let places = along.places();
+    let plays = mark_hosts(comps, places, sort, false);
+    let mut marks = along.of_hosts(&plays, false);
+    let captures = mark_hosts(comps, places, sort, true);
+    let behind = along.of_hosts(&captures, true);
     add(&mut marks, &behind);
     marks
 }

@@ -1,5 +1,5 @@
 use Rattle.std.proofs.Common.{refl, subst, Ok}
-use Rattle.ipc3_model.specs.Messages.{IsAllowed}
+use Rattle.ipc3_model.specs.Meanings.{IsAllowed}
 use Rattle.ipc3_model.specs.declared.message.Message.TheVariants.{CtxSave}
 use Rattle.ipc3_model.specs.declared.reply.Body.TheVariants.{Nothing}
 use Rattle.mbox_link.specs.Step.{row}

@@ -6,6 +6,9 @@ use Rattle.fw_pipeline.specs.Rows.{view_after, with_view}
 use Rattle.fw_pipeline.proofs.JoinRow.{connect-row, may-join, join-seen}
 use Rattle.fw_pipeline.proofs.connecting.connect.Goals as goal
 
+pub is_refused-requires : goal.is_refused-requires
+is_refused-requires c = record { takes = sym c.takes_join.ensures ∙ c.if-not-takes_join.false; free = sym c.is_joined.ensures ∙ c.if-is_joined.false }
+
 pub join-requires : goal.join-requires
 join-requires c = may-join c.args.registry.now (record { source = c.args.source; sink = c.args.sink }) (sym c.takes_join.ensures ∙ c.if-not-takes_join.false) (sym c.is_joined.ensures ∙ c.if-is_joined.false)
 

@@ -27,4 +27,4 @@ returns-clause-answer c = λ f.
     let none : has_id t.comps id ≡ false = apart-gone t.comps t.buffers id c.has_complete_pipe.ensures.kept.named.comps_buffers there in
     ap (λ (t : Tables). let r : Result View ℤ = Ok (view_by t) in r) (c.remove.ensures.tables ∙ buffer-left t id none there)
     ∙ ap (λ (es : List Edge). let r : Result View ℤ = Ok (record { graph = record { comps = map comp_by t.comps; edges = es; pipes = map pipe_by t.pipes; joins = filter (λ j. not (j.source == id || j.sink == id)) t.joins }; streams = streams_of t }) in r) (c.removals_are_seen.ensures.edges id t.buffers)
-    ∙ sym (ap view_after (buffer_free-row (with_view (view_by t) f) id (sym c.is_used.ensures ∙ c.if-not-is_used.false) (sym c.has_complete_pipe.ensures.complete ∙ c.if-has_complete_pipe.false) (sym c.has_buffer.ensures ∙ c.if-not-has_buffer.false) (sym c.is_held.ensures ∙ c.if-is_held.false)))
+    ∙ sym (ap view_after (buffer_free-row (with_view (view_by t) f) id (sym c.is_used.ensures ∙ c.if-not-is_used.false) (sym c.has_complete_pipe.ensures.complete ∙ c.if-has_complete_pipe.false) (sym c.has_buffer.ensures ∙ c.if-not-has_buffer.false) (sym c.is_held.ensures ∙ c.if-is_held.false) (sym c.stays_without.ensures ∙ c.if-not-stays_without.false)))

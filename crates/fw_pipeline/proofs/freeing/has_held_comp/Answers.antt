@@ -6,7 +6,7 @@ use Rattle.fw_units.specs.declared.component.Component.{Component}
 use Rattle.fw_components.specs.Tables.{Tables, graph_of, streams_of}
 use Rattle.fw_units.specs.Units.{comp_by}
 use Rattle.mbox_link.specs.Step.{is_held}
-use Rattle.fw_places.proofs.Ways.{any-each}
+use Rattle.fw_places.proofs.WayWalks.{any-each}
 use Rattle.fw_walks.proofs.OnWays.{any-map}
 use Rattle.fw_walks.proofs.HostMarks.{host-listed}
 use Rattle.fw_pipeline.proofs.freeing.has_held_comp.Goals as goal

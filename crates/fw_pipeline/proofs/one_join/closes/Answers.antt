@@ -9,8 +9,8 @@ use Rattle.fw_pipeline.proofs.one_join.closes.Goals as goal
 pub returns-clause-cycle : goal.returns-clause-cycle
 returns-clause-cycle c =
     let t : Tables = c.args.registry.now in
-    let there : is_among c.args.places.now.ids c.args.source ≡ true = ap (λ (ids : List ℕ). is_among ids c.args.source) c.requires.chart.ids ∙ (ends-listed t c.args.source c.args.sink c.requires.takes).0 in
+    let there : is_among c.places-places.result.ids c.args.source ≡ true = ap (λ (ids : List ℕ). is_among ids c.args.source) c.places-places.ensures.ids ∙ (ends-listed t c.args.source c.args.sink c.requires).0 in
     c.has.ensures
-    ∙ c.requires.from_sink c.args.source there
-    ∙ ap (λ (js : List Join). leads_by false js c.args.sink c.args.source) c.requires.chart.joins
+    ∙ c.reached-from_sink.ensures.reached c.args.source there
+    ∙ ap (λ (js : List Join). leads_by false js c.args.sink c.args.source) c.places-places.ensures.joins
     ∙ cycle-marked (graph_of t) c.args.source c.args.sink

@@ -13,4 +13,4 @@ returns c =
     let t : Tables = c.args.registry.now in
     c.are_buffers_ready.ensures
     ∙ ap (λ (cs : List Component). list_all (λ x. not (is_marked c.args.places.now.ids c.args.marks.now x.id) || is_ready_edge (graph_of t) (edge_by x)) cs) c.buffers.ensures.items
-    ∙ buffers-marked t c.args.places.now.ids c.requires.chart.ids c.args.host c.args.marks.now c.requires.marked
+    ∙ buffers-marked t c.args.places.now.ids c.requires.ids c.args.host c.args.marks.now c.requires.marked

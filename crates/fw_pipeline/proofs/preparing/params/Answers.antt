@@ -20,7 +20,7 @@ returns-then-refuses-clause-answer c = λ f.
     sym (ap view_after (params-refused (with_view (view_by t) f) c.args.host c.args.direction c.args.p (sym c.is_used.ensures ∙ c.if-not-is_used.false) (is_moving_at t.comps c.args.host) (moving-is t.comps c.args.host c.refuses.ensures.kept.named.comps) (sym c.refuses.ensures.refused ∙ c.if-refuses.true)))
 
 pub set_stream-requires-clause-host : goal.set_stream-requires-clause-host
-set_stream-requires-clause-host c = host-there c.args.registry.now.comps c.args.host c.args.direction (goes-passes _ _ _ _ _ (sym c.refuses.ensures.refused ∙ c.if-refuses.false))
+set_stream-requires-clause-host c = host-there c.args.registry.now.comps c.args.host c.args.direction (goes-passes _ _ _ _ _ _ (sym c.refuses.ensures.refused ∙ c.if-refuses.false))
 
 pub set_stream-requires-clause-stream : goal.set_stream-requires-clause-stream
 set_stream-requires-clause-stream c = (refl, c.requires, rate-passes (view_by c.args.registry.now) c.args.host c.args.direction c.args.p (is_moving_at c.args.registry.now.comps c.args.host) (sym c.refuses.ensures.refused ∙ c.if-refuses.false))

@@ -15,11 +15,11 @@ push-requires c =
     let all : length (inlets_of (view_by t) id) ≡ length (map (λ (c : Component). c.id) (filter r bs)) =
     ap length (inlets-are t id c.args.chooses c.buffers-buffers.ensures.kept.named.buffers c.requires.chooses)
     ∙ ap (λ (cs : List Component). length (map (λ (c : Component). c.id) (filter r cs))) (sym c.buffers-buffers.ensures.items) in
-    (lit< tt, omega (arith, under, all, ap length c.loop-buffer.invariant, length-append c.args.inlets.now.items (map (λ (c : Component). c.id) (filter r (take i bs))), c.requires.room))
+    (lit< tt, omega (arith, under, all, ap length c.loop-buffer.invariant, length-append c.args.ends.now.items (map (λ (c : Component). c.id) (filter r (take i bs))), c.requires.room))
 
 pub returns : goal.returns
 returns c =
     let t = c.args.registry.now in let id = c.args.id in
     c.loop-buffer.invariant
-    ∙ ap (λ (bs : List Component). c.args.inlets.now.items ++ map (λ c. c.id) (filter (is_inlet t id c.args.chooses) bs)) (take_all c.loop-buffer.buffer-index c.buffers-buffers.result.now c.loop-buffer-test.false ∙ c.buffers-buffers.ensures.items)
-    ∙ ap (λ (ids : List ℕ). c.args.inlets.now.items ++ ids) (sym (inlets-are t id c.args.chooses c.buffers-buffers.ensures.kept.named.buffers c.requires.chooses))
+    ∙ ap (λ (bs : List Component). c.args.ends.now.items ++ map (λ c. c.id) (filter (is_inlet t id c.args.chooses) bs)) (take_all c.loop-buffer.buffer-index c.buffers-buffers.result.now c.loop-buffer-test.false ∙ c.buffers-buffers.ensures.items)
+    ∙ ap (λ (ids : List ℕ). c.args.ends.now.items ++ ids) (sym (inlets-are t id c.args.chooses c.buffers-buffers.ensures.kept.named.buffers c.requires.chooses))

@@ -3,7 +3,7 @@ use Rattle.fw_schedule.proofs.Growing.{grew-still}
 use Rattle.fw_schedule.proofs.ticking.carry.Goals as goal
 
 pub feed-requires-clause-step : goal.feed-requires-clause-step
-feed-requires-clause-step c = (c.args.inlets.now, c.requires.step)
+feed-requires-clause-step c = (c.args.ends.now, c.requires.step)
 
 pub process-requires-clause-kind : goal.process-requires-clause-kind
 process-requires-clause-kind c = λ i. not ((sym c.reads.ensures ∙ c.if-reads.false) i) && not ((sym c.writes.ensures ∙ c.if-writes.false) i)

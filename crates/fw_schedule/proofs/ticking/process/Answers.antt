@@ -1,4 +1,6 @@
-use Rattle.std.proofs.Common.{◌≡◌, sym, ap, ◌∙◌, subst, filter, length, nat_le, true, arith}
+use Rattle.std.proofs.Common.{◌≡◌, sym, ap, ◌∙◌, subst, ℕ, ◌≤◌, ◌==◌, List, [], ◌∷◌, filter, length, nat_le, true, false, arith}
+use Rattle.std.proofs.lemmas.Bool.{true≢false, eqb-true}
+use Rattle.std.proofs.lemmas.List.{nil_from_length}
 use Rattle.std.specs.List.{AllByRecursion}
 use Rattle.stream_law.specs.Ways.{comp_of}
 use Rattle.fw_units.specs.Changes.{has_id}
@@ -10,12 +12,17 @@ use Rattle.fw_schedule.proofs.Along.{there-is}
 use Rattle.fw_schedule.proofs.Processed.{is_maker, inlets-few, inlets-there, unfed}
 use Rattle.fw_schedule.proofs.ticking.process.Goals as goal
 
-pub returns-in_default-clause-moved : goal.returns-in_default-clause-moved
-returns-in_default-clause-moved c = λ clock inputs outputs run most began start a ends stage.
+some-there : (xs : List ℕ) → (length xs == 0) ≡ false → 1 ≤ length xs
+some-there [] none = absurd (true≢false none)
+some-there (x ∷ xs) none = omega arith
+
+pub returns-then-is_empty-clause-moved : goal.returns-then-is_empty-clause-moved
+returns-then-is_empty-clause-moved c = λ clock inputs outputs run most began start a ends stage.
     let t = c.args.registry.now in let s = c.args.step.now in let id = s.id in let is = c.requires.step in
     let kept = c.comps-comps.ensures.kept in let can = c.requires.can in let now = c.requires.active in
     let there = there-is (graph_of t) id is_maker (kind-passes is_maker (comp_of (graph_of t) id) s.kind is.kind ∙ c.requires.kind) in
-    unfed t kept can id there now began start inputs outputs a ends stage clock run (sym is.fed ∙ c.in_default.is)
+    unfed t kept can id there now began start inputs outputs a ends stage clock run
+    (sym (c.outlets-fed.ensures ∙ is.outlets) ∙ nil_from_length c.outlets-fed.result.now (eqb-true (length c.outlets-fed.result.now) 0 (sym c.is_empty.ensures ∙ c.if-is_empty.true)))
 
 pub holding-looked-requires-clause-there : goal.holding-looked-requires-clause-there
 holding-looked-requires-clause-there c =
@@ -39,8 +46,10 @@ pass-requires-clause-kind c =
     kind-passes is_maker (comp_of (graph_of t) s.id) s.kind c.requires.step.kind ∙ c.requires.kind
 
 pub pass-requires-clause-fed : goal.pass-requires-clause-fed
-pass-requires-clause-fed c =
-    sym c.requires.step.fed ∙ c.in-Some.is
+pass-requires-clause-fed c = c.outlets-fed.ensures ∙ c.requires.step.outlets
+
+pub pass-requires-clause-some : goal.pass-requires-clause-some
+pass-requires-clause-some c = some-there c.outlets-fed.result.now (sym c.is_empty.ensures ∙ c.if-is_empty.false)
 
 pub pass-requires-else-chooses-clause-kind : goal.pass-requires-else-chooses-clause-kind
 pass-requires-else-chooses-clause-kind c =
@@ -48,8 +57,10 @@ pass-requires-else-chooses-clause-kind c =
     kind-passes is_maker (comp_of (graph_of t) s.id) s.kind c.requires.step.kind ∙ c.requires.kind
 
 pub pass-requires-else-chooses-clause-fed : goal.pass-requires-else-chooses-clause-fed
-pass-requires-else-chooses-clause-fed c =
-    sym c.requires.step.fed ∙ c.in-Some.is
+pass-requires-else-chooses-clause-fed c = c.outlets-fed.ensures ∙ c.requires.step.outlets
+
+pub pass-requires-else-chooses-clause-some : goal.pass-requires-else-chooses-clause-some
+pass-requires-else-chooses-clause-some c = some-there c.outlets-fed.result.now (sym c.is_empty.ensures ∙ c.if-is_empty.false)
 
 pub pass-requires-clause-looked : goal.pass-requires-clause-looked
 pass-requires-clause-looked c =

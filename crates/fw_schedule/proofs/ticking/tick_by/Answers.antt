@@ -4,7 +4,8 @@ use Rattle.std.specs.Prelude.{nat_eq}
 use Rattle.std.specs.List.{AllByRecursion, IsDistinct}
 use Rattle.sof_base.specs.declared.format.Format.TheVariants.{S16}
 use Rattle.sof_base.specs.Ports.{InputView}
-use Rattle.sof_io.specs.Bound.{HasPosition, output_slots}
+use Rattle.sof_io.specs.Bound.{output_slots}
+use Rattle.sof_io.specs.Takes.{HasPosition}
 use Rattle.sof_io.specs.Puts.{room_at}
 use Rattle.stream_law.specs.declared.graph.Kind.TheVariants.{HostPlay}
 use Rattle.stream_law.specs.Order.{order}
@@ -20,9 +21,9 @@ use Rattle.fw_schedule.specs.Stages.{IsStage, Moves, Grew, audio_from}
 use Rattle.fw_schedule.proofs.Growing.{grew-still, grew-room}
 use Rattle.fw_schedule.proofs.InOrder.{order-distinct}
 use Rattle.fw_schedule.proofs.Rising.{rising-distinct}
-use Rattle.fw_schedule.proofs.Still.{can-still, view-still, graph-still, streams-still, pieces-still, homes-still}
+use Rattle.fw_schedule.proofs.Still.{view-still, graph-still, streams-still, pieces-still, homes-still}
 use Rattle.fw_schedule.proofs.ScheduleLaws.{schedule-seen}
-use Rattle.fw_schedule.proofs.InTurn.{IsOnWay, on-first, on-step}
+use Rattle.fw_schedule.proofs.InTurn.{IsOnWay, on-first, on-step, can-on}
 use Rattle.fw_schedule.proofs.ticking.tick_by.Goals as goal
 
 each-low : (xs : List InputView) → All HasPosition xs → AllByRecursion (λ x. x.position ≤ 2 ^ 64 - 1) xs
@@ -31,7 +32,7 @@ each-low (x ∷ xs) low = (low 0 x (omega arith), each-low xs (λ k d within. lo
 
 -- what is read past the last step
 abbrev blank : Step
-blank = record { id = 0; kind = HostPlay; format = S16; active = false; channels = 0; period = 0; rate = 0; fed = None; first = 0; past = 0 }
+blank = record { id = 0; kind = HostPlay; format = S16; active = false; channels = 0; period = 0; rate = 0; fed = None; first = 0; past = 0; end = 0 }
 
 -- the id of a step
 id-of : (ss : List Step) (i : ℕ) (d : Step) → i < length ss → (get_or ss i d).id ≡ get_or (map (λ (s : Step). s.id) ss) i 0
@@ -46,15 +47,18 @@ loop-i-init c =
     (subst (IsDistinct nat_eq) (sym is) (order-distinct (graph_of t))) c.requires.room
 
 pub move_by-requires-clause-can : goal.move_by-requires-clause-can
-move_by-requires-clause-can c = can-still c.args.registry.now c.loop-i.registry (sym c.loop-i.invariant.stage.bare) c.requires.can
+move_by-requires-clause-can c =
+    let steps = c.as_slice-steps.result.now in let i = c.loop-i.i in
+    let cs = map (λ (s : Step). s.id) steps in
+    can-on c.args.registry.now c.requires.can (io_of c.args.io.now c.args.out.now) c.args.clock (take i cs) (drop i cs) c.loop-i.registry c.loop-i.io c.loop-i.out c.loop-i.invariant
 
 pub move_by-requires-clause-step : goal.move_by-requires-clause-step
 move_by-requires-clause-step c =
     let t = c.loop-i.registry in let steps = c.as_slice-steps.result.now in let i = c.loop-i.i in
     let now = schedule-seen c.args.registry.now t c.args.schedule.now (sym (view-still t c.args.registry.now c.loop-i.invariant.stage.bare)) c.requires.schedule in
-    let all : AllByRecursion (IsStepOf (view_by t) c.as_slice-inlets.result.now) steps =
-    subst (λ (p : List ℕ × List Step). AllByRecursion (IsStepOf (view_by t) p.0) p.1) (λ j. (sym c.as_slice-inlets.ensures.value j, sym c.as_slice-steps.ensures.value j)) now.steps in
-    all-at (IsStepOf (view_by t) c.as_slice-inlets.result.now) steps i blank c.loop-i-test.true all
+    let all : AllByRecursion (IsStepOf (view_by t) c.as_slice-ends.result.now) steps =
+    subst (λ (p : List ℕ × List Step). AllByRecursion (IsStepOf (view_by t) p.0) p.1) (λ j. (sym c.as_slice-ends.ensures.value j, sym c.as_slice-steps.ensures.value j)) now.steps in
+    all-at (IsStepOf (view_by t) c.as_slice-ends.result.now) steps i blank c.loop-i-test.true all
 
 pub move_by-requires-clause-room : goal.move_by-requires-clause-room
 move_by-requires-clause-room c =
@@ -104,7 +108,10 @@ returns-clause-moved c = λ f tick.
     }
 
 pub returns-clause-can : goal.returns-clause-can
-returns-clause-can c = can-still c.args.registry.now c.loop-i.registry (sym c.loop-i.invariant.stage.bare) c.requires.can
+returns-clause-can c =
+    let steps = c.as_slice-steps.result.now in let i = c.loop-i.i in
+    let cs = map (λ (s : Step). s.id) steps in
+    can-on c.args.registry.now c.requires.can (io_of c.args.io.now c.args.out.now) c.args.clock (take i cs) (drop i cs) c.loop-i.registry c.loop-i.io c.loop-i.out c.loop-i.invariant
 
 pub returns-clause-schedule : goal.returns-clause-schedule
 returns-clause-schedule c = schedule-seen c.args.registry.now c.loop-i.registry c.args.schedule.now (sym (view-still c.loop-i.registry c.args.registry.now c.loop-i.invariant.stage.bare)) c.requires.schedule

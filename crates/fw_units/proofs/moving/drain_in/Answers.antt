@@ -1,4 +1,4 @@
-use Rattle.std.proofs.Common.{◌≡◌, refl, sym, ap, ◌∙◌, subst, ℕ, ◌≤◌, List, [], map, take, length, get_or, true, false, ◌==◌, Option, Some}
+use Rattle.std.proofs.Common.{◌≡◌, refl, sym, ap, ◌∙◌, subst, ℕ, ◌≤◌, List, [], ◌∷◌, map, take, length, get_or, true, false, ◌==◌, Option, Some}
 use Rattle.std.proofs.lemmas.List.{take_more, take_all}
 use Rattle.std.specs.Prelude.{find, position}
 use Rattle.std.specs.Option.{option_map_or}
@@ -27,7 +27,7 @@ place-at-requires-clause-there c =
     let i = c.loop-inlet.inlet-index in let b = get_or looked i 0 in
     let apart : is_among (take i looked) b ≡ false = not-before looked i c.requires.single c.loop-inlet-test.true in
     ap (λ (cs : List Component). has_id cs b) (c.as_slice.ensures.value ∙ c.loop-inlet.invariant.so_far)
-    ∙ has-map (drained_at (take i looked) n) (drained-id (take i looked) b apart n) b all
+    ∙ has-map (drained_at (take i looked) n) (drained-id (take i looked) (b ∷ []) (apart, tt) n) b all
     ∙ all-at (λ k. has_id all k ≡ true) looked i 0 c.loop-inlet-test.true c.requires.there
 
 pub place-at-requires-clause-ascends : goal.place-at-requires-clause-ascends
@@ -35,7 +35,7 @@ place-at-requires-clause-ascends c =
     let all = c.args.components.now.items in let looked = c.args.looked.now in let n = c.args.n in
     let i = c.loop-inlet.inlet-index in let b = get_or looked i 0 in
     let apart : is_among (take i looked) b ≡ false = not-before looked i c.requires.single c.loop-inlet-test.true in
-    subst (Ascends (λ (x : Component). x.id)) (sym (c.as_slice.ensures.value ∙ c.loop-inlet.invariant.so_far)) (ascends-map (drained_at (take i looked) n) (drained-id (take i looked) b apart n) all c.requires.ascends)
+    subst (Ascends (λ (x : Component). x.id)) (sym (c.as_slice.ensures.value ∙ c.loop-inlet.invariant.so_far)) (ascends-map (drained_at (take i looked) n) (drained-id (take i looked) (b ∷ []) (apart, tt) n) all c.requires.ascends)
 
 pub take-requires : goal.take-requires
 take-requires c =
@@ -56,7 +56,7 @@ loop-inlet-preserved c =
     let i = c.loop-inlet.inlet-index in let b = get_or looked i 0 in
     let apart : is_among (take i looked) b ≡ false = not-before looked i c.requires.single c.loop-inlet-test.true in
     let bs = c.loop-inlet.components.items in
-    let ascends : Ascends (λ (x : Component). x.id) bs = subst (Ascends (λ (x : Component). x.id)) (sym c.loop-inlet.invariant.so_far) (ascends-map (drained_at (take i looked) n) (drained-id (take i looked) b apart n) all c.requires.ascends) in
+    let ascends : Ascends (λ (x : Component). x.id) bs = subst (Ascends (λ (x : Component). x.id)) (sym c.loop-inlet.invariant.so_far) (ascends-map (drained_at (take i looked) n) (drained-id (take i looked) (b ∷ []) (apart, tt) n) all c.requires.ascends) in
     record {
       so_far =
           taken-put b c.place-at.result bs c.index_mut.result.now c.take.new.self ascends (c.place-at.ensures.place ∙ ap (position (λ (y : Component). y.id == b)) c.as_slice.ensures.value) c.index_mut.ensures.value n c.take.ensures

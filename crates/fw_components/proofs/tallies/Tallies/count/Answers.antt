@@ -11,9 +11,9 @@ use Rattle.fw_components.proofs.tallies.Tallies.count.Goals as goal
 pub returns-then-is_running-clause-told : goal.returns-then-is_running-clause-told
 returns-then-is_running-clause-told c = λ g streams chart seen told.
     let unit = c.args.comp.now.unit in let id : ℕ = c.args.comp.now.id in
-    let ids : List ℕ = c.args.places.now.ids in
-    let low : (x : ℕ) → is_among ids x ≡ true → place_in ids x < 256 = λ x there. omega (arith, (at-place ids x there).0, c.ids-ids.ensures.few) in
-    let on = c.way-marks.ensures g chart (c.captures-2.ensures ∙ seen) in
+    let ids : List ℕ = c.args.ways.now.ids in
+    let low : (x : ℕ) → is_among ids x ≡ true → place_in ids x < 256 = λ x there. omega (arith, (at-place ids x there).0, c.places-places.ensures.few) in
+    let on = c.way-marks.ensures.way g chart (c.captures-2.ensures ∙ seen) in
     let lives : has_phase is_live_phase unit ≡ true = sym c.is_live.ensures ∙ c.if-not-is_live.false in
     let runs : has_phase is_running_phase unit ≡ true = sym c.is_running.ensures ∙ c.if-is_running.true in
     one-more (on_way g) ids streams id unit c.args.self.now _ told
@@ -24,9 +24,9 @@ returns-then-is_running-clause-told c = λ g streams chart seen told.
 pub returns-else-is_running-clause-told : goal.returns-else-is_running-clause-told
 returns-else-is_running-clause-told c = λ g streams chart seen told.
     let unit = c.args.comp.now.unit in let id : ℕ = c.args.comp.now.id in
-    let ids : List ℕ = c.args.places.now.ids in
-    let low : (x : ℕ) → is_among ids x ≡ true → place_in ids x < 256 = λ x there. omega (arith, (at-place ids x there).0, c.ids-ids.ensures.few) in
-    let on = c.way-marks.ensures g chart (c.captures-2.ensures ∙ seen) in
+    let ids : List ℕ = c.args.ways.now.ids in
+    let low : (x : ℕ) → is_among ids x ≡ true → place_in ids x < 256 = λ x there. omega (arith, (at-place ids x there).0, c.places-places.ensures.few) in
+    let on = c.way-marks.ensures.way g chart (c.captures-2.ensures ∙ seen) in
     let lives : has_phase is_live_phase unit ≡ true = sym c.is_live.ensures ∙ c.if-not-is_live.false in
     let rests : has_phase is_running_phase unit ≡ false = sym c.is_running.ensures ∙ c.if-is_running.false in
     one-more (on_way g) ids streams id unit c.args.self.now _ told

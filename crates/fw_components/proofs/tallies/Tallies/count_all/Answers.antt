@@ -12,7 +12,7 @@ pub loop-i-init : goal.loop-i-init
 loop-i-init c = record {
   within = omega arith;
   most = λ k. (omega (arith, c.requires.bare.running k), omega (arith, c.requires.bare.live k));
-  told = λ g chart seen. subst (λ (cs : List Component). AreTold (on_way g) c.args.places.now.ids (streams_by cs) c.args.self.now) (sym (drop_all (length c.args.comps.now) c.args.comps.now (omega arith))) (bare-told (on_way g) c.args.places.now.ids c.args.self.now c.requires.bare);
+  told = λ g chart seen. subst (λ (cs : List Component). AreTold (on_way g) c.args.ways.now.ids (streams_by cs) c.args.self.now) (sym (drop_all (length c.args.comps.now) c.args.comps.now (omega arith))) (bare-told (on_way g) c.args.ways.now.ids c.args.self.now c.requires.bare);
 }
 
 pub loop-i-preserved : goal.loop-i-preserved
@@ -26,6 +26,6 @@ loop-i-preserved c =
       within = omega (arith, c.loop-i.invariant.within);
       most = λ n. (omega (arith, (c.count.ensures.most n).0, (c.loop-i.invariant.most n).0, next), omega (arith, (c.count.ensures.most n).1, (c.loop-i.invariant.most n).1, next));
       told = λ g chart seen.
-          subst (λ (cs : List Component). AreTold (on_way g) c.args.places.now.ids (streams_by cs) c.count.new.self) rest
+          subst (λ (cs : List Component). AreTold (on_way g) c.args.ways.now.ids (streams_by cs) c.count.new.self) rest
           (c.count.ensures.told g (streams_by (drop c.loop-i.i comps)) chart (subst (IsSeenIn g) (sym c.index-comps-i.is) (all-at (IsSeenIn g) comps k d low seen)) (c.loop-i.invariant.told g chart seen));
     }

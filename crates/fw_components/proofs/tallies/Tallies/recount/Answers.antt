@@ -1,10 +1,10 @@
-use Rattle.std.proofs.Common.{sym, subst, ◌∙◌, ℕ, List, None}
+use Rattle.std.proofs.Common.{sym, subst, ◌∙◌, ℕ, List, None, map}
 use Rattle.stream_law.specs.Ways.{on_way}
 use Rattle.fw_places.proofs.Leaves.{zeros}
+use Rattle.fw_units.specs.Units.{pipe_by}
 use Rattle.fw_components.specs.Tables.{Tables, graph_of, streams_of}
 use Rattle.fw_components.specs.Tally.{AreTold}
 use Rattle.fw_components.proofs.HostWays.{all-seen}
-use Rattle.fw_components.proofs.Listed.{ids-are}
 use Rattle.fw_components.proofs.Tallying.{idle-tallied, no-params}
 use Rattle.fw_components.proofs.tallies.Tallies.recount.Goals as goal
 
@@ -17,6 +17,6 @@ returns-then-not-any_live c = λ pipes. idle-tallied (record { comps = c.args.co
 pub returns : goal.returns
 returns c = λ pipes.
     let t : Tables = record { comps = c.args.comps.now; buffers = c.args.buffers.now; pipes = pipes; joins = c.args.joins.now } in
-    let ids = ids-are t _ c.places_of-places.ensures.ids in
-    subst (λ (ids : List ℕ). AreTold (on_way (graph_of t)) ids (streams_of t) c.count_all.new.self) ids
-    (c.count_all.ensures (graph_of t) (record { ids = ids; joins = c.places_of-places.ensures.joins }) (all-seen t c.requires.named))
+    let ways = c.ways_over-ways.ensures (map pipe_by pipes) in
+    subst (λ (ids : List ℕ). AreTold (on_way (graph_of t)) ids (streams_of t) c.count_all.new.self) ways.ids
+    (c.count_all.ensures (graph_of t) ways (all-seen t c.requires.named))

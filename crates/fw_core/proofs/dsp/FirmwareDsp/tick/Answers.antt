@@ -2,7 +2,8 @@ use Rattle.std.proofs.Common.{◌+◌, ◌∙◌, sym, ap, refl, Some, None, con
 use Rattle.std.proofs.lemmas.Bool.{true≢false}
 use Rattle.sof_base.specs.Ports.{Io}
 use Rattle.stream_law.specs.State.{FwState}
-use Rattle.stream_law.specs.Move.{Move, next_clock}
+use Rattle.stream_law.specs.Move.{next_clock}
+use Rattle.stream_law.specs.TickMoves.{Move}
 use Rattle.mbox_link.specs.Exchange.{ticked}
 use Rattle.mbox_link.proofs.Rooms.{HasRoom-less}
 use Rattle.fw_core.specs.Held.{state_in}

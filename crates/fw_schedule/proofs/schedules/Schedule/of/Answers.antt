@@ -9,7 +9,7 @@ use Rattle.fw_units.specs.Units.{edge_by}
 use Rattle.fw_components.specs.Tables.{Tables, graph_of, view_by}
 use Rattle.fw_components.specs.Kept.{IsKept}
 use Rattle.fw_schedule.specs.declared.steps.Step.{Step}
-use Rattle.fw_schedule.specs.Schedules.{IsStepOf, inlets_of}
+use Rattle.fw_schedule.specs.Schedules.{IsStepOf, step_edges}
 use Rattle.fw_schedule.proofs.InOrder.{order-distinct}
 use Rattle.fw_schedule.proofs.InletRooms.{all-more, room-next}
 use Rattle.fw_schedule.proofs.StepLaws.{steps-more, steps-end}
@@ -32,8 +32,8 @@ edges-few t kept = omega (arith, length-map (map edge_by t.buffers) (λ (e : Edg
 pub loop-i-init : goal.loop-i-init
 loop-i-init c = record {
   ids = ap (map (λ (s : Step). s.id)) c.new-steps.ensures;
-  inlets = c.new-inlets.ensures;
-  steps = subst (AllByRecursion (IsStepOf (view_by c.args.registry.now) c.new-inlets.result.items)) (sym c.new-steps.ensures) tt;
+  ends = c.new-ends.ensures;
+  steps = subst (AllByRecursion (IsStepOf (view_by c.args.registry.now) c.new-ends.result.items)) (sym c.new-steps.ensures) tt;
 }
 
 pub step_at-step-requires-clause-there : goal.step_at-step-requires-clause-there
@@ -49,7 +49,7 @@ step_at-step-requires-clause-room c =
     let id = id-next t places i c.from.result all c.loop-i-test.true c.from.ensures in
     let low : i < length (order (graph_of t)) = omega (arith, places-all t places all, c.loop-i-test.true) in
     let room = room-next v (order (graph_of t)) i (order-distinct (graph_of t)) (edges-few t c.buffers-buffers.ensures.kept) low in
-    omega (arith, room, ap length c.loop-i.invariant.inlets, ap (λ n. length (inlets_of v n)) id)
+    omega (arith, room, ap length c.loop-i.invariant.ends, ap (λ n. length (step_edges v n)) id)
 
 pub push-requires : goal.push-requires
 push-requires c =
@@ -65,21 +65,21 @@ loop-i-preserved c =
     let step : Step = c.step_at-step.result in
     let id : step.id ≡ get_or (order (graph_of t)) i 0 = c.step_at-step.ensures.id ∙ id-next t places i c.from.result all c.loop-i-test.true c.from.ensures in
     let low : i < length (order (graph_of t)) = omega (arith, places-all t places all, c.loop-i-test.true) in
-    let grown : c.step_at-step.new.inlets.items ≡ c.loop-i.inlets.items ++ inlets_of v step.id = c.step_at-step.ensures.inlets in
+    let grown : c.step_at-step.new.ends.items ≡ c.loop-i.ends.items ++ step_edges v step.id = c.step_at-step.ensures.ends in
     record {
       ids =
           ap (map (λ (s : Step). s.id)) c.push.ensures.items
           ∙ map-append (λ (s : Step). s.id) c.loop-i.steps.items (step ∷ [])
           ∙ (λ j. c.loop-i.invariant.ids j ++ id j ∷ [])
           ∙ sym (take_more (order (graph_of t)) i 0 low);
-      inlets =
+      ends =
           grown
-          ∙ (λ j. c.loop-i.invariant.inlets j ++ inlets_of v (id j))
+          ∙ (λ j. c.loop-i.invariant.ends j ++ step_edges v (id j))
           ∙ sym (all-more v (order (graph_of t)) i low);
       steps =
-          subst (AllByRecursion (IsStepOf v c.step_at-step.new.inlets.items)) (sym c.push.ensures.items)
-          (steps-end v c.step_at-step.new.inlets.items c.loop-i.steps.items step
-          (subst (λ (ids : List ℕ). AllByRecursion (IsStepOf v ids) c.loop-i.steps.items) (sym grown) (steps-more v c.loop-i.inlets.items (inlets_of v step.id) c.loop-i.steps.items c.loop-i.invariant.steps))
+          subst (AllByRecursion (IsStepOf v c.step_at-step.new.ends.items)) (sym c.push.ensures.items)
+          (steps-end v c.step_at-step.new.ends.items c.loop-i.steps.items step
+          (subst (λ (ids : List ℕ). AllByRecursion (IsStepOf v ids) c.loop-i.steps.items) (sym grown) (steps-more v c.loop-i.ends.items (step_edges v step.id) c.loop-i.steps.items c.loop-i.invariant.steps))
           c.step_at-step.ensures.step);
     }
 

@@ -3,13 +3,13 @@ use Rattle.std.specs.List.{AllByRecursion}
 use Rattle.stream_law.specs.Order.{order}
 use Rattle.fw_components.specs.Tables.{graph_of, view_by}
 use Rattle.fw_schedule.specs.Schedules.{IsStepOf}
-use Rattle.fw_schedule.proofs.InletRooms.{all_inlets}
+use Rattle.fw_schedule.proofs.InletRooms.{all_ends}
 use Rattle.fw_schedule.proofs.schedules.Schedule.of.Given as goal
 
--- the first components have their steps and inlets
+-- the first components have their steps, inlets and what they feed
 abbrev pub invariant-loop-i : goal.invariant-loop-i
 invariant-loop-i l = record {
   ids : map (λ s. s.id) l.steps.items ≡ take l.i (order (graph_of l.registry));
-  inlets : l.inlets.items ≡ all_inlets (view_by l.registry) (take l.i (order (graph_of l.registry)));
-  steps : AllByRecursion (IsStepOf (view_by l.registry) l.inlets.items) l.steps.items;
+  ends : l.ends.items ≡ all_ends (view_by l.registry) (take l.i (order (graph_of l.registry)));
+  steps : AllByRecursion (IsStepOf (view_by l.registry) l.ends.items) l.steps.items;
 }

@@ -11,7 +11,7 @@ use Rattle.fw_gain.specs.RampKernels.{all_ramped}
 use Rattle.fw_units.specs.declared.component.Unit as units
 use Rattle.fw_units.specs.Processed.{moves_of, IsLevel, IsInlet, slices_in, made_frames, made_numbers}
 use Rattle.fw_units.specs.Moving.{samples_in, all_summed}
-use Rattle.fw_units.proofs.MadeLaws.{all-at, run-frames, only-long, made-ramped, made-equalised, made-mixed, chosen-there, made-chosen, made-missed}
+use Rattle.fw_units.proofs.MadeLaws.{all-at, inlet-frames, only, run-frames, only-long, made-ramped, made-equalised, made-mixed, chosen-there, made-chosen, made-missed}
 use Rattle.fw_units.proofs.component.Component.make.Goals as goal
 
 pub copy-requires-clause-there : goal.copy-requires-clause-there
@@ -88,3 +88,13 @@ returns-in-Eq-clause-numbers c =
     c.run.ensures.numbers
     ∙ ap (numbers_after eq.blob channels (numbers_of eq channels)) fs
     ∙ ap (λ (u : units.Unit). made_numbers u channels slices) (sym c.in-Eq.is)
+
+pub returns-in-Demux-clause-frames : goal.returns-in-Demux-clause-frames
+returns-in-Demux-clause-frames c =
+    let cs = c.args.buffers.now in let channels = c.args.self.now.channels in let n = c.args.n in let looked = c.args.looked.now in
+    let one : length looked ≡ 1 = eqb-true (length looked) 1 (ap (λ (u : units.Unit). moves_of u (length looked)) (sym c.in-Demux.is) ∙ c.requires.kind) in
+    let some : 0 < length looked = omega (arith, one) in
+    ap (frames_of channels n) c.copy-in-Demux.ensures.samples
+    ∙ inlet-frames cs channels n (get_or looked 0 0) (all-at (IsInlet cs channels n) looked 0 0 some c.requires.inlets) c.copy-in-Demux.ensures.frames
+    ∙ only cs channels n looked one
+    ∙ ap (λ (u : units.Unit). made_frames u channels n c.args.chosen (slices_in cs looked n)) (sym c.in-Demux.is)

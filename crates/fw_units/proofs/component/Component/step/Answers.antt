@@ -1,20 +1,16 @@
-use Rattle.std.proofs.Common.{◌≡◌, ◌∙◌, sym, ap, ℕ, ◌+◌, ◌*◌, ◌/◌, ◌%◌, ◌≤◌, ◌==◌, true, Some, List, length, map, set, subst, arith, length-take}
-use Rattle.std.specs.Prelude.{find, position}
-use Rattle.sof_base.specs.Samples.{Frame}
-use Rattle.sof_base.specs.FrameLists.{frames_of}
-use Rattle.stream_law.specs.Placed.{Ascends}
+use Rattle.std.proofs.Common.{◌≡◌, ◌∙◌, sym, ap, ℕ, ◌*◌, ◌≤◌, ◌==◌, true, List, Option, length, take, subst, arith, length-take}
+use Rattle.std.specs.Prelude.{find}
+use Rattle.std.specs.List.{AllByRecursion}
 use Rattle.fw_ring.proofs.FrameLaws.{length-frames}
 use Rattle.fw_units.specs.declared.component.Component.{Component}
 use Rattle.fw_units.specs.Changes.{has_id}
-use Rattle.fw_units.specs.Frames.{buffer_frames, pushed_at, words_by}
-use Rattle.fw_units.specs.Processed.{IsInlet, slices_in, made_numbers}
+use Rattle.fw_units.specs.Frames.{kept_words, buffer_frames, words_by}
+use Rattle.fw_units.specs.Processed.{IsLevel, feeds_of, IsInlet, IsOutlet, slices_in, chosen_by, made_numbers, output_number}
 use Rattle.fw_units.specs.Moving.{frames_now}
 use Rattle.fw_units.proofs.Ids.{all-by}
-use Rattle.fw_units.proofs.Putting.{pushed-put}
-use Rattle.fw_units.proofs.Standing.{frames-is, channels-is, capacity-is}
-use Rattle.fw_units.proofs.Taking.{taken-found}
-use Rattle.fw_units.proofs.StepLaws.{mid-there, mid-ascends}
-use Rattle.fw_units.proofs.StepLaws.{mid-whole, mid-fit, step-table}
+use Rattle.fw_units.proofs.MovedLaws.{run-level, run-feeds}
+use Rattle.fw_units.proofs.StepLaws.{mid-ascends}
+use Rattle.fw_units.proofs.StepLaws.{mid-outlets, step-table}
 use Rattle.fw_units.proofs.component.Component.step.Goals as goal
 
 pub drain_in-requires-clause-there : goal.drain_in-requires-clause-there
@@ -27,47 +23,50 @@ drain_in-requires-clause-held c =
     let bs = c.args.buffers.now.items in let x = c.args.self.now in let n = c.args.n in
     all-by (IsInlet bs x.channels n) (λ b. n ≤ length (buffer_frames bs b)) (λ b inlet. inlet.held) c.args.looked.now c.requires.can.inlets
 
-pub place-at-requires-clause-there : goal.place-at-requires-clause-there
-place-at-requires-clause-there c = ap (λ (cs : List Component). has_id cs c.args.fed) c.as_slice-2.ensures.value ∙ mid-there c.args.buffers.now.items c.args.looked.now c.args.fed c.args.n c.args.self.now c.requires.can c.requires.channels.0 c.drain_in.new.components.items c.drain_in.ensures.items
+pub give-requires-clause-level : goal.give-requires-clause-level
+give-requires-clause-level c =
+    let x = c.args.self.now in
+    subst (λ (y : Component). IsLevel y.unit) (sym c.make.ensures.component) (run-level (kept_words c.make.new.self) c.args.n x.unit c.requires.can.level)
 
-pub place-at-requires-clause-ascends : goal.place-at-requires-clause-ascends
-place-at-requires-clause-ascends c = subst (Ascends (λ (y : Component). y.id)) (sym c.as_slice-2.ensures.value) (mid-ascends c.args.buffers.now.items c.args.looked.now c.args.fed c.args.n c.args.self.now c.requires.can c.requires.channels.0 c.drain_in.new.components.items c.drain_in.ensures.items)
+pub give-requires-clause-feeds : goal.give-requires-clause-feeds
+give-requires-clause-feeds c =
+    let x = c.args.self.now in
+    ap (λ (y : Component). feeds_of y.unit (length c.args.fed.now)) c.make.ensures.component ∙ run-feeds (kept_words c.make.new.self) c.args.n (length c.args.fed.now) x.unit ∙ c.requires.can.feeds
 
-pub push-requires-clause-whole : goal.push-requires-clause-whole
-push-requires-clause-whole c =
+pub give-requires-clause-ascends : goal.give-requires-clause-ascends
+give-requires-clause-ascends c = mid-ascends c.args.buffers.now.items c.args.looked.now c.args.fed.now c.args.n c.args.self.now c.requires.can c.drain_in.new.components.items c.drain_in.ensures.items
+
+pub give-requires-clause-channels : goal.give-requires-clause-channels
+give-requires-clause-channels c = subst (λ (y : Component). (1 ≤ y.channels) × (y.channels ≤ 8)) (sym c.make.ensures.component) c.requires.channels
+
+pub give-requires-clause-outlets : goal.give-requires-clause-outlets
+give-requires-clause-outlets c =
+    let mid = c.drain_in.new.components.items in let fed = c.args.fed.now in let n = c.args.n in
+    subst (λ (y : Component). AllByRecursion (IsOutlet mid y.channels n) fed) (sym c.make.ensures.component)
+    (mid-outlets c.args.buffers.now.items c.args.looked.now fed n c.args.self.now c.requires.can mid c.drain_in.ensures.items)
+
+pub give-requires-clause-made : goal.give-requires-clause-made
+give-requires-clause-made c =
     let size = c.args.n * c.from.result in
     let long : length c.make.new.samples ≡ c.args.n * c.args.self.now.channels = omega (arith, c.make.auto.samples, length-take size c.args.samples.now, c.requires.size.1, ap (λ (k : ℕ). c.args.n * k) c.from.ensures) in
-    let mid = c.drain_in.new.components.items in let y = c.index_mut.result.now in
-    let place : Some c.place-at.result ≡ position (λ (y : Component). y.id == c.args.fed) mid = c.place-at.ensures.place ∙ ap (position (λ (y : Component). y.id == c.args.fed)) c.as_slice-2.ensures.value in
-    let it = ap (λ (y : Component). Some y) c.index_mut.ensures.value ∙ taken-found c.args.fed mid c.place-at.result y place in
-    ap (λ k. length c.make.new.samples % k) (channels-is c.args.fed mid y it) ∙ mid-whole c.args.buffers.now.items c.args.looked.now c.args.fed c.args.n c.args.self.now c.requires.can c.requires.channels.0 c.drain_in.new.components.items c.drain_in.ensures.items c.make.new.samples long
+    long ∙ ap (λ (y : Component). c.args.n * y.channels) (sym c.make.ensures.component)
 
-pub push-requires-clause-fit : goal.push-requires-clause-fit
-push-requires-clause-fit c =
+pub give-requires-clause-kept : goal.give-requires-clause-kept
+give-requires-clause-kept c =
     let size = c.args.n * c.from.result in
-    let long : length c.make.new.samples ≡ c.args.n * c.args.self.now.channels = omega (arith, c.make.auto.samples, length-take size c.args.samples.now, c.requires.size.1, ap (λ (k : ℕ). c.args.n * k) c.from.ensures) in
-    let mid = c.drain_in.new.components.items in let y = c.index_mut.result.now in
-    let place : Some c.place-at.result ≡ position (λ (y : Component). y.id == c.args.fed) mid = c.place-at.ensures.place ∙ ap (position (λ (y : Component). y.id == c.args.fed)) c.as_slice-2.ensures.value in
-    let it = ap (λ (y : Component). Some y) c.index_mut.ensures.value ∙ taken-found c.args.fed mid c.place-at.result y place in
-    subst (λ (p : List Frame × (ℕ × ℕ)). length p.0 + length c.make.new.samples / p.1.0 ≤ p.1.1) (λ i. (sym (frames-is c.args.fed mid y it) i, (sym (channels-is c.args.fed mid y it) i, sym (capacity-is c.args.fed mid y it) i)))
-    (mid-fit c.args.buffers.now.items c.args.looked.now c.args.fed c.args.n c.args.self.now c.requires.can c.requires.channels.0 c.drain_in.new.components.items c.drain_in.ensures.items c.make.new.samples long)
+    let rest = c.split_at_mut-made.result.1.now in
+    (let e : length (take size rest) ≡ c.args.n * c.args.self.now.channels = omega (arith, length-take size rest, c.split_at_mut-made.ensures.back_len, c.requires.size.1, ap (λ (k : ℕ). c.args.n * k) c.from.ensures) in e)
+    ∙ ap (λ (y : Component). c.args.n * y.channels) (sym c.make.ensures.component)
 
 pub returns-clause-moved : goal.returns-clause-moved
 returns-clause-moved c =
     let bs = c.args.buffers.now.items in let looked = c.args.looked.now in let n = c.args.n in let x = c.args.self.now in
-    let size = n * c.from.result in
-    let long : length c.make.new.samples ≡ n * x.channels = omega (arith, c.make.auto.samples, length-take size c.args.samples.now, c.requires.size.1, ap (λ (k : ℕ). n * k) c.from.ensures) in
-    let made = c.make.ensures.frames ∙ ap (λ (cs : List Component). frames_now c.args.chosen cs looked n x) c.as_slice.ensures.value in
-    let mid = c.drain_in.new.components.items in let y = c.index_mut.result.now in
-    let place : Some c.place-at.result ≡ position (λ (y : Component). y.id == c.args.fed) mid = c.place-at.ensures.place ∙ ap (position (λ (y : Component). y.id == c.args.fed)) c.as_slice-2.ensures.value in
-    let it = ap (λ (y : Component). Some y) c.index_mut.ensures.value ∙ taken-found c.args.fed mid c.place-at.result y place in
-    let new = set mid c.place-at.result c.push.new.self in
-    let put = pushed-put c.args.fed c.place-at.result mid y c.push.new.self (mid-ascends c.args.buffers.now.items c.args.looked.now c.args.fed c.args.n c.args.self.now c.requires.can c.requires.channels.0 c.drain_in.new.components.items c.drain_in.ensures.items) place c.index_mut.ensures.value _ c.push.ensures
-    ∙ ap (λ k. map (pushed_at c.args.fed (frames_of k (length c.make.new.samples / k) c.make.new.samples) (words_by (find (λ z. z.id == c.args.fed) new))) mid) (channels-is c.args.fed mid y it) in
+    let made = c.make.ensures.frames ∙ ap (λ (cs : List Component). frames_now c.chosen-chosen.result cs looked n x) c.as_slice.ensures.value ∙ ap (λ (o : Option ℕ). frames_now o bs looked n x) c.chosen-chosen.ensures in
+    let new = c.give.new.buffers.items in
     record {
       component = c.make.ensures.component;
       numbers = c.make.ensures.numbers ∙ ap (λ (cs : List Component). made_numbers x.unit x.channels (slices_in cs looked n)) c.as_slice.ensures.value;
       staged = c.make.ensures.staged;
       count = ap length (sym made) ∙ length-frames x.channels n c.make.new.samples;
-      table = step-table bs looked c.args.fed n x c.requires.can c.requires.channels.0 c.drain_in.new.components.items c.drain_in.ensures.items c.make.new.samples long new (frames_now c.args.chosen bs looked n x) made put;
+      table = step-table bs looked c.args.fed.now n x c.requires.can c.drain_in.new.components.items c.drain_in.ensures.items (output_number c.args.joins.now) (kept_words c.make.new.self) c.make.new.self (λ b. words_by (find (λ y. y.id == b) new)) new c.make.new.samples (frames_now (chosen_by x.unit x.id c.args.joins.now) bs looked n x) c.make.ensures.component made c.give.ensures.items;
     }

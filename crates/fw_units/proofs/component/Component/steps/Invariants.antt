@@ -1,4 +1,5 @@
 use Rattle.std.proofs.Common.{◌≡◌, ◌≤◌, ◌-◌, vec_capacity}
+use Rattle.fw_units.specs.Processed.{chosen_by, output_number}
 use Rattle.fw_units.specs.Moving.{IsMoved}
 use Rattle.fw_units.proofs.component.Component.steps.Given as goal
 
@@ -6,7 +7,7 @@ use Rattle.fw_units.proofs.component.Component.steps.Given as goal
 abbrev pub invariant-loop-moved : goal.invariant-loop-moved
 invariant-loop-moved l = record {
   within : l.moved ≤ l.n;
-  so_far : IsMoved l.chosen l.looked l.fed l.moved l.fn.buffers.items l.fn.self l.buffers.items l.self;
+  so_far : IsMoved (chosen_by l.fn.self.unit l.fn.self.id l.joins) (output_number l.joins l.fn.self.id) l.looked l.fed l.moved l.fn.buffers.items l.fn.self l.buffers.items l.self;
   capacity : vec_capacity l.buffers ≡ vec_capacity l.fn.buffers;
 }
 

@@ -11,7 +11,7 @@ use Rattle.stream_law.specs.declared.graph.Edge.{Edge}
 use Rattle.stream_law.specs.declared.graph.Pipe.{Pipe}
 use Rattle.stream_law.specs.declared.graph.Join.{Join}
 use Rattle.tplg_widgets.specs.declared.entry.Role.{Role}
-use Rattle.tplg_widgets.specs.declared.entry.Role.TheVariants.{HostPlay, HostCapture, Dai, Volume, Mixer, Mux, Eq, Buffer, Scheduler}
+use Rattle.tplg_widgets.specs.declared.entry.Role.TheVariants.{HostPlay, HostCapture, Dai, Volume, Mixer, Mux, Eq, Demux, Buffer, Scheduler}
 use Rattle.tplg_widgets.specs.declared.entry.Entry.{Entry}
 use Rattle.tplg_widgets.specs.declared.route_end.End.{End}
 use Rattle.tplg_widgets.specs.declared.route_end.End.TheVariants as an_end
@@ -68,6 +68,7 @@ role-need (Some Volume) format ends size h = refl
 role-need (Some Mixer) format ends size h = refl
 role-need (Some Mux) format ends size h = refl
 role-need (Some Eq) format ends size h = refl
+role-need (Some Demux) format ends size h = refl
 role-need (Some Buffer) format ends size h = own (rounded (32 + size))
 role-need (Some Scheduler) format ends size h = refl
 

@@ -17,13 +17,13 @@ use Rattle.tplg_plan.specs.declared.plans.StreamPlan.{StreamPlan}
 use Rattle.tplg_plan.specs.declared.plans.WidgetPlan.{WidgetPlan}
 use Rattle.tplg_plan.specs.declared.plans.ControlPlan.{ControlPlan}
 use Rattle.tplg_plan.specs.declared.plans.ControlKind.{ControlKind}
-use Rattle.tplg_plan.specs.declared.plans.ControlKind.TheVariants.{Volume, Choice, Blob}
+use Rattle.tplg_plan.specs.declared.plans.ControlKind.TheVariants.{Volume, Choice, Blob, Masks}
 use Rattle.tplg_plan.specs.WidgetWords.{format_number}
 use Rattle.tplg_widgets.specs.declared.pcm_caps.PcmCaps.{PcmCaps}
 use Rattle.tplg_widgets.specs.LiveControls.{scale_word}
 use Rattle.tplg_widgets.specs.PcmList.{caps_named}
 use Rattle.tplg_widgets.specs.Tokens.{stated_format}
-use Rattle.tplg_widgets.specs.Entries.{is_scheduler}
+use Rattle.tplg_widgets.specs.Entries.{is_scheduler, is_demux_role}
 use Rattle.tplg_widgets.specs.Ends.{end_named}
 use Rattle.tplg_rules.specs.ControlRanges.{is_volume_range}
 
@@ -78,18 +78,26 @@ abbrev pub volume_kind : ControlHead → ℤ → ℤ → ℕ → Option ControlK
 volume_kind head min max channels =
     if is_volume_range min max channels then Some (Volume (nat_abs min) (nat_abs max) channels (cast_signed w32 (scale_word head 0)) (scale_word head 1) (scale_word head 2)) else None
 
--- what a live control takes
-abbrev pub kind_in : Control → Option ControlKind
-kind_in (recorded.Mixer head min max platform_max invert num_channels channels private) = volume_kind head min max num_channels
-kind_in (recorded.Enum head num_channels channels items mask count texts values private) = Some (Choice items)
-kind_in (recorded.Bytes head max mask base num_regs ext_ops private) = Some (Blob max private)
+-- what a demux takes, likewise
+abbrev pub masks_kind : ℤ → ℤ → ℕ → Option ControlKind
+masks_kind min max channels = if is_volume_range min max channels then Some (Masks (nat_abs min) (nat_abs max) channels) else None
+
+-- what a mixer control takes at a widget of a role
+abbrev pub mixer_kind : Option Role → ControlHead → ℤ → ℤ → ℕ → Option ControlKind
+mixer_kind role head min max channels = if is_demux_role role then masks_kind min max channels else volume_kind head min max channels
+
+-- what a live control takes at a widget of a role
+abbrev pub kind_in : Option Role → Control → Option ControlKind
+kind_in role (recorded.Mixer head min max platform_max invert num_channels channels private) = mixer_kind role head min max num_channels
+kind_in role (recorded.Enum head num_channels channels items mask count texts values private) = Some (Choice items)
+kind_in role (recorded.Bytes head max mask base num_regs ext_ops private) = Some (Blob max private)
 
 -- the live control of this id, where there is one
-abbrev pub control_plan : ℕ → Option Control → Option ControlPlan
-control_plan id control = option_map (λ kind. record { comp = id; kind = kind }) (option_and_then kind_in control)
+abbrev pub control_plan : ℕ → Option Role → Option Control → Option ControlPlan
+control_plan id role control = option_map (λ kind. record { comp = id; kind = kind }) (option_and_then (kind_in role) control)
 
 abbrev pub entry_control : List Entry → ℕ → Option ControlPlan
-entry_control ps id = option_and_then (λ e. control_plan id e.control) (slice_get ps id)
+entry_control ps id = option_and_then (λ e. control_plan id e.role e.control) (slice_get ps id)
 
 abbrev pub controls_on : List Entry → List ControlPlan
 controls_on ps = filter_map (entry_control ps) (range_with_len 0 (length ps))

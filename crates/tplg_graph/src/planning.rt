@@ -7,6 +7,7 @@ ghost use Rattle.tplg_widgets.specs.Entries.{entries_of};
 ghost use Rattle.tplg_widgets.specs.Ends.{ends_in};
 ghost use Rattle.tplg_rules.specs.Rules.{AllHold};
 ghost use Rattle.tplg_rules.specs.WellFormed as rules;
+ghost use Rattle.tplg_rules.specs.RuleFaults as rule_faults;
 ghost use Rattle.tplg_graph.specs.Orderable.{IsOrderable, IsAcyclic};
 ghost use Rattle.tplg_graph.specs.PlanOf as law;
 ghost use Rattle.tplg_graph.specs.TopologyNeed.{need_of};
@@ -98,7 +99,7 @@ fn plan_ruled(alloc: Global, wiring: &Wiring) -> Result<Plan, PlanFault>
     ensures ok { OnOk result (AllHold (rules.rules_by wiring.now)) }
     ensures lists { IfOk result (λ p. p ≡ law.plan_by wiring.now) }
     ensures fit { IfOk result (λ p. All FitsWords p.widgets) }
-    ensures err { IfErr result (rules.IsFaultOf (rules.rules_by wiring.now)) }
+    ensures err { IfErr result (rule_faults.IsFaultOf (rules.rules_by wiring.now)) }
 {
     check_wiring(alloc, wiring)?;
     let plan = plan_by(alloc, wiring)?;
@@ -111,7 +112,7 @@ fn plan_in_form(alloc: Global, topology: &Topology) -> Result<Plan, PlanFault>
     ensures ok { OnOk result (rules.IsWellFormed topology.now) }
     ensures lists { IfOk result (λ p. p ≡ law.plan_of topology.now) }
     ensures fit { IfOk result (λ p. All FitsWords p.widgets) }
-    ensures err { IfErr result (rules.IsFaultOf (rules.rules_of topology.now)) }
+    ensures err { IfErr result (rule_faults.IsFaultOf (rules.rules_of topology.now)) }
 {
     let wiring = Wiring::of(alloc, topology)?;
     plan_ruled(alloc, &wiring)
@@ -124,9 +125,9 @@ pub fn plan(alloc: Global, topology: &Topology) -> Result<Plan, PlanFault>
     requires routes { length (ends_in topology.now) < 2 ^ 32 }
     ensures ok { OnOk result (rules.IsWellFormed topology.now) }
     ensures lists { IfOk result (λ p. p ≡ law.plan_of topology.now) }
-    ensures err { IfErr result (rules.IsFaultOf (rules.rules_of topology.now)) }
+    ensures err { IfErr result (rule_faults.IsFaultOf (rules.rules_of topology.now)) }
     ensures kept { rules.IsWellFormed topology.now → IfErr result (λ e. e ≡ PlanFault.OutOfMemory) }
-    ensures broken { (rule item : ℕ) → rules.Breaks topology.now rule item → rules.Tells rule item result }
+    ensures broken { (rule item : ℕ) → rules.Breaks topology.now rule item → rule_faults.Tells rule item result }
     ensures fit { IfOk result (λ p. All FitsWords p.widgets) }
     ensures small { IfOk result (λ p. IsSmall p.graph) }
     ensures need { IfOk result (λ p. need_on p.graph ≡ need_of topology.now) }

@@ -13,7 +13,7 @@ fn component_size(kind: Kind) -> u64
     ensures most { result ≤ 4160 }
 {
     match kind {
-        Kind::Mixer | Kind::Mux => 32,
+        Kind::Mixer | Kind::Mux | Kind::Demux => 32,
         Kind::Eq => 4160,
         _ => 64,
     }

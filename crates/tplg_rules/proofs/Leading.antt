@@ -1,14 +1,24 @@
 -- The tests of walks say whether there is one.
-use Rattle.std.proofs.Common.{◌≡◌, refl, sym, ap, subst, ◌∙◌, ℕ, zero, suc, List, [], ◌∷◌, Bool, true, false, ◌==◌, ◌&&◌, ◌⊎◌, inl, inr, Option, Some, None}
+use Rattle.std.proofs.Common.{◌≡◌, refl, sym, ap, subst, ◌∙◌, ℕ, zero, suc, List, [], ◌∷◌, Bool, true, false, ◌==◌, ◌&&◌, ◌⊎◌, ◌↔◌, inl, inr, Option, Some, None}
 use Rattle.std.specs.List.{list_any}
 use Rattle.std.specs.Option.{option_map_or}
 use Rattle.std.proofs.lemmas.Bool.{false≢true, eqb-true, eq-eqb, and_parts, and_from, or_left, or_right, or_cases}
 use Rattle.stream_law.specs.declared.graph.Comp.{Comp}
 use Rattle.stream_law.specs.declared.graph.Edge.{Edge}
+use Rattle.stream_law.specs.declared.graph.Kind.{Kind}
+use Rattle.stream_law.specs.Order.{is_among}
 use Rattle.stream_law.specs.Ways.{is_end, is_capture}
-use Rattle.tplg_rules.specs.Cycles.{are_joined, EdgeWalk, Reaches, captures_at, ReachesCapture}
-use Rattle.tplg_rules.specs.RuleTest.{leads_along, reaches, leads_to_capture}
-use Rattle.tplg_rules.proofs.Among.{is_end-some}
+use Rattle.tplg_rules.specs.Cycles.{are_joined, EdgeWalk, Reaches, ReachesCapture}
+use Rattle.tplg_rules.specs.RuleTest.{leads_to_capture}
+use Rattle.tplg_rules.specs.Echoes.{leads_along, reaches, is_sort_at, reaches_sort}
+use Rattle.tplg_rules.proofs.Among.{is_end-some, any-among, among-any}
+
+-- two tests that hold together are one
+pub same_from_iff : (a b : Bool) → (a ≡ true) ↔ (b ≡ true) → a ≡ b
+same_from_iff true true iff = refl
+same_from_iff true false iff = sym (iff.0 refl)
+same_from_iff false true iff = iff.1 refl
+same_from_iff false false iff = refl
 
 -- a walk of some length
 abbrev pub Leads : List Edge → ℕ → ℕ → Type 0
@@ -135,31 +145,40 @@ reaches-from edges a b h = let r = is_reached-walk edges edges a b h in let w = 
 pub reaches-to : (edges : List Edge) (a b : ℕ) → Reaches edges a b → reaches edges a b ≡ true
 reaches-to edges a b r = walk-is_reached edges edges a r.1.0 b r.1.1 (walk-leads edges r.0 r.1.0 b r.1.2)
 
+-- ---- components of a sort
+
+some-from : (comps : List Comp) (edges : List Edge) (sort : Kind → Bool) (id : ℕ) → reaches_sort comps edges sort id ≡ true → (d : ℕ) × (is_sort_at comps sort d ≡ true) × (reaches edges id d ≡ true)
+some-from [] edges sort id h = absurd (false≢true h)
+some-from (c ∷ cs) edges sort id h = by_case (or_cases (sort c.kind && reaches edges id c.id) (reaches_sort cs edges sort id) h) (λ k. some-from cs edges sort id k)
+  where
+    by_case : ((sort c.kind && reaches edges id c.id) ≡ true) ⊎ (reaches_sort cs edges sort id ≡ true) → (reaches_sort cs edges sort id ≡ true → (d : ℕ) × (is_sort_at cs sort d ≡ true) × (reaches edges id d ≡ true)) → (d : ℕ) × (is_sort_at (c ∷ cs) sort d ≡ true) × (reaches edges id d ≡ true)
+    by_case (inl k) rest =
+        let parts = and_parts (sort c.kind) (reaches edges id c.id) k in
+        (c.id, or_left (c.id == c.id && sort c.kind) (is_sort_at cs sort c.id) (and_from (c.id == c.id) (sort c.kind) (eq-eqb c.id c.id refl) parts.0), parts.1)
+    by_case (inr k) rest = let r = rest k in (r.0, or_right (c.id == r.0 && sort c.kind) (is_sort_at cs sort r.0) r.1, r.2)
+
+pub some-to : (comps : List Comp) (edges : List Edge) (sort : Kind → Bool) (id d : ℕ) → is_sort_at comps sort d ≡ true → reaches edges id d ≡ true → reaches_sort comps edges sort id ≡ true
+some-to [] edges sort id d h on = absurd (false≢true h)
+some-to (c ∷ cs) edges sort id d h on = by_case (or_cases (c.id == d && sort c.kind) (is_sort_at cs sort d) h) (λ k. some-to cs edges sort id d k on)
+  where
+    by_case : ((c.id == d && sort c.kind) ≡ true) ⊎ (is_sort_at cs sort d ≡ true) → (is_sort_at cs sort d ≡ true → reaches_sort cs edges sort id ≡ true) → reaches_sort (c ∷ cs) edges sort id ≡ true
+    by_case (inl k) rest =
+        let parts = and_parts (c.id == d) (sort c.kind) k in
+        or_left (sort c.kind && reaches edges id c.id) (reaches_sort cs edges sort id)
+        (and_from (sort c.kind) (reaches edges id c.id) parts.1 (ap (λ x. reaches edges id x) (eqb-true c.id d parts.0) ∙ on))
+    by_case (inr k) rest = or_right (sort c.kind && reaches edges id c.id) (reaches_sort cs edges sort id) (rest k)
+
+-- one of what is reached is of the sort exactly where one of the sort is reached
+pub some-among : (comps : List Comp) (edges : List Edge) (sort : Kind → Bool) (id : ℕ) (seen : List ℕ) → ((b : ℕ) → (is_among seen b ≡ true) ↔ Reaches edges id b) → list_any (is_sort_at comps sort) seen ≡ reaches_sort comps edges sort id
+some-among comps edges sort id seen all = same_from_iff (list_any (is_sort_at comps sort) seen) (reaches_sort comps edges sort id) (
+  λ h. let d = any-among (is_sort_at comps sort) seen h in some-to comps edges sort id d.0 d.2 (reaches-to edges id d.0 ((all d.0).0 d.1)),
+  λ h. let d = some-from comps edges sort id h in among-any (is_sort_at comps sort) seen d.0 ((all d.0).1 (reaches-from edges id d.0 d.2)) d.1,
+)
+
 -- ---- hosts that capture
 
-capture-from : (comps : List Comp) (edges : List Edge) (id : ℕ) → leads_to_capture comps edges id ≡ true → (d : ℕ) × (captures_at comps d ≡ true) × (reaches edges id d ≡ true)
-capture-from [] edges id h = absurd (false≢true h)
-capture-from (c ∷ cs) edges id h = by_case (or_cases (is_capture c.kind && reaches edges id c.id) (leads_to_capture cs edges id) h) (λ k. capture-from cs edges id k)
-  where
-    by_case : ((is_capture c.kind && reaches edges id c.id) ≡ true) ⊎ (leads_to_capture cs edges id ≡ true) → (leads_to_capture cs edges id ≡ true → (d : ℕ) × (captures_at cs d ≡ true) × (reaches edges id d ≡ true)) → (d : ℕ) × (captures_at (c ∷ cs) d ≡ true) × (reaches edges id d ≡ true)
-    by_case (inl k) rest =
-        let parts = and_parts (is_capture c.kind) (reaches edges id c.id) k in
-        (c.id, or_left (c.id == c.id && is_capture c.kind) (captures_at cs c.id) (and_from (c.id == c.id) (is_capture c.kind) (eq-eqb c.id c.id refl) parts.0), parts.1)
-    by_case (inr k) rest = let r = rest k in (r.0, or_right (c.id == r.0 && is_capture c.kind) (captures_at cs r.0) r.1, r.2)
-
-capture-to : (comps : List Comp) (edges : List Edge) (id d : ℕ) → captures_at comps d ≡ true → reaches edges id d ≡ true → leads_to_capture comps edges id ≡ true
-capture-to [] edges id d h on = absurd (false≢true h)
-capture-to (c ∷ cs) edges id d h on = by_case (or_cases (c.id == d && is_capture c.kind) (captures_at cs d) h) (λ k. capture-to cs edges id d k on)
-  where
-    by_case : ((c.id == d && is_capture c.kind) ≡ true) ⊎ (captures_at cs d ≡ true) → (captures_at cs d ≡ true → leads_to_capture cs edges id ≡ true) → leads_to_capture (c ∷ cs) edges id ≡ true
-    by_case (inl k) rest =
-        let parts = and_parts (c.id == d) (is_capture c.kind) k in
-        or_left (is_capture c.kind && reaches edges id c.id) (leads_to_capture cs edges id)
-        (and_from (is_capture c.kind) (reaches edges id c.id) parts.1 (ap (λ x. reaches edges id x) (eqb-true c.id d parts.0) ∙ on))
-    by_case (inr k) rest = or_right (is_capture c.kind && reaches edges id c.id) (leads_to_capture cs edges id) (rest k)
-
 pub capture-reached : (comps : List Comp) (edges : List Edge) (id : ℕ) → leads_to_capture comps edges id ≡ true → ReachesCapture comps edges id
-capture-reached comps edges id h = let r = capture-from comps edges id h in (r.0, r.1, reaches-from edges id r.0 r.2)
+capture-reached comps edges id h = let r = some-from comps edges is_capture id h in (r.0, r.1, reaches-from edges id r.0 r.2)
 
 pub reached-capture : (comps : List Comp) (edges : List Edge) (id : ℕ) → ReachesCapture comps edges id → leads_to_capture comps edges id ≡ true
-reached-capture comps edges id r = capture-to comps edges id r.0 r.1 (reaches-to edges id r.0 r.2)
+reached-capture comps edges id r = some-to comps edges is_capture id r.0 r.1 (reaches-to edges id r.0 r.2)

@@ -12,7 +12,7 @@ use Rattle.tplg_widgets.specs.Entries.{is_interpreted}
 use Rattle.tplg_widgets.specs.Names.{is_interpreted_named}
 use Rattle.tplg_plan.specs.Printable.{is_widget_name}
 use Rattle.tplg_rules.specs.RuleTable.{at, name_holds}
-use Rattle.tplg_widgets.specs.Names.{is_number}
+use Rattle.tplg_widgets.specs.KeptNumbers.{is_number}
 
 -- a place that passes is the first where none before it passes
 pub first-place : {X : Type 0} (p : X → Bool) (xs : List X) (k : ℕ) (d : X) → k < length xs → p (get_or xs k d) ≡ true → is_number (position p xs) k ≡ not (list_any p (take k xs))

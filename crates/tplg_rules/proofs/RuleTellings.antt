@@ -4,7 +4,7 @@ use Rattle.tplg_rules.specs.declared.plan_fault.PlanFault.{PlanFault}
 use Rattle.tplg_rules.specs.declared.plan_fault.PlanFault.TheVariants as fault
 use Rattle.tplg_rules.specs.Rules.{AllHold, BreaksOf}
 use Rattle.tplg_rules.specs.Rules.{Rule as A_rule}
-use Rattle.tplg_rules.specs.WellFormed.{IsFaultOf, Tells}
+use Rattle.tplg_rules.specs.RuleFaults.{IsFaultOf, Tells}
 use Rattle.tplg_rules.proofs.RuleLaws.{none_breaks, one_breaks}
 
 -- where all rules hold, want of memory is the one fault

@@ -10,10 +10,12 @@ use Rattle.tplg_widgets.specs.PcmList.{pcms_of}
 use Rattle.tplg_widgets.specs.GraphLists.{components_on, edges_on}
 use Rattle.tplg_widgets.specs.Ends.{joins_of}
 use Rattle.tplg_widgets.specs.WiringValue.{WiringValue, wiring_of}
-use Rattle.tplg_rules.specs.Rules.{Rule, item_test, AllHold, BreaksOf, IsFirstFailing}
-use Rattle.tplg_rules.specs.Cycles.{Reaches, ReachesCapture, plays_at, cycles_rule, ways_rule}
+use Rattle.tplg_rules.specs.Rules.{Rule, item_test, AllHold, BreaksOf}
+use Rattle.tplg_rules.specs.FirstFailing.{IsFirstFailing}
+use Rattle.tplg_rules.specs.Cycles.{Reaches, ReachesCapture, plays_at, cycles_rule, captures_rule}
 use Rattle.tplg_rules.specs.WellFormed.{IsWellFormed, Breaks, rules_on}
-use Rattle.tplg_rules.specs.RuleTest.{reaches, leads_to_capture, Test, first_failing, ruled, ruling, tests_on, ruling_of}
+use Rattle.tplg_rules.specs.Echoes.{reaches, plain_edges}
+use Rattle.tplg_rules.specs.RuleTest.{leads_to_capture, Test, first_failing, ruled, ruling, tests_on, ruling_of}
 use Rattle.tplg_rules.proofs.RuleLaws.{none_breaks, one_breaks, first-found}
 use Rattle.tplg_rules.proofs.Leading.{reaches-from, reaches-to, capture-reached, reached-capture}
 
@@ -66,7 +68,7 @@ cycle-same ids edges = record { number = refl; items = refl; holds = λ i h r. n
     kept i r (inl h) = absurd (r (reaches-from edges i i h))
     kept i r (inr h) = ap not h
 
-way-same : (ids : ℕ) (comps : List Comp) (edges : List Edge) → Same (ways_rule ids comps edges) (record { number = 14; items = ids; holds = λ id. not (plays_at comps id && leads_to_capture comps edges id) })
+way-same : (ids : ℕ) (comps : List Comp) (edges : List Edge) → Same (captures_rule ids comps edges) (record { number = 14; items = ids; holds = λ id. not (plays_at comps id && leads_to_capture comps edges id) })
 way-same ids comps edges = record { number = refl; items = refl; holds = λ i h p r. none i h p r; kept = λ i r. kept i r (cases_Bool (plays_at comps i && leads_to_capture comps edges i)) }
   where
     none : (i : ℕ) → not (plays_at comps i && leads_to_capture comps edges i) ≡ true → plays_at comps i ≡ true → ReachesCapture comps edges i → ⊥
@@ -80,7 +82,7 @@ way-same ids comps edges = record { number = refl; items = refl; holds = λ i h 
 
 all-same : (w : WiringValue) → AllSame (rules_on w.widgets (interpreted w.widgets) w.pcms w.ends w.joins) (tests_on w)
 all-same w =
-    (same _ _ _, (same _ _ _, (same _ _ _, (same _ _ _, (same _ _ _, (same _ _ _, (same _ _ _, (same _ _ _, (same _ _ _, (same _ _ _, (same _ _ _, (same _ _ _, (same _ _ _, (cycle-same (length (interpreted w.widgets)) (edges_on (interpreted w.widgets) w.joins), (way-same (length (interpreted w.widgets)) (components_on (interpreted w.widgets) w.joins) (edges_on (interpreted w.widgets) w.joins), tt)))))))))))))))
+    (same _ _ _, (same _ _ _, (same _ _ _, (same _ _ _, (same _ _ _, (same _ _ _, (same _ _ _, (same _ _ _, (same _ _ _, (same _ _ _, (same _ _ _, (same _ _ _, (same _ _ _, (cycle-same (length (interpreted w.widgets)) (edges_on (interpreted w.widgets) w.joins), (way-same (length (interpreted w.widgets)) (components_on (interpreted w.widgets) w.joins) (plain_edges (components_on (interpreted w.widgets) w.joins) (edges_on (interpreted w.widgets) w.joins)), tt)))))))))))))))
 
 told : (t : Topology) (o : Option (ℕ × ℕ)) → ruling_of t ≡ o → (IsWellFormed t × (o ≡ None)) ⊎ ((rule : ℕ) × (item : ℕ) × Breaks t rule item × (o ≡ Some (rule, item)))
 unfolding ruling_of

@@ -1,5 +1,5 @@
 -- A topology is well-formed where all fourteen rules hold.
-use Rattle.std.specs.Prelude.{◌≡◌, ℕ, List, [], ◌∷◌, ◌++◌, length, ◌⊎◌, Result, Ok, Err}
+use Rattle.std.specs.Prelude.{ℕ, List, [], ◌∷◌, ◌++◌, length}
 use Rattle.stream_law.specs.declared.graph.Comp.{Comp}
 use Rattle.stream_law.specs.declared.graph.Edge.{Edge}
 use Rattle.stream_law.specs.declared.graph.Join.{Join}
@@ -7,8 +7,6 @@ use Rattle.tplg_model.specs.declared.block.Topology.{Topology}
 use Rattle.tplg_widgets.specs.declared.entry.Entry.{Entry}
 use Rattle.tplg_widgets.specs.declared.pcm_caps.PcmCaps.{PcmCaps}
 use Rattle.tplg_widgets.specs.declared.route_end.Ends.{Ends}
-use Rattle.tplg_rules.specs.declared.plan_fault.PlanFault.{PlanFault}
-use Rattle.tplg_rules.specs.declared.plan_fault.PlanFault.TheVariants as fault
 use Rattle.tplg_widgets.specs.Entries.{interpreted}
 use Rattle.tplg_widgets.specs.GraphLists.{components_on, edges_on}
 use Rattle.tplg_rules.specs.Rules.{AllHold, BreaksOf}
@@ -53,13 +51,6 @@ later_rules es ps pcms rs js = middle_rules es ps pcms rs js ++ way_rules ps js
 abbrev pub rules_on : List Entry → List Entry → List PcmCaps → List Ends → List Join → List A_rule
 rules_on es ps pcms rs js = counts_rule ps pcms ∷ later_rules es ps pcms rs js
 
--- over what is read of a topology
-abbrev pub middle_by : WiringValue → List A_rule
-middle_by w = middle_rules w.widgets (interpreted w.widgets) w.pcms w.ends w.joins
-
-abbrev pub ways_by : WiringValue → List A_rule
-ways_by w = way_rules (interpreted w.widgets) w.joins
-
 abbrev pub rules_by : WiringValue → List A_rule
 rules_by w = rules_on w.widgets (interpreted w.widgets) w.pcms w.ends w.joins
 
@@ -73,13 +64,3 @@ IsWellFormed t = AllHold (rules_of t)
 -- the first rule that fails in number order has this number, and fails first at this item
 abbrev pub Breaks : Topology → ℕ → ℕ → Type 0
 Breaks t rule item = BreaksOf (rules_of t) rule item
-
--- a fault but want of memory names what is broken
-abbrev pub IsFaultOf : List A_rule → PlanFault → Type 0
-IsFaultOf rs (fault.Rule rule item) = BreaksOf rs rule item
-IsFaultOf rs fault.OutOfMemory = Unit {0}
-
--- where a rule is broken, it is told, or memory was wanting
-abbrev pub Tells : {X : Type 0} → ℕ → ℕ → Result X PlanFault → Type 0
-Tells rule item (Ok x) = ⊥
-Tells rule item (Err e) = (e ≡ fault.Rule rule item) ⊎ (e ≡ fault.OutOfMemory)

@@ -6,6 +6,7 @@ ghost use Rattle.tplg_widgets.specs.GraphLists.{components_on, edges_on};
 ghost use Rattle.tplg_rules.specs.Rules.{AllHold};
 ghost use Rattle.tplg_rules.specs.RuleTable.{counts_rule};
 ghost use Rattle.tplg_rules.specs.WellFormed as rules;
+ghost use Rattle.tplg_rules.specs.RuleFaults as rule_faults;
 
 use crate::plan_fault::PlanFault;
 use crate::rule_table::{check_counts, check_middle};
@@ -28,7 +29,7 @@ fn check_graph(
     requires comps { comps.now ≡ components_on parts.now joins.now }
     requires edges { edges.now ≡ edges_on parts.now joins.now }
     ensures ok { OnOk result (AllHold (rules.way_rules parts.now joins.now)) }
-    ensures err { IfErr result (rules.IsFaultOf (rules.way_rules parts.now joins.now)) }
+    ensures err { IfErr result (rule_faults.IsFaultOf (rules.way_rules parts.now joins.now)) }
 {
     let _pcms = pcms;
     let _joins = joins;
@@ -45,7 +46,7 @@ fn check_ways(
     requires parts_few { length parts.now < 2 ^ 32 }
     requires counts { AllHold (counts_rule parts.now pcms.now ∷ []) }
     ensures ok { OnOk result (AllHold (rules.way_rules parts.now joins.now)) }
-    ensures err { IfErr result (rules.IsFaultOf (rules.way_rules parts.now joins.now)) }
+    ensures err { IfErr result (rule_faults.IsFaultOf (rules.way_rules parts.now joins.now)) }
 {
     let comps = components(alloc, parts, joins)?;
     let edges = edges(alloc, parts, joins)?;
@@ -55,8 +56,8 @@ fn check_ways(
 /// Both parts of rule 14 of a wiring, where rule 1 holds.
 fn check_counted(alloc: Global, wiring: &Wiring) -> Result<(), PlanFault>
     requires counts { AllHold (counts_rule (interpreted wiring.now.widgets) wiring.now.pcms ∷ []) }
-    ensures ok { OnOk result (AllHold (rules.ways_by wiring.now)) }
-    ensures err { IfErr result (rules.IsFaultOf (rules.ways_by wiring.now)) }
+    ensures ok { OnOk result (AllHold (rule_faults.ways_by wiring.now)) }
+    ensures err { IfErr result (rule_faults.IsFaultOf (rule_faults.ways_by wiring.now)) }
 {
     let parts = wiring.widgets().interpreted();
     check_ways(alloc, parts, wiring.pcms(), wiring.joins())
@@ -65,7 +66,7 @@ fn check_counted(alloc: Global, wiring: &Wiring) -> Result<(), PlanFault>
 /// All rules of a wiring. Rule 1 comes first; where it holds, all later work is small.
 pub fn check_wiring(alloc: Global, wiring: &Wiring) -> Result<(), PlanFault>
     ensures ok { OnOk result (AllHold (rules.rules_by wiring.now)) }
-    ensures err { IfErr result (rules.IsFaultOf (rules.rules_by wiring.now)) }
+    ensures err { IfErr result (rule_faults.IsFaultOf (rules.rules_by wiring.now)) }
 {
     check_counts(wiring)?;
     check_middle(wiring)?;
@@ -76,7 +77,7 @@ fn check_in_form(alloc: Global, topology: &Topology) -> Result<(), PlanFault>
     requires widgets { length (entries_of topology.now) < 2 ^ 32 }
     requires routes { length (ends_in topology.now) < 2 ^ 32 }
     ensures ok { OnOk result (rules.IsWellFormed topology.now) }
-    ensures err { IfErr result (rules.IsFaultOf (rules.rules_of topology.now)) }
+    ensures err { IfErr result (rule_faults.IsFaultOf (rules.rules_of topology.now)) }
 {
     let wiring = Wiring::of(alloc, topology)?;
     check_wiring(alloc, &wiring)
@@ -88,9 +89,9 @@ pub fn check_topology(alloc: Global, topology: &Topology) -> Result<(), PlanFaul
     requires widgets { length (entries_of topology.now) < 2 ^ 32 }
     requires routes { length (ends_in topology.now) < 2 ^ 32 }
     ensures ok { OnOk result (rules.IsWellFormed topology.now) }
-    ensures err { IfErr result (rules.IsFaultOf (rules.rules_of topology.now)) }
+    ensures err { IfErr result (rule_faults.IsFaultOf (rules.rules_of topology.now)) }
     ensures kept { rules.IsWellFormed topology.now → IfErr result (λ e. e ≡ PlanFault.OutOfMemory) }
-    ensures broken { (rule item : ℕ) → rules.Breaks topology.now rule item → rules.Tells rule item result }
+    ensures broken { (rule item : ℕ) → rules.Breaks topology.now rule item → rule_faults.Tells rule item result }
 {
     check_in_form(alloc, topology)
 }

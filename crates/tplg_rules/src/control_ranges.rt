@@ -7,6 +7,7 @@ ghost use Rattle.tplg_rules.specs.ControlRanges as ranges;
 
 use eq_biquad::check;
 use tplg_model::Control;
+use tplg_widgets::{Role, is_demux};
 
 /// Whether a volume's least and greatest value and its number of channels are in range.
 pub fn is_volume(min: i32, max: i32, channels: u32) -> bool
@@ -33,8 +34,15 @@ fn is_initial(bytes: &[u8]) -> bool
     bytes.is_empty() || is_blob(bytes)
 }
 
-fn is_control(control: &Control) -> bool
-    ensures { result ≡ ranges.is_control control.now }
+/// Whether a mixer control's greatest value may be that of a widget of a role: a demux's mask is at most 255.
+fn is_mask(role: Option<Role>, max: i32) -> bool
+    ensures { result ≡ ranges.is_mask role max }
+{
+    !is_demux(role) || max <= 255
+}
+
+fn is_control(role: Option<Role>, control: &Control) -> bool
+    ensures { result ≡ ranges.is_control role control.now }
 {
     match control {
         Control::Mixer {
@@ -42,18 +50,18 @@ fn is_control(control: &Control) -> bool
             max,
             num_channels,
             ..
-        } => is_volume(*min, *max, *num_channels),
+        } => is_volume(*min, *max, *num_channels) && is_mask(role, *max),
         Control::Enum { items, .. } => is_choice(*items),
         Control::Bytes { private, .. } => is_initial(private.items()),
     }
 }
 
-/// Whether a live control, where there is one, is in range.
-pub fn is_live_in_range(control: Option<&Control>) -> bool
-    ensures { result ≡ ranges.is_live_in_range (option_copied control.entry) }
+/// Whether a live control of a widget of a role, where there is one, is in range.
+pub fn is_live_in_range(role: Option<Role>, control: Option<&Control>) -> bool
+    ensures { result ≡ ranges.is_live_in_range role (option_copied control.entry) }
 {
     match control {
         None => true,
-        Some(control) => is_control(control),
+        Some(control) => is_control(role, control),
     }
 }

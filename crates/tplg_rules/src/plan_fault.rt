@@ -68,7 +68,7 @@ fn says(rule: u8) -> &'static str {
         10 => "its direction or its format is wrong",
         11 => "its stream name has no PCM, or stands earlier",
         12 => "its size is not from 16 to 16777184",
-        13 => "it is no equaliser, or its control is out of range",
-        _ => "it is on a cycle, or plays into a capture",
+        13 => "it is no equaliser and no demux, or its control is out of range",
+        _ => "it is on a cycle, or plays into a capture without an echo edge",
     }
 }

@@ -6,7 +6,8 @@ ghost use Rattle.tplg_rules.specs.Rules.{AllHold, HoldsAll};
 ghost use Rattle.tplg_rules.specs.RuleTest as law;
 ghost use Rattle.tplg_rules.specs.RuleTable.{counts_rule};
 ghost use Rattle.tplg_rules.specs.WellFormed as groups;
-ghost use Rattle.tplg_rules.specs.WellFormed.{IsFaultOf};
+ghost use Rattle.tplg_rules.specs.RuleFaults as rule_faults;
+ghost use Rattle.tplg_rules.specs.RuleFaults.{IsFaultOf};
 
 use crate::plan_fault::{PlanFault, fault_at};
 use crate::record_rules::{control_holds, count_holds, host_holds};
@@ -147,8 +148,8 @@ pub fn check_counts(wiring: &Wiring) -> Result<(), PlanFault>
 
 /// Rules 2 to 13.
 pub fn check_middle(wiring: &Wiring) -> Result<(), PlanFault>
-    ensures ok { OnOk result (AllHold (groups.middle_by wiring.now)) }
-    ensures err { IfErr result (IsFaultOf (groups.middle_by wiring.now)) }
+    ensures ok { OnOk result (AllHold (rule_faults.middle_by wiring.now)) }
+    ensures err { IfErr result (IsFaultOf (rule_faults.middle_by wiring.now)) }
 {
     check_front(wiring)?;
     check_joins(wiring)?;

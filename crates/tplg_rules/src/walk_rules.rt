@@ -1,16 +1,15 @@
 // Rule 14: cycles, and ways from hosts that play to hosts that capture.
 ghost use Rattle.std.specs.Prelude.{◌≡◌, ◌<◌, ◌≤◌, ◌^◌, ◌↔◌, ℕ, [], ◌∷◌, true, length, OnOk, IfErr};
-ghost use Rattle.std.specs.List.{list_any};
-ghost use Rattle.stream_law.specs.Joins.{is_play};
-ghost use Rattle.stream_law.specs.Ways.{is_capture};
-ghost use Rattle.tplg_rules.specs.Rules.{AllHold, IsFirstFailing};
+ghost use Rattle.tplg_rules.specs.Rules.{AllHold};
+ghost use Rattle.tplg_rules.specs.FirstFailing.{IsFirstFailing};
 ghost use Rattle.tplg_rules.specs.Cycles as law;
 ghost use Rattle.tplg_rules.specs.WellFormed as groups;
-ghost use Rattle.tplg_rules.specs.WellFormed.{IsFaultOf};
+ghost use Rattle.tplg_rules.specs.RuleFaults.{IsFaultOf};
 
+use crate::echoes::{any_captures, keep_plain, plays_at};
 use crate::plan_fault::{PlanFault, fault_at};
 use crate::walks::{reached, reaches};
-use stream_law::{Comp, Edge, Kind};
+use stream_law::{Comp, Edge};
 use tplg_widgets::Entry;
 
 /// The first id on a cycle, below a number of ids.
@@ -26,37 +25,6 @@ fn failing_cycle(ids: u32, edges: &[Edge]) -> Option<u32>
     None
 }
 
-fn is_play(kind: Kind) -> bool
-    ensures { result ≡ is_play kind }
-{
-    matches!(kind, Kind::HostPlay)
-}
-
-fn is_capture(kind: Kind) -> bool
-    ensures { result ≡ is_capture kind }
-{
-    matches!(kind, Kind::HostCapture)
-}
-
-fn plays_at(comps: &[Comp], id: u32) -> bool
-    ensures { result ≡ law.plays_at comps.now id }
-{
-    comps.iter().any(|c| c.id == id && is_play(c.kind))
-}
-
-fn captures_at(comps: &[Comp], id: u32) -> bool
-    ensures { result ≡ law.captures_at comps.now id }
-{
-    comps.iter().any(|c| c.id == id && is_capture(c.kind))
-}
-
-/// Whether one of some ids is a host that captures.
-fn any_captures(comps: &[Comp], ids: &[u32]) -> bool
-    ensures { result ≡ list_any (law.captures_at comps.now) ids.now }
-{
-    ids.iter().any(|id| captures_at(comps, *id))
-}
-
 /// Whether a host that captures is reached from an id.
 fn reaches_capture(comps: &[Comp], edges: &[Edge], id: u32) -> bool
     requires few { length edges.now ≤ 128 }
@@ -65,10 +33,10 @@ fn reaches_capture(comps: &[Comp], edges: &[Edge], id: u32) -> bool
     any_captures(comps, reached(edges, id).as_slice())
 }
 
-/// The first host that plays and reaches one that captures, below a number of ids.
+/// The first host that plays and reaches one that captures along some edges, below a number of ids.
 fn failing_way(ids: u32, comps: &[Comp], edges: &[Edge]) -> Option<u32>
     requires few { length edges.now ≤ 128 }
-    ensures { IsFirstFailing (law.ways_rule ids comps.now edges.now) result }
+    ensures { IsFirstFailing (law.captures_rule ids comps.now edges.now) result }
 {
     for id in 0..ids {
         if plays_at(comps, id) && reaches_capture(comps, edges, id) {
@@ -86,12 +54,22 @@ fn check_cycle(ids: u32, edges: &[Edge]) -> Result<(), PlanFault>
     fault_at(14, failing_cycle(ids, edges))
 }
 
+// Every walk from a host that plays to one that captures has an echo edge.
 fn check_way(ids: u32, comps: &[Comp], edges: &[Edge]) -> Result<(), PlanFault>
     requires few { length edges.now ≤ 128 }
     ensures ok { OnOk result (AllHold (law.ways_rule ids comps.now edges.now ∷ [])) }
     ensures err { IfErr result (IsFaultOf (law.ways_rule ids comps.now edges.now ∷ [])) }
 {
-    fault_at(14, failing_way(ids, comps, edges))
+    let unjoined = Edge {
+        buffer: 0,
+        pipe: 0,
+        size: 0,
+        source: None,
+        sink: None,
+    };
+    let mut plain = [unjoined; 128];
+    let count = keep_plain(comps, edges, &mut plain);
+    fault_at(14, failing_way(ids, comps, &plain[..count]))
 }
 
 /// Both parts of rule 14, over the interpreted widgets, the components and the edges.

@@ -5,7 +5,8 @@ ghost use Rattle.tplg_plan.specs.Printable as printable;
 ghost use Rattle.tplg_plan.specs.Ranges.{is_period};
 ghost use Rattle.tplg_widgets.specs.Entries.{id_of, is_interpreted};
 ghost use Rattle.tplg_widgets.specs.GraphLists.{is_sink};
-ghost use Rattle.tplg_widgets.specs.Names.{is_interpreted_named, is_number};
+ghost use Rattle.tplg_widgets.specs.Names.{is_interpreted_named};
+ghost use Rattle.tplg_widgets.specs.KeptNumbers.{is_number};
 ghost use Rattle.tplg_rules.specs.RuleTable as law;
 
 use crate::route_rules::id_at;

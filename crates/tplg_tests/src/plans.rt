@@ -188,7 +188,7 @@ fn a_fault_names_its_item(rt: HostRuntime) -> Result<(), Fail> {
         (
             14,
             5,
-            "rule 14, component 5: it is on a cycle, or plays into a capture",
+            "rule 14, component 5: it is on a cycle, or plays into a capture without an echo edge",
         ),
     ] {
         let fault = PlanFault::Rule { rule, item };

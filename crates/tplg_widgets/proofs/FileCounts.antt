@@ -12,7 +12,8 @@ use Rattle.tplg_model.specs.declared.block.Body.{Body}
 use Rattle.tplg_model.specs.declared.block.Body.TheVariants.{Manifests, Widgets, Routes, Pcms, Other}
 use Rattle.tplg_model.specs.declared.block.Topology.{Topology}
 use Rattle.tplg_model.specs.Spelling.{items_cells, widget_cells, widget_head_cells, head_of, control_cells, route_cells, body_cells, header_slots, block_cells}
-use Rattle.tplg_model.specs.File.{IsFileOf, topology_cells}
+use Rattle.tplg_model.specs.File.{IsFileOf}
+use Rattle.tplg_model.specs.RecordFaults.{topology_cells}
 use Rattle.tplg_widgets.specs.EntryValue.{EntryValue}
 use Rattle.tplg_widgets.specs.Entries.{entry_of, widgets_in, routes_in, entries_in, entries_of}
 use Rattle.tplg_widgets.specs.Ends.{ends_of, block_ends, all_ends, ends_in}

@@ -4,6 +4,7 @@ pub mod EntryValue
 pub mod Entries
 pub mod PcmList
 pub mod Names
+pub mod KeptNumbers
 pub mod Lookups
 pub mod Ends
 pub mod WiringValue

@@ -2,7 +2,8 @@
 ghost use Rattle.std.specs.Prelude.{◌≡◌, ℕ, List, position, IfOk, OnOk};
 ghost use Rattle.std.specs.Str.{bytes_eq};
 ghost use Rattle.std.specs.HashMap as hash;
-ghost use Rattle.tplg_widgets.specs.Names.{is_interpreted_named, has_name, kept_first};
+ghost use Rattle.tplg_widgets.specs.Names.{is_interpreted_named, has_name};
+ghost use Rattle.tplg_widgets.specs.KeptNumbers.{kept_first};
 
 use crate::entry::{Entry, is_interpreted};
 use std::alloc::{AllocError, Global};

@@ -21,6 +21,7 @@ pub enum FormatToken {
 #[derive(Clone, Copy, Debug, PartialEq, Eq)]
 pub enum Process {
     Equaliser,
+    Demux,
     Other,
 }
 
@@ -152,6 +153,8 @@ fn named_process(text: &[u8]) -> Process
 {
     if text == b"EQIIR".as_slice() {
         Process::Equaliser
+    } else if text == b"DEMUX".as_slice() {
+        Process::Demux
     } else {
         Process::Other
     }

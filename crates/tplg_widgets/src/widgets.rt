@@ -3,7 +3,7 @@ ghost use Rattle.std.specs.Prelude.{◌≡◌, ◌<◌, ◌^◌, length, positio
 ghost use Rattle.tplg_widgets.specs.Entries.{interpreted, entries_of};
 ghost use Rattle.tplg_widgets.specs.Names.{is_interpreted_named};
 ghost use Rattle.tplg_widgets.specs.Ends as law;
-ghost use Rattle.tplg_widgets.specs.Names.{is_number};
+ghost use Rattle.tplg_widgets.specs.KeptNumbers.{is_number};
 
 use crate::entry::{Entry, entries, interpreted, is_buffer, is_component};
 use crate::first_names::{all_by_name, interpreted_by_name};

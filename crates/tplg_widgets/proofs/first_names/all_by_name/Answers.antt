@@ -1,7 +1,8 @@
 use Rattle.std.proofs.Common.{sym, ap, ◌∙◌, ℕ, List, Option}
 use Rattle.std.specs.Str.{bytes_eq}
 use Rattle.tplg_widgets.specs.EntryValue.{EntryValue}
-use Rattle.tplg_widgets.specs.Names.{has_name, kept_first}
+use Rattle.tplg_widgets.specs.Names.{has_name}
+use Rattle.tplg_widgets.specs.KeptNumbers.{kept_first}
 use Rattle.tplg_widgets.proofs.Positions.{position-more}
 use Rattle.tplg_widgets.proofs.first_names.all_by_name.Goals as goal
 

@@ -3,7 +3,8 @@ use Rattle.std.specs.Option.{option_or}
 use Rattle.std.specs.Str.{bytes_eq}
 use Rattle.tplg_widgets.specs.declared.entry.Entry.{Entry}
 use Rattle.tplg_widgets.specs.Entries.{is_interpreted}
-use Rattle.tplg_widgets.specs.Names.{is_interpreted_named, kept_first}
+use Rattle.tplg_widgets.specs.Names.{is_interpreted_named}
+use Rattle.tplg_widgets.specs.KeptNumbers.{kept_first}
 use Rattle.tplg_widgets.proofs.Positions.{position-more}
 use Rattle.tplg_widgets.proofs.first_names.interpreted_by_name.Goals.{then-is_interpreted+in_ok-keep_first, else-is_interpreted}
 use Rattle.tplg_widgets.proofs.first_names.interpreted_by_name.Goals as goal

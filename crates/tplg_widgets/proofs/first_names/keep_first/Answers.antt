@@ -3,7 +3,7 @@ use Rattle.std.specs.Str.{bytes_eq}
 use Rattle.std.specs.HashMap as hash
 use Rattle.std.proofs.lemmas.Slice.Eq.{bytes_eq-Decides}
 use Rattle.std.proofs.lemmas.Bool.{true≢false, false≢true}
-use Rattle.tplg_widgets.specs.Names.{kept_first}
+use Rattle.tplg_widgets.specs.KeptNumbers.{kept_first}
 use Rattle.tplg_widgets.proofs.first_names.keep_first.Goals as goal
 
 bytes_eq-itself : (a : List ℕ) → bytes_eq a a ≡ true

@@ -14,7 +14,7 @@ use Rattle.mbox_link.specs.Calls.{World, Meaning, Led}
 use Rattle.tplg_plan.specs.declared.plans.Plan.{Plan}
 use Rattle.tplg_plan.specs.declared.plans.ControlPlan.{ControlPlan}
 use Rattle.tplg_plan.specs.declared.plans.ControlKind.{ControlKind}
-use Rattle.tplg_plan.specs.declared.plans.ControlKind.TheVariants.{Volume, Choice, Blob}
+use Rattle.tplg_plan.specs.declared.plans.ControlKind.TheVariants.{Volume, Choice, Blob, Masks}
 use Rattle.tplg_plan.specs.Sound.{IsControlOf, IsLive, IsSound}
 use Rattle.host_widgets.specs.declared.answers.HostFault.{HostFault}
 use Rattle.host_widgets.specs.declared.answers.HostFault.TheVariants as faults
@@ -54,16 +54,19 @@ use Rattle.host_ctl.proofs.PutStands.{record-with}
 blob-of : (q : ControlKind) (blob : List ℕ) → MayInstall q blob → is_blob blob ≡ true
 blob-of (Volume min max channels lowest step mute) blob may = absurd may
 blob-of (Choice items) blob may = absurd may
+blob-of (Masks min max channels) blob may = absurd may
 blob-of (Blob most initial) blob may = may.1
 
 kind-of : (q : ControlKind) (blob : List ℕ) → MayInstall q blob → (kind : Kind) → IsControlOf q kind → kind ≡ kinds.Eq
 kind-of (Volume min max channels lowest step mute) blob may kind of = absurd may
 kind-of (Choice items) blob may kind of = absurd may
+kind-of (Masks min max channels) blob may kind of = absurd may
 kind-of (Blob most initial) blob may kind of = of.0
 
 set-of : (id : ℕ) (q : ControlKind) (blob : List ℕ) → MayInstall q blob → (c : ControlRec) → Was (record { comp = id; kind = q }) c → IsControlSet q (with_blob blob c)
 set-of id (Volume min max channels lowest step mute) blob may c was = absurd may
 set-of id (Choice items) blob may c was = absurd may
+set-of id (Masks min max channels) blob may c was = absurd may
 set-of id (Blob most initial) blob may c (inl first) = (ap (λ (x : ControlRec). x.values) first, may.0, may.1)
 set-of id (Blob most initial) blob may c (inr set) = (set.0, may.0, may.1)
 

@@ -18,7 +18,8 @@ use Rattle.stream_law.proofs.Shapes.{live-stays}
 use Rattle.stream_law.proofs.Standing.{Stands-now}
 use Rattle.stream_law.proofs.Waits.{eqb_turned}
 use Rattle.ipc3_model.specs.declared.message.Message.TheVariants.{SetData}
-use Rattle.ipc3_model.specs.Messages.{message_spelling, decoded, IsMessage}
+use Rattle.ipc3_model.specs.Messages.{message_spelling, decoded}
+use Rattle.ipc3_model.specs.Meanings.{IsMessage}
 use Rattle.mbox_link.specs.BlobParts.{is_last, blob_part, parts}
 use Rattle.mbox_link.specs.Step.{blob_installed, body_of, row, unstaged, with_staged}
 use Rattle.tplg_plan.specs.declared.plans.Plan.{Plan}

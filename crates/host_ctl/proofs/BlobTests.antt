@@ -6,7 +6,7 @@ use Rattle.sof_base.specs.BlobFaults.{BlobFault, blob_fault, fault_number}
 use Rattle.tplg_plan.specs.declared.plans.Plan.{Plan}
 use Rattle.tplg_plan.specs.declared.plans.ControlPlan.{ControlPlan}
 use Rattle.tplg_plan.specs.declared.plans.ControlKind.{ControlKind}
-use Rattle.tplg_plan.specs.declared.plans.ControlKind.TheVariants.{Volume, Choice, Blob}
+use Rattle.tplg_plan.specs.declared.plans.ControlKind.TheVariants.{Volume, Choice, Blob, Masks}
 use Rattle.host_widgets.specs.declared.answers.HostFault.TheVariants as faults
 use Rattle.host_widgets.specs.declared.kept.Power.{Power}
 use Rattle.host_widgets.specs.declared.kept.Power.TheVariants.{Unloaded, On, Off}
@@ -22,6 +22,7 @@ use Rattle.host_ctl.proofs.ControlsThere.{found-here}
 pub installable : (name : List ℕ) (q : ControlKind) (blob : List ℕ) → bytes_fault_by name blob q ≡ None → MayInstall q blob
 installable name (Volume min max channels lowest step mute) blob none = absurd (cc none)
 installable name (Choice items) blob none = absurd (cc none)
+installable name (Masks min max channels) blob none = absurd (cc none)
 installable name (Blob most initial) blob none = by (nat_lt most (length blob)) refl none
   where
     no-fault : (o : Option BlobFault) → option_map (λ (fault : BlobFault). faults.Blob (fault_number fault)) o ≡ None → is_none o ≡ true

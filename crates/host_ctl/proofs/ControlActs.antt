@@ -10,12 +10,13 @@ use Rattle.stream_law.specs.Stands.{Stands}
 use Rattle.stream_law.proofs.SeenLaws.{seen-sees}
 use Rattle.ipc3_model.specs.declared.message.Message.{Message}
 use Rattle.ipc3_model.specs.declared.reply.Body.TheVariants.{Nothing}
-use Rattle.ipc3_model.specs.Messages.{message_spelling, decoded, IsMessage}
+use Rattle.ipc3_model.specs.Messages.{message_spelling, decoded}
+use Rattle.ipc3_model.specs.Meanings.{IsMessage}
 use Rattle.mbox_link.specs.Step.{row, body, body_of}
 use Rattle.tplg_plan.specs.declared.plans.Plan.{Plan}
 use Rattle.tplg_plan.specs.declared.plans.ControlPlan.{ControlPlan}
 use Rattle.tplg_plan.specs.declared.plans.ControlKind.{ControlKind}
-use Rattle.tplg_plan.specs.declared.plans.ControlKind.TheVariants.{Volume, Choice, Blob}
+use Rattle.tplg_plan.specs.declared.plans.ControlKind.TheVariants.{Volume, Choice, Blob, Masks}
 use Rattle.tplg_plan.specs.Sound.{IsControlOf}
 use Rattle.host_widgets.specs.Controls.{control_of}
 use Rattle.host_widgets.specs.Host.{IsRecordOf, AreControls, verdict}
@@ -72,6 +73,7 @@ set-bare : (f : FwState) (comp : ℕ) (values : List ℕ) (k : ControlKind) → 
 set-bare f comp values (Volume min max channels lowest step mute) = refl
 set-bare f comp values (Choice items) = refl
 set-bare f comp values (Blob most initial) = refl
+set-bare f comp values (Masks min max channels) = refl
 
 -- values that are put at a live control of a component of its kind
 pub put-taken : (plan : Plan) (kept : Record) → IsRecordOf plan kept → (comp : ℕ) (values : List ℕ) (x : Comp) → comp_of plan.graph comp ≡ Some x →

@@ -19,7 +19,7 @@ use Rattle.mbox_link.specs.Calls.{World, Meaning}
 use Rattle.tplg_plan.specs.declared.plans.Plan.{Plan}
 use Rattle.tplg_plan.specs.declared.plans.ControlPlan.{ControlPlan}
 use Rattle.tplg_plan.specs.declared.plans.ControlKind.{ControlKind}
-use Rattle.tplg_plan.specs.declared.plans.ControlKind.TheVariants.{Volume, Choice, Blob}
+use Rattle.tplg_plan.specs.declared.plans.ControlKind.TheVariants.{Volume, Choice, Blob, Masks}
 use Rattle.tplg_plan.specs.Sound.{IsSound}
 use Rattle.host_widgets.specs.declared.answers.Answer.TheVariants as answers
 use Rattle.host_widgets.specs.declared.answers.HostFault.{HostFault}
@@ -75,6 +75,7 @@ said-values : (c : ControlRec) (q : ControlKind) (command : ℕ) (vs : List ℕ)
 said-values c (Volume min max channels lowest step mute) command vs at is = ap answers.Values is
 said-values c (Choice items) command vs at is = ap answers.Values is
 said-values c (Blob most initial) command vs at is = absurd (cc at)
+said-values c (Masks min max channels) command vs at is = ap answers.Values is
 
 module _ {D : Type 0} (means : Meaning D) (plan : Plan) (sound : IsSound plan) (heap i : ℕ) (low : i < length plan.controls) (kept : Record) (w : World D) (agrees : Agrees means plan kept w.device) (power : kept.power ≡ On) where
   abbrev k : ControlPlan

@@ -5,7 +5,7 @@ use Rattle.mbox_link.specs.Calls.{World, Meaning}
 use Rattle.tplg_plan.specs.declared.plans.Plan.{Plan}
 use Rattle.tplg_plan.specs.declared.plans.ControlPlan.{ControlPlan}
 use Rattle.tplg_plan.specs.declared.plans.ControlKind.{ControlKind}
-use Rattle.tplg_plan.specs.declared.plans.ControlKind.TheVariants.{Volume, Choice, Blob}
+use Rattle.tplg_plan.specs.declared.plans.ControlKind.TheVariants.{Volume, Choice, Blob, Masks}
 use Rattle.tplg_plan.specs.Sound.{IsSound}
 use Rattle.host_widgets.specs.declared.answers.Answer.{Answer}
 use Rattle.host_widgets.specs.declared.answers.Answer.TheVariants.{Done}
@@ -91,6 +91,7 @@ module _ {D : Type 0} (means : Meaning D) (plan : Plan) (sound : IsSound plan) (
       Carried means plan heap (sends kept.power (ask_acts k.comp q r) (λ now. now) answer) kept kept' w v result
   ask-carried (Volume min max channels lowest step mute) command at answer kept' v result on x = one-order means plan heap (Ask k.comp 0) (λ now. now) answer kept kept' w v result on x (λ passed. refl)
   ask-carried (Choice items) command at answer kept' v result on x = one-order means plan heap (Ask k.comp 0) (λ now. now) answer kept kept' w v result on x (λ passed. refl)
+  ask-carried (Masks min max channels) command at answer kept' v result on x = one-order means plan heap (Ask k.comp 0) (λ now. now) answer kept kept' w v result on x (λ passed. refl)
   ask-carried (Blob most initial) command at answer kept' v result on x = absurd (cc at)
 
   -- ---- the control of a name

@@ -17,7 +17,8 @@ use Rattle.ipc3_model.specs.declared.message.Message.TheVariants.{GetData}
 use Rattle.ipc3_model.specs.declared.reply.Body.{Body}
 use Rattle.ipc3_model.specs.declared.reply.Body.TheVariants as bodies
 use Rattle.ipc3_model.specs.declared.reply.Reply.{Reply}
-use Rattle.ipc3_model.specs.Messages.{message_spelling, decoded, IsMessage}
+use Rattle.ipc3_model.specs.Messages.{message_spelling, decoded}
+use Rattle.ipc3_model.specs.Meanings.{IsMessage}
 use Rattle.ipc3_model.proofs.Spelled.{decoded_reply-exactly}
 use Rattle.mbox_link.specs.BlobParts.{parts, blob_part}
 use Rattle.mbox_link.specs.Step as fw
@@ -28,7 +29,7 @@ use Rattle.mbox_link.proofs.Rooms.{HasRoom-now}
 use Rattle.tplg_plan.specs.declared.plans.Plan.{Plan}
 use Rattle.tplg_plan.specs.declared.plans.ControlPlan.{ControlPlan}
 use Rattle.tplg_plan.specs.declared.plans.ControlKind.{ControlKind}
-use Rattle.tplg_plan.specs.declared.plans.ControlKind.TheVariants.{Volume, Choice, Blob}
+use Rattle.tplg_plan.specs.declared.plans.ControlKind.TheVariants.{Volume, Choice, Blob, Masks}
 use Rattle.tplg_plan.specs.Ranges.{is_initial}
 use Rattle.tplg_plan.specs.Sound.{IsControlOf, IsLive, IsSound}
 use Rattle.host_widgets.specs.declared.answers.HostFault.{HostFault}
@@ -92,6 +93,7 @@ part-asked f id index x p there at =
 pub blob-kind : (q : ControlKind) → HasBlob q → (most : ℕ) × (initial : List ℕ) × (q ≡ Blob most initial)
 blob-kind (Volume min max channels lowest step mute) has = absurd has
 blob-kind (Choice items) has = absurd has
+blob-kind (Masks min max channels) has = absurd has
 blob-kind (Blob most initial) has = (most, initial, refl)
 
 few-initial : (blob : List ℕ) → is_initial blob ≡ true → parts blob ≤ 4

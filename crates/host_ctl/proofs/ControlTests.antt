@@ -11,7 +11,7 @@ use Rattle.mbox_link.specs.Calls.{World, Meaning}
 use Rattle.tplg_plan.specs.declared.plans.Plan.{Plan}
 use Rattle.tplg_plan.specs.declared.plans.ControlPlan.{ControlPlan}
 use Rattle.tplg_plan.specs.declared.plans.ControlKind.{ControlKind}
-use Rattle.tplg_plan.specs.declared.plans.ControlKind.TheVariants.{Volume, Choice, Blob}
+use Rattle.tplg_plan.specs.declared.plans.ControlKind.TheVariants.{Volume, Choice, Blob, Masks}
 use Rattle.tplg_plan.specs.Sound.{IsControlOf}
 use Rattle.host_widgets.specs.declared.answers.HostFault.{HostFault}
 use Rattle.host_widgets.specs.declared.answers.HostFault.TheVariants as faults
@@ -20,7 +20,8 @@ use Rattle.host_widgets.specs.declared.kept.Power.TheVariants.{Unloaded, On, Off
 use Rattle.host_widgets.specs.declared.kept.Record.{Record}
 use Rattle.host_widgets.specs.Host.{Outcome}
 use Rattle.host_widgets.specs.Named.{is_named, loaded_fault, off_fault}
-use Rattle.host_widgets.specs.Orders.{Order, Carried, Tested}
+use Rattle.host_widgets.specs.Orders.{Order, Carried}
+use Rattle.host_widgets.specs.TestedOrders.{Tested}
 use Rattle.host_ctl.specs.ControlAsks.{named_control, channels_of, takes_value, spread, kind_fault, setting_fault, set_fault, name_fault, get_fault, read_fault}
 use Rattle.host_ctl.specs.ControlAnswers.{MaySet}
 use Rattle.host_ctl.specs.ControlPlaces.{no_control, control_place, control_here}
@@ -175,6 +176,12 @@ settable name (Choice items) values kind of none =
     let all = none-bad (takes_value (Choice items)) values first.1 in
     record { channels = omega arith; values_few = few-of values 1 (omega arith) first.0; may = one-item items values first.0 all }
 settable name (Blob most initial) values kind of none = absurd (cc none)
+settable name (Masks min max channels) values kind of none =
+    let q : ControlKind = Masks min max channels in
+    let first = passed (length values == 1 || length values == channels) _ _ none in
+    let all = none-bad (takes_value q) values first.1 in
+    let fits = spread-fits (takes_value q) channels values of.3 first.0 all in
+    record { channels = of.4; values_few = few-of values channels of.4 first.0; may = λ blob none. (fits.0, fits.1, none) }
 
 -- ---- what a `?` hands on
 

@@ -11,14 +11,15 @@ use Rattle.ipc3_model.specs.declared.fault.CodecFault.{CodecFault}
 use Rattle.ipc3_model.specs.declared.message.Message.TheVariants.{GetValue}
 use Rattle.ipc3_model.specs.declared.reply.Body.{Body}
 use Rattle.ipc3_model.specs.declared.reply.Reply.{Reply}
-use Rattle.ipc3_model.specs.Messages.{message_spelling, decoded, IsMessage}
+use Rattle.ipc3_model.specs.Messages.{message_spelling, decoded}
+use Rattle.ipc3_model.specs.Meanings.{IsMessage}
 use Rattle.ipc3_model.specs.Replies.{decoded_reply}
 use Rattle.mbox_link.specs.Step as fw
 use Rattle.mbox_link.specs.Step.{row, body_of, no_device, invalid}
 use Rattle.tplg_plan.specs.declared.plans.Plan.{Plan}
 use Rattle.tplg_plan.specs.declared.plans.ControlPlan.{ControlPlan}
 use Rattle.tplg_plan.specs.declared.plans.ControlKind.{ControlKind}
-use Rattle.tplg_plan.specs.declared.plans.ControlKind.TheVariants.{Volume, Choice, Blob}
+use Rattle.tplg_plan.specs.declared.plans.ControlKind.TheVariants.{Volume, Choice, Blob, Masks}
 use Rattle.tplg_plan.specs.GainOf.{control_gain}
 use Rattle.tplg_plan.specs.Sound.{IsSound, IsControlOf, IsLive}
 use Rattle.host_widgets.specs.declared.answers.HostFault.TheVariants.{Refused}
@@ -36,6 +37,8 @@ use Rattle.host_widgets.proofs.ControlLists.{bare-one}
 use Rattle.host_widgets.proofs.PartFacts.{none-empty}
 use Rattle.host_widgets.proofs.Effects.{decoded-message}
 use Rattle.host_widgets.proofs.GreatestGains.{AreGains, gains-are, set-message}
+use Rattle.host_widgets.proofs.EightMasks.{eight, few-masks, masks-few, ranged-masks}
+use Rattle.host_widgets.specs.Controls.{eight_masks}
 use Rattle.host_widgets.proofs.LookedUp.{found-is, each-found}
 use Rattle.host_widgets.proofs.NamedIds.{component-found, id-fits}
 use Rattle.host_widgets.proofs.OneActLaws.{IsTaken, IsShown}
@@ -50,27 +53,30 @@ use Rattle.host_ctl.proofs.PutAnswers.{control, put-answers, values-at, asked-an
 
 -- ---- messages
 
-of-asked : (command : ℕ) → command ≤ 1 → (command == 0 || command == 1) ≡ true
+of-asked : (command : ℕ) → command ≤ 2 → (command == 0 || command == 1 || command == 2) ≡ true
 of-asked zero low = refl
 of-asked (suc zero) low = refl
-of-asked (suc (suc n)) low = absurd (omega (arith, low))
+of-asked (suc (suc zero)) low = refl
+of-asked (suc (suc (suc n))) low = absurd (omega (arith, low))
 
-get-fits : (id command : ℕ) → id < 2 ^ 32 → command ≤ 1 → IsMessage (GetValue id command)
+get-fits : (id command : ℕ) → id < 2 ^ 32 → command ≤ 2 → IsMessage (GetValue id command)
 unfolding AreSlots IsSlot
 get-fits id command fits low =
     ((tt, (omega arith, (tt, (fits, (omega arith, (omega (arith, low), (tt, (tt, (tt, (tt, (tt, (tt, (tt, (tt, (tt, (tt, (tt, (tt, (tt, (tt, (tt, (tt, (tt, tt))))))))))))))))))))))), of-asked command low)
 
-few-commands : (q : ControlKind) (command : ℕ) → value_command q ≡ Some command → command ≤ 1
+few-commands : (q : ControlKind) (command : ℕ) → value_command q ≡ Some command → command ≤ 2
 few-commands (Volume min max channels lowest step mute) command is = let same : 0 ≡ command = cc is in omega (arith, same)
 few-commands (Choice items) command is = let same : 1 ≡ command = cc is in omega (arith, same)
 few-commands (Blob most initial) command is = absurd (cc is)
+few-commands (Masks min max channels) command is = let same : 2 ≡ command = cc is in omega (arith, same)
 
 asks-by : (id : ℕ) (q : ControlKind) (command : ℕ) → value_command q ≡ Some command → get_message id 0 q ≡ GetValue id command
 asks-by id (Volume min max channels lowest step mute) command is = let same : 0 ≡ command = cc is in ap (GetValue id) same
 asks-by id (Choice items) command is = let same : 1 ≡ command = cc is in ap (GetValue id) same
 asks-by id (Blob most initial) command is = absurd (cc is)
+asks-by id (Masks min max channels) command is = let same : 2 ≡ command = cc is in ap (GetValue id) same
 
-put-fits : (id : ℕ) (q : ControlKind) (values : List ℕ) → id < 2 ^ 32 → MaySet q values → (1 ≤ length values) × (length values ≤ 8) × ((items : ℕ) → q ≡ Choice items → items ≤ 16) → IsMessage (set_message id values q)
+put-fits : (id : ℕ) (q : ControlKind) (values : List ℕ) → id < 2 ^ 32 → MaySet q values → (1 ≤ length values) × (length values ≤ 8) × ((items : ℕ) → q ≡ Choice items → items ≤ 16) × ((min max channels : ℕ) → q ≡ Masks min max channels → max ≤ 255) → IsMessage (set_message id values q)
 put-fits id (Volume min max channels lowest step mute) values fits may few =
     let q : ControlKind = Volume min max channels lowest step mute in
     let long : length (map (control_gain q) values) ≡ length values = length-map values (control_gain q) in
@@ -78,15 +84,20 @@ put-fits id (Volume min max channels lowest step mute) values fits may few =
 put-fits id (Choice items) values fits may few =
     let s = may [] refl in
     set-message id 1 values fits (omega arith) few.0 few.1 (subst AreGains (sym s.1) (omega (arith, s.2, few.2 items refl), tt))
+put-fits id (Masks min max channels) values fits may few =
+    let long : length (eight_masks values) ≡ 8 = eight values in
+    set-message id 2 (eight_masks values) fits (omega arith) (omega (arith, long)) (omega (arith, long)) (masks-few (eight_masks values) (few-masks values (ranged-masks min max (few.3 min max channels refl) values (may [] refl).1)))
 put-fits id (Blob most initial) values fits may few = absurd (none-empty (may [] refl).2)
 
 -- values that may be set are as many as a message takes
-few-values : (q : ControlKind) (values : List ℕ) → MaySet q values → (kind : _) → IsControlOf q kind → (1 ≤ length values) × (length values ≤ 8) × ((items : ℕ) → q ≡ Choice items → items ≤ 16)
+few-values : (q : ControlKind) (values : List ℕ) → MaySet q values → (kind : _) → IsControlOf q kind → (1 ≤ length values) × (length values ≤ 8) × ((items : ℕ) → q ≡ Choice items → items ≤ 16) × ((min max channels : ℕ) → q ≡ Masks min max channels → max ≤ 255)
 few-values (Volume min max channels lowest step mute) values may kind of =
-    let long = (may [] refl).0 in (omega (arith, long, of.3), omega (arith, long, of.4), λ items is. absurd (cc is))
+    let long = (may [] refl).0 in (omega (arith, long, of.3), omega (arith, long, of.4), (λ items is. absurd (cc is)), λ least most n is. absurd (cc is))
 few-values (Choice items) values may kind of =
     let long : length values ≡ 1 = ap length (may [] refl).1 in
-    (omega (arith, long), omega (arith, long), λ n is. (let same : items ≡ n = cc is in omega (arith, same, of.2)))
+    (omega (arith, long), omega (arith, long), (λ n is. (let same : items ≡ n = cc is in omega (arith, same, of.2))), λ least most n is. absurd (cc is))
+few-values (Masks min max channels) values may kind of =
+    let long = (may [] refl).0 in (omega (arith, long, of.3), omega (arith, long, of.4), (λ items is. absurd (cc is)), λ least most n is. (let same : max ≡ most = cc is in omega (arith, same, of.2)))
 few-values (Blob most initial) values may kind of = absurd (none-empty (may [] refl).2)
 
 -- a reply with error 0 passes, whatever its body
@@ -140,6 +151,7 @@ module _ (plan : Plan) (sound : IsSound plan) (kept : Record) (is : IsRecordOf p
     no-blob (Volume min max channels lowest step mute) may c was = bare-one (Volume min max channels lowest step mute) c (λ m n e. cc e) was
     no-blob (Choice items) may c was = bare-one (Choice items) c (λ m n e. cc e) was
     no-blob (Blob most initial) may c was = absurd (none-empty (may [] refl).2)
+    no-blob (Masks min max channels) may c was = bare-one (Masks min max channels) c (λ m n e. cc e) was
 
     pub set-all : AreControls plan.controls (with_control plan k.comp (with_values values) kept).controls
     set-all = controls-with k.comp (with_values values) plan.controls kept.controls (all plan.controls (each-found (λ (x : ControlPlan). x.comp) plan.controls sound.controls_ascend)) is.controls

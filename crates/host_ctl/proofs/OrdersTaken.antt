@@ -5,7 +5,7 @@ use Rattle.mbox_link.specs.BlobParts.{parts, part_numbers}
 use Rattle.tplg_plan.specs.declared.plans.Plan.{Plan}
 use Rattle.tplg_plan.specs.declared.plans.ControlPlan.{ControlPlan}
 use Rattle.tplg_plan.specs.declared.plans.ControlKind.{ControlKind}
-use Rattle.tplg_plan.specs.declared.plans.ControlKind.TheVariants.{Volume, Choice, Blob}
+use Rattle.tplg_plan.specs.declared.plans.ControlKind.TheVariants.{Volume, Choice, Blob, Masks}
 use Rattle.tplg_plan.specs.Sound.{IsSound}
 use Rattle.host_widgets.specs.declared.answers.Answer.{Answer}
 use Rattle.host_widgets.specs.declared.answers.Answer.TheVariants.{Done}
@@ -70,6 +70,7 @@ module _ (plan : Plan) (sound : IsSound plan) (kept : Record) (is : IsRecordOf p
     of-kind : (q : ControlKind) → k.kind ≡ q → Taken k.kind
     of-kind (Volume min max channels lowest step mute) e = subst Taken (sym e) (alone kept.power (Ask k.comp 0) (λ now. now) (control_answer k.kind r) tt (ask-is plan sound kept is i low 0 (ap value_command e)))
     of-kind (Choice items) e = subst Taken (sym e) (alone kept.power (Ask k.comp 0) (λ now. now) (control_answer k.kind r) tt (ask-is plan sound kept is i low 1 (ap value_command e)))
+    of-kind (Masks min max channels) e = subst Taken (sym e) (alone kept.power (Ask k.comp 0) (λ now. now) (control_answer k.kind r) tt (ask-is plan sound kept is i low 2 (ap value_command e)))
     of-kind (Blob most initial) e = subst Taken (sym e) (parts-asked most initial e kept.power)
 
   module _ (name : List ℕ) where

@@ -4,7 +4,7 @@ use Rattle.mbox_link.specs.Calls.{World, Meaning, Cut, Did}
 use Rattle.tplg_plan.specs.declared.plans.Plan.{Plan}
 use Rattle.host_widgets.specs.declared.answers.HostFault.{HostFault}
 use Rattle.host_widgets.specs.declared.kept.Record.{Record}
-use Rattle.host_widgets.specs.ActCalls.{ActsSent}
+use Rattle.host_widgets.specs.ActCarried.{ActsSent}
 use Rattle.host_widgets.specs.ActCarried.{PlainEnd, is_down}
 use Rattle.host_widgets.specs.ActLists.{part_acts}
 use Rattle.host_widgets.specs.Host.{Outcome}

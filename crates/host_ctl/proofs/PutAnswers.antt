@@ -18,7 +18,7 @@ use Rattle.mbox_link.specs.Step as fw
 use Rattle.mbox_link.specs.Step.{row, is_used, has_comp, has_edge, has_pipe, with_setting_at, no_device, invalid}
 use Rattle.tplg_plan.specs.declared.plans.ControlPlan.{ControlPlan}
 use Rattle.tplg_plan.specs.declared.plans.ControlKind.{ControlKind}
-use Rattle.tplg_plan.specs.declared.plans.ControlKind.TheVariants.{Volume, Choice, Blob}
+use Rattle.tplg_plan.specs.declared.plans.ControlKind.TheVariants.{Volume, Choice, Blob, Masks}
 use Rattle.tplg_plan.specs.GainOf.{control_gain}
 use Rattle.tplg_plan.specs.Sound.{IsControlOf}
 use Rattle.host_widgets.specs.declared.answers.Answer.TheVariants as answers
@@ -27,6 +27,8 @@ use Rattle.host_widgets.specs.ActMessages.{set_message}
 use Rattle.host_widgets.specs.ViewOf.{record_setting}
 use Rattle.host_widgets.proofs.ControlLists.{takes-by}
 use Rattle.host_widgets.proofs.GreatestGains.{AreGains, gains-are, gains-pass}
+use Rattle.host_widgets.proofs.EightMasks.{is_mask, eight, few-masks, masks-few, ranged-masks}
+use Rattle.host_widgets.specs.Controls.{eight_masks}
 use Rattle.host_widgets.proofs.LookedUp.{any-found}
 use Rattle.host_widgets.proofs.PartFacts.{none-empty}
 use Rattle.host_ctl.specs.ControlOrders.{control_answer}
@@ -41,11 +43,12 @@ control id q = record { comp = id; kind = q }
 pub used-comp : (g : Graph) (id : ℕ) (x : Comp) → comp_of g id ≡ Some x → is_used g id ≡ true
 used-comp g id x there = or_left (has_comp g id || has_edge g id) (has_pipe g id) (or_left (has_comp g id) (has_edge g id) (any-found (λ (c : Comp). c.id == id) g.comps x there))
 
--- what is read of a volume or a mux
+-- what is read of a volume, a mux or a demux
 abbrev pub values_by : ControlRec → ControlKind → List ℕ
 values_by c (Volume min max channels lowest step mute) = map (control_gain (Volume min max channels lowest step mute)) c.values
 values_by c (Choice items) = c.values
 values_by c (Blob most initial) = []
+values_by c (Masks min max channels) = eight_masks c.values
 
 -- ---- SET_VALUE
 
@@ -98,6 +101,14 @@ module _ (f : FwState) (id : ℕ) (x : Comp) (there : comp_of f.graph id ≡ Som
             (ap (λ (kind : Kind). fw.new_setting kind x.setting 1 values) of.0 ∙ ap (λ (vs : List ℕ). fw.new_setting kinds.Mux x.setting 1 vs) one),
       )
   put-answers (Blob most initial) values shown may = absurd (none-empty (may [] refl).2)
+  put-answers (Masks min max channels) values (of, is, was) may =
+      let few : list_all is_mask (eight_masks values) ≡ true = few-masks values (ranged-masks min max of.2 values (may [] refl).1) in (
+        _,
+        set-answers f id 2 (eight_masks values) x (settings.Masks (eight_masks values)) there
+            (ap (λ (kind : Kind). fw.new_setting kind x.setting 2 (eight_masks values)) of.0
+            ∙ ap (λ (h : Bool). cond h (Some (settings.Masks (eight_masks values))) None)
+            (and_from (length (eight_masks values) == 8) (list_all is_mask (eight_masks values)) (eq-eqb (length (eight_masks values)) 8 (eight values)) few)),
+      )
 
   -- ---- GET_VALUE
 
@@ -119,6 +130,11 @@ module _ (f : FwState) (id : ℕ) (x : Comp) (there : comp_of f.graph id ≡ Som
       (read-by 1 c.values
       (ap (λ (s : Setting). fw.control_values x.kind s 1) is ∙ ap (λ (kind : Kind). fw.control_values kind (record_setting kind (Some (control id (Choice items), c))) 1) of.0 ∙ ap Some (one-value c.values (takes-by (Choice items) x.kind c of was))))
   values-at (Blob most initial) command shown at = absurd (cc at)
+  values-at (Masks min max channels) command (of, is, was) at =
+      let two_is : 2 ≡ command = cc at in
+      let q : ControlKind = Masks min max channels in
+      subst (λ (n : ℕ). fw.control_values_at f.graph id n ≡ Some (values_by c q)) two_is
+      (read-by 2 (values_by c q) (ap (λ (s : Setting). fw.control_values x.kind s 2) is ∙ ap (λ (kind : Kind). fw.control_values kind (record_setting kind (Some (control id q, c))) 2) of.0))
 
   -- one that asks leaves the state
   pub asked-answers : (command : ℕ) (vs : List ℕ) → fw.control_values_at f.graph id command ≡ Some vs → row f (GetValue id command) ≡ Ok f
@@ -127,7 +143,7 @@ module _ (f : FwState) (id : ℕ) (x : Comp) (there : comp_of f.graph id ≡ Som
       by : (b : Bool) (o : Option (List ℕ)) → b ≡ true → o ≡ Some vs → cond (not b) (Err no_device) (cond (not (is_some o)) (Err invalid) (Ok f)) ≡ Ok f
       by b o used is = rw (used, is) refl
 
-  -- the values are gains or choices, as many as a reply takes
+  -- the values are gains, choices or masks, as many as a reply takes
   pub values-fit : (q : ControlKind) (command : ℕ) → Shown q → value_command q ≡ Some command → AreGains (values_by c q) × (1 ≤ length (values_by c q)) × (length (values_by c q) ≤ 8)
   values-fit (Volume min max channels lowest step mute) command (of, is, was) at =
       let q : ControlKind = Volume min max channels lowest step mute in
@@ -138,6 +154,9 @@ module _ (f : FwState) (id : ℕ) (x : Comp) (there : comp_of f.graph id ≡ Som
       let long : length c.values ≡ 1 = ap length t.1 in
       (subst AreGains (sym t.1) (t.2, tt), omega (arith, long), omega (arith, long))
   values-fit (Blob most initial) command shown at = absurd (cc at)
+  values-fit (Masks min max channels) command (of, is, was) at =
+      let long : length (eight_masks c.values) ≡ 8 = eight c.values in
+      (masks-few (eight_masks c.values) (few-masks c.values (takes-by (Masks min max channels) x.kind c of was)), omega (arith, long), omega (arith, long))
 
   -- what is set there is what is said of it
   pub set-said : (q : ControlKind) → Shown q → setting_answer x.setting ≡ control_answer q c
@@ -145,4 +164,5 @@ module _ (f : FwState) (id : ℕ) (x : Comp) (there : comp_of f.graph id ≡ Som
   set-said (Choice items) (of, is, was) =
       ap setting_answer (is ∙ ap (λ (kind : Kind). record_setting kind (Some (control id (Choice items), c))) of.0)
       ∙ ap answers.Values (one-value c.values (takes-by (Choice items) x.kind c of was))
+  set-said (Masks min max channels) (of, is, was) = ap setting_answer (is ∙ ap (λ (kind : Kind). record_setting kind (Some (control id (Masks min max channels), c))) of.0)
   set-said (Blob most initial) (of, is, was) = ap setting_answer (is ∙ ap (λ (kind : Kind). record_setting kind (Some (control id (Blob most initial), c))) of.0)

@@ -22,7 +22,7 @@ use Rattle.tplg_plan.specs.declared.plans.ControlKind.TheVariants as controls
 use Rattle.tplg_plan.specs.GainOf.{control_gain}
 use Rattle.tplg_plan.specs.Sound.{IsControlOf}
 use Rattle.ipc3_model.specs.declared.message.Message.TheVariants.{SetValue}
-use Rattle.host_widgets.specs.Controls.{control_of}
+use Rattle.host_widgets.specs.Controls.{control_of, eight_masks}
 use Rattle.host_widgets.specs.declared.kept.Record.{Record}
 use Rattle.host_widgets.specs.declared.kept.ControlRec.{ControlRec}
 use Rattle.host_widgets.specs.Kept.{changed, control_at, with_control}
@@ -100,11 +100,19 @@ volume-setting (settings.Gains gs) vs setting is = by (length vs == length gs &&
 volume-setting settings.Nothing vs setting is = absurd (cc is)
 volume-setting (settings.Choice k) vs setting is = absurd (cc is)
 volume-setting (settings.Blob b) vs setting is = absurd (cc is)
+volume-setting (settings.Masks ms) vs setting is = absurd (cc is)
 
 mux-setting : (s : Setting) (vs : List ℕ) (setting : Setting) → fw.new_setting kinds.Mux s 1 vs ≡ Some setting → setting ≡ settings.Choice (get_or vs 0 0)
 mux-setting s [] setting is = absurd (cc is)
 mux-setting s (v ∷ []) setting is = let same : settings.Choice v ≡ setting = cc is in sym same
 mux-setting s (v ∷ w ∷ vs) setting is = absurd (cc is)
+
+demux-setting : (s : Setting) (vs : List ℕ) (setting : Setting) → fw.new_setting kinds.Demux s 2 vs ≡ Some setting → setting ≡ settings.Masks vs
+demux-setting s vs setting is = by (length vs == 8 && list_all (λ v. nat_le v 255) vs) is
+  where
+    by : (b : Bool) → (if b then Some (settings.Masks vs) else None) ≡ Some setting → setting ≡ settings.Masks vs
+    by true is = let same : settings.Masks vs ≡ setting = cc is in sym same
+    by false is = absurd (cc is)
 
 -- a state once values are in force at a component: at a volume a ramp begins, and of others all but the view is as it was
 abbrev pub put_state : FwState → View → ℕ → Bool → FwState
@@ -177,6 +185,10 @@ module _ (plan : Plan) (kept : Record) (f f' : FwState) (shows : view_of f ≡ r
       put-by 1 values kinds.Mux (settings.Choice (get_or values 0 0))
       (subst (λ (kind : Kind). AreKind comp kind plan.graph.comps) live.0 are) live.0 (at-now kinds.Mux (record { comp = comp; kind = controls.Choice items }) c at)
       (λ s setting is. mux-setting s values setting is) done
+  put-kind (controls.Masks min max channels) c at are live done =
+      put-by 2 (eight_masks values) kinds.Demux (settings.Masks (eight_masks values))
+      (subst (λ (kind : Kind). AreKind comp kind plan.graph.comps) live.0 are) live.0 (at-now kinds.Demux (record { comp = comp; kind = controls.Masks min max channels }) c at)
+      (λ s setting is. demux-setting s (eight_masks values) setting is) done
   put-kind (controls.Blob most initial) c at are live done =
       put-by 0 (map (control_gain (controls.Blob most initial)) values) kinds.Eq (record_setting kinds.Eq (control_at plan now_put comp))
       (subst (λ (kind : Kind). AreKind comp kind plan.graph.comps) live.0 are) live.0 refl (λ s setting is. absurd (cc is)) done

@@ -11,14 +11,14 @@ use Rattle.stream_law.specs.declared.graph.Comp.{Comp}
 use Rattle.stream_law.specs.declared.stream.StreamView.{StreamView}
 use Rattle.stream_law.specs.State.{FwState, View, view_of}
 use Rattle.stream_law.specs.Table.{number_of, list_of}
-use Rattle.stream_law.specs.Ways.{comp_of, components, buffers, source_of, sink_of, is_capture, is_of, on_way, reaches, live, is_live_phase, same_shape, agree}
+use Rattle.stream_law.specs.Ways.{comp_of, components, buffers, source_of, sink_of, is_of, on_way, live, is_live_phase, same_shape, agree}
 use Rattle.stream_law.specs.Made.{blob}
 use Rattle.stream_law.specs.Seen.{flows, remembers, keeps_numbers, goes_on, numbers_in, marked, blob_in}
 use Rattle.stream_law.specs.Past.{Moment, Now, Past, part_of, Leads, after_now}
 use Rattle.stream_law.specs.Stands.{Stands, ring_frames}
 use Rattle.stream_law.specs.Viewing.{Sees, StaysAsLive}
-use Rattle.stream_law.specs.Stays.{KeepsShape}
-use Rattle.stream_law.proofs.Shapes.{live-stays}
+use Rattle.stream_law.specs.Stays.{SameWays, KeepsShape}
+use Rattle.stream_law.proofs.Shapes.{on_way_same, live-stays}
 use Rattle.stream_law.proofs.Standing.{Stands-now}
 use Rattle.stream_law.proofs.Remembering.{is_of-kinds}
 use Rattle.tplg_plan.specs.declared.plans.Plan.{Plan}
@@ -30,20 +30,11 @@ use Rattle.host_widgets.specs.ViewOf.{record_view, graph_by, set_comp, record_se
 use Rattle.host_widgets.specs.Host.{IsRecordOf, AreControls}
 use Rattle.host_ctl.proofs.PutShows.{found-set, there-at, elsewhere-at}
 use Rattle.host_widgets.proofs.ActsStand.{all-have}
+use Rattle.host_widgets.proofs.SameTouch.{touch_same}
 
 -- ---- ways are those of the plan, whatever is set
 
 module _ (plan : Plan) (kept : Record) where
-  captures : (o : Option Comp) → option_map_or (λ (c : Comp). is_capture c.kind) (option_map (set_comp plan kept) o) false ≡ option_map_or (λ (c : Comp). is_capture c.kind) o false
-  captures None = refl
-  captures (Some c) = refl
-
-  way-by : (host x : ℕ) → on_way (graph_by plan kept) host x ≡ on_way plan.graph host x
-  unfolding on_way reaches
-  way-by host x =
-      ap (λ (b : Bool). if b then reaches plan.graph x host else reaches plan.graph host x)
-      (ap (λ (o : Option Comp). option_map_or (λ (c : Comp). is_capture c.kind) o false) (found-set plan kept host plan.graph.comps) ∙ captures (comp_of plan.graph host))
-
   pub kinds-by : (c : ℕ) → option_map (λ (x : Comp). x.kind) (comp_of (graph_by plan kept) c) ≡ option_map (λ (x : Comp). x.kind) (comp_of plan.graph c)
   kinds-by c = ap (option_map (λ (x : Comp). x.kind)) (found-set plan kept c plan.graph.comps) ∙ by (comp_of plan.graph c)
     where
@@ -74,8 +65,16 @@ module _ (plan : Plan) (kept : Record) (comp : ℕ) (g : ControlRec → ControlR
   abbrev new_view : View
   new_view = record_view plan now
 
+  same-ways : SameWays new_view.graph old_view.graph
+  same-ways = record {
+    joins = refl;
+    edges = refl;
+    ids = ids-by plan now plan.graph.comps ∙ sym (ids-by plan kept plan.graph.comps);
+    kinds = λ c. kinds-by plan now c ∙ sym (kinds-by plan kept c);
+  }
+
   same-way : on_way new_view.graph ≡ on_way old_view.graph
-  same-way = λ i host x. (way-by plan now host x ∙ sym (way-by plan kept host x)) i
+  same-way = λ i host x. on_way_same new_view.graph old_view.graph same-ways host x i
 
   same-live : live new_view ≡ live old_view
   unfolding live
@@ -87,10 +86,7 @@ module _ (plan : Plan) (kept : Record) (comp : ℕ) (g : ControlRec → ControlR
 
   same-agree : agree new_view ≡ agree old_view
   unfolding agree
-  same-agree = λ i. list_all (λ (s : StreamView). list_all (λ (t : StreamView). not (list_any (λ x. same-way i s.host x && same-way i t.host x) (same-ids i ++ buffers plan.graph)) || same_shape s.params t.params) old_view.streams) old_view.streams
-    where
-      same-ids : components new_view.graph ≡ components old_view.graph
-      same-ids = ids-by plan now plan.graph.comps ∙ sym (ids-by plan kept plan.graph.comps)
+  same-agree = λ i. list_all (λ (s : StreamView). list_all (λ (t : StreamView). not (touch_same new_view.graph old_view.graph same-ways s.host t.host i) || same_shape s.params t.params) old_view.streams) old_view.streams
 
   -- the record stays one of the plan, where its controls do
   pub record-with : IsRecordOf plan kept → AreControls plan.controls now.controls → IsRecordOf plan now
@@ -100,13 +96,17 @@ module _ (plan : Plan) (kept : Record) (comp : ℕ) (g : ControlRec → ControlR
   pub shape-with : (fresh : Option ℕ) → ((c : ℕ) → option_map_or (λ x. x == c) fresh false ≡ false → blob_in new_view c ≡ blob_in old_view c) → IsRecordOf plan kept → KeepsShape old_view new_view fresh
   shape-with fresh stay is = record {
     keeps = record {
-      ways = record { joins = refl; kinds = λ c. kinds-by plan kept c ∙ sym (kinds-by plan now c) };
+      ways = record {
+        joins = refl;
+        edges = refl;
+        ids = ids-by plan kept plan.graph.comps ∙ sym (ids-by plan now plan.graph.comps);
+        kinds = λ c. kinds-by plan kept c ∙ sym (kinds-by plan now c);
+      };
       params = λ s there live. (s, there, refl, refl);
       old_have = all-have plan.streams kept.streams is.each;
       new_have = all-have plan.streams kept.streams is.each;
       agrees = same-agree ∙ is.shapes;
     };
-    edges = refl;
     blobs = stay;
     ramps = λ c. ramps-by plan now c ∙ sym (ramps-by plan kept c);
   }
@@ -122,6 +122,8 @@ module _ (plan : Plan) (kept : Record) (comp : ℕ) (g : ControlRec → ControlR
     blob-by kinds.Volume None = refl
     blob-by kinds.Mux (Some (k, c)) = refl
     blob-by kinds.Mux None = refl
+    blob-by kinds.Demux (Some (k, c)) = refl
+    blob-by kinds.Demux None = refl
     blob-by kinds.HostPlay o = refl
     blob-by kind o = refl
 

@@ -13,14 +13,14 @@ use Rattle.ipc3_model.specs.declared.reply.Body.TheVariants as bodies
 use Rattle.tplg_plan.specs.declared.plans.Plan.{Plan}
 use Rattle.tplg_plan.specs.declared.plans.ControlPlan.{ControlPlan}
 use Rattle.tplg_plan.specs.declared.plans.ControlKind.{ControlKind}
-use Rattle.tplg_plan.specs.declared.plans.ControlKind.TheVariants.{Volume, Choice, Blob}
+use Rattle.tplg_plan.specs.declared.plans.ControlKind.TheVariants.{Volume, Choice, Blob, Masks}
 use Rattle.host_widgets.specs.declared.answers.Answer.{Answer}
 use Rattle.host_widgets.specs.declared.answers.Answer.TheVariants as answers
 use Rattle.host_widgets.specs.declared.answers.HostFault.{HostFault}
 use Rattle.host_widgets.specs.declared.kept.Record.{Record}
 use Rattle.host_widgets.specs.ActLists.{part_acts}
 use Rattle.host_widgets.specs.Host.{Outcome, IsControlSet}
-use Rattle.host_widgets.specs.ActCalls.{ActsSent}
+use Rattle.host_widgets.specs.ActCarried.{ActsSent}
 use Rattle.host_widgets.specs.ActCarried.{PlainEnd}
 use Rattle.mbox_link.specs.Calls.{World, Meaning}
 use Rattle.host_ctl.specs.ControlAsks.{named_control}
@@ -30,6 +30,7 @@ abbrev pub value_command : ControlKind → Option ℕ
 value_command (Volume min max channels lowest step mute) = Some 0
 value_command (Choice items) = Some 1
 value_command (Blob most initial) = None
+value_command (Masks min max channels) = Some 2
 
 -- the values that a reply carries
 abbrev pub carried_by : Body → Answer
@@ -47,6 +48,7 @@ setting_answer settings.Nothing = answers.Done
 setting_answer (settings.Gains gains) = answers.Values gains
 setting_answer (settings.Choice k) = answers.Values (k ∷ [])
 setting_answer (settings.Blob blob) = answers.Bytes blob
+setting_answer (settings.Masks masks) = answers.Values masks
 
 -- what the firmware has of the control of a name
 abbrev pub firmware_has : Plan → List ℕ → FwState → Option Answer

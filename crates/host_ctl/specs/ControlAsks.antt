@@ -5,7 +5,7 @@ use Rattle.sof_base.specs.BlobFaults.{blob_fault, fault_number}
 use Rattle.tplg_plan.specs.declared.plans.Plan.{Plan}
 use Rattle.tplg_plan.specs.declared.plans.ControlPlan.{ControlPlan}
 use Rattle.tplg_plan.specs.declared.plans.ControlKind.{ControlKind}
-use Rattle.tplg_plan.specs.declared.plans.ControlKind.TheVariants.{Volume, Choice, Blob}
+use Rattle.tplg_plan.specs.declared.plans.ControlKind.TheVariants.{Volume, Choice, Blob, Masks}
 use Rattle.host_widgets.specs.declared.answers.HostFault.{HostFault}
 use Rattle.host_widgets.specs.declared.answers.HostFault.TheVariants as faults
 use Rattle.host_widgets.specs.declared.kept.Record.{Record}
@@ -17,17 +17,19 @@ named_control plan name = find (λ k. is_named plan name k.comp) plan.controls
 
 -- ---- values
 
--- how many values a volume has, one for each channel; a mux has one, and an equaliser is not set by values
+-- how many values a volume or a demux has, one for each channel; a mux has one, and an equaliser is not set by values
 abbrev pub channels_of : ControlKind → Option ℕ
 channels_of (Volume min max channels lowest step mute) = Some channels
 channels_of (Choice items) = Some 1
 channels_of (Blob most initial) = None
+channels_of (Masks min max channels) = Some channels
 
--- a volume takes a value in its range, and a mux the number of one of its items
+-- a volume or a demux takes a value in its range, and a mux the number of one of its items
 abbrev pub takes_value : ControlKind → ℕ → Bool
 takes_value (Volume min max channels lowest step mute) v = nat_le min v && nat_le v max
 takes_value (Choice items) v = nat_lt v items
 takes_value (Blob most initial) v = false
+takes_value (Masks min max channels) v = nat_le min v && nat_le v max
 
 -- one value is for all channels
 abbrev pub spread : ℕ → List ℕ → List ℕ
@@ -55,7 +57,7 @@ set_fault plan kept name values = loaded_fault kept.power (setting_fault name va
 
 -- ---- bytes
 
--- more bytes than an equaliser takes; or the number of the first fault of bytes that are no blob. Volumes and muxes are not set by
+-- more bytes than an equaliser takes; or the number of the first fault of bytes that are no blob. No other control is set by
 -- bytes
 abbrev pub bytes_fault_by : List ℕ → List ℕ → ControlKind → Option HostFault
 bytes_fault_by name bytes (Blob most initial) =

@@ -4,12 +4,13 @@ use Rattle.std.specs.Option.{option_and_then}
 use Rattle.tplg_plan.specs.declared.plans.Plan.{Plan}
 use Rattle.tplg_plan.specs.declared.plans.ControlPlan.{ControlPlan}
 use Rattle.tplg_plan.specs.declared.plans.ControlKind.{ControlKind}
-use Rattle.tplg_plan.specs.declared.plans.ControlKind.TheVariants.{Volume, Choice, Blob}
+use Rattle.tplg_plan.specs.declared.plans.ControlKind.TheVariants.{Volume, Choice, Blob, Masks}
 use Rattle.tplg_plan.specs.GainOf.{control_gain}
 use Rattle.host_widgets.specs.declared.answers.Answer.{Answer}
 use Rattle.host_widgets.specs.declared.answers.Answer.TheVariants as answers
 use Rattle.host_widgets.specs.declared.kept.Record.{Record}
 use Rattle.host_widgets.specs.declared.kept.ControlRec.{ControlRec}
+use Rattle.host_widgets.specs.Controls.{eight_masks}
 use Rattle.host_widgets.specs.Kept.{control_at, with_control}
 use Rattle.mbox_link.specs.BlobParts.{part_numbers}
 use Rattle.host_widgets.specs.HostActs.{Act, Put, Ask, with_values, with_blob}
@@ -17,7 +18,7 @@ use Rattle.host_widgets.specs.ActLists.{part_acts}
 use Rattle.host_widgets.specs.Orders.{Order, quiet, sends}
 use Rattle.host_ctl.specs.ControlAsks.{channels_of, spread, named_control}
 
--- ---- set: a volume's or a mux's values
+-- ---- set: the values of a volume, a mux or a demux
 
 abbrev pub put_order : Plan → Record → ℕ → List ℕ → Order
 put_order plan kept comp values = sends kept.power (Put comp values ∷ []) (with_control plan comp (with_values values)) answers.Done
@@ -58,14 +59,15 @@ named_at plan kept name = option_and_then (λ (k : ControlPlan). control_at plan
 abbrev pub get_order : Plan → Record → List ℕ → Order
 get_order plan kept name = quiet (control_told (named_at plan kept name))
 
--- ---- read: what the firmware says, by the record: a volume's gains, a mux's choice, an equaliser's blob
+-- ---- read: what the firmware says, by the record: a volume's gains, a mux's choice, an equaliser's blob, a demux's eight masks
 
 abbrev pub control_answer : ControlKind → ControlRec → Answer
 control_answer (Volume min max channels lowest step mute) c = answers.Values (map (control_gain (Volume min max channels lowest step mute)) c.values)
 control_answer (Choice items) c = answers.Values c.values
 control_answer (Blob most initial) c = answers.Bytes c.blob
+control_answer (Masks min max channels) c = answers.Values (eight_masks c.values)
 
--- a volume or a mux is asked once, and an equaliser for each part of its blob
+-- an equaliser is asked for each part of its blob, and another control once
 abbrev pub ask_acts : ℕ → ControlKind → ControlRec → List Act
 ask_acts comp (Blob most initial) c = map (Ask comp) (part_numbers c.blob)
 ask_acts comp kind c = Ask comp 0 ∷ []

@@ -23,7 +23,9 @@ pub fn channels_of(kind: &ControlKind) -> Option<u8>
     ensures { result ≡ asks.channels_of kind.now }
 {
     match kind {
-        ControlKind::Volume { channels, .. } => Some(*channels),
+        ControlKind::Volume { channels, .. } | ControlKind::Masks { channels, .. } => {
+            Some(*channels)
+        }
         ControlKind::Choice { .. } => Some(1),
         ControlKind::Blob { .. } => None,
     }
@@ -34,7 +36,9 @@ fn takes_value(kind: &ControlKind, value: u32) -> bool
     ensures { result ≡ asks.takes_value kind.now value }
 {
     match kind {
-        ControlKind::Volume { min, max, .. } => *min <= value && value <= *max,
+        ControlKind::Volume { min, max, .. } | ControlKind::Masks { min, max, .. } => {
+            *min <= value && value <= *max
+        }
         ControlKind::Choice { items } => value < *items,
         ControlKind::Blob { .. } => false,
     }

@@ -24,7 +24,7 @@ use host_widgets::{
     Answer, ControlRec, HostFault, Power, Record, Side, hear, is_down, link_down, part_count, pass,
     same_numbers, send_parts, set_message,
 };
-use ipc3_model::{Body, CTRL_ENUM, CTRL_VOLUME, Message};
+use ipc3_model::{Body, CTRL_ENUM, CTRL_SWITCH, CTRL_VOLUME, Message};
 use mbox_link::Dsp;
 use sof_base::{Bounded, Part};
 use tplg_plan::ControlKind;
@@ -197,7 +197,7 @@ fn values_of(body: Body) -> Answer
     }
 }
 
-// The firmware is asked for the values of a volume or a mux.
+// The firmware is asked for the values of a volume, a mux or a demux.
 fn ask<P: Dsp>(side: &mut Side<'_, P>, place: usize, command: u32) -> Result<Answer, HostFault>
     requires ready { IsReady P.means side.old }
     requires power { side.old.kept.now.power ≡ Power.On }
@@ -337,6 +337,7 @@ pub fn read<P: Dsp>(side: &mut Side<'_, P>, place: usize) -> Result<Answer, Host
     match side.plan.controls.items()[place].kind {
         ControlKind::Volume { .. } => ask(side, place, CTRL_VOLUME),
         ControlKind::Choice { .. } => ask(side, place, CTRL_ENUM),
+        ControlKind::Masks { .. } => ask(side, place, CTRL_SWITCH),
         ControlKind::Blob { .. } => ask_parts(side, place),
     }
 }

@@ -9,7 +9,7 @@ ghost use Rattle.sof_base.specs.Ports.{HasRoom};
 ghost use Rattle.mbox_link.specs.Calls.{world};
 ghost use Rattle.tplg_plan.specs.Sound.{IsSound};
 ghost use Rattle.host_widgets.specs.Host.{Agrees};
-ghost use Rattle.host_widgets.specs.Orders.{Tested};
+ghost use Rattle.host_widgets.specs.TestedOrders.{Tested};
 ghost use Rattle.host_ctl.specs.ControlAsks.{set_fault, bytes_fault, get_fault, read_fault};
 ghost use Rattle.host_ctl.specs.ControlOrders.{set_order, bytes_order, get_order, read_order, told_by};
 ghost use Rattle.host_ctl.specs.ControlAnswers.{outcome_of, Shows};
@@ -23,11 +23,12 @@ use sof_base::Name44;
 use sof_io::{Inputs, Outputs};
 use tplg_plan::{ControlKind, ControlPlan, Plan};
 
-/// A volume or a mux has these values by channel, or this one value on all channels: the firmware from the next tick on where
-/// the power is on, and the record after the reply. Where the power is off, the record alone changes.
+/// A volume or a mux has these values by channel, or this one value on all channels; a demux has them as the masks of its first
+/// outputs, and 255 past them. The firmware has them from the next tick on where the power is on, and the record after the reply.
+/// Where the power is off, the record alone changes.
 ///
-/// `Range(n)`: there are n values, neither one nor one for each channel; or else n is the first value that is outside the
-/// volume's range, or that is not the number of one of the mux's inputs. An equaliser is not set so: its name is `NoSuch`.
+/// `Range(n)`: there are n values, neither one nor one for each channel; or else n is the first value that is outside the range of
+/// the volume or the demux, or that is not the number of one of the mux's inputs. An equaliser is not set so: its name is `NoSuch`.
 pub fn set<P: Dsp>(
     plan: &Plan,
     kept: &mut Record,
@@ -67,7 +68,7 @@ pub fn set<P: Dsp>(
 /// power is off, the record alone changes.
 ///
 /// `Range(n)`: there are n bytes, more than the equaliser takes. `Blob(n)`: the bytes are no blob, by the fault of this number.
-/// Volumes and muxes are not set so: their names are `NoSuch`.
+/// No other control is set so: its name is `NoSuch`.
 pub fn set_bytes<P: Dsp>(
     plan: &Plan,
     kept: &mut Record,
@@ -107,9 +108,7 @@ fn told(control: &ControlPlan, kept: &ControlRec) -> Answer
 {
     match control.kind {
         ControlKind::Blob { .. } => Answer::Bytes(kept.blob.copied()),
-        ControlKind::Volume { .. } | ControlKind::Choice { .. } => {
-            Answer::Values(kept.values.copied())
-        }
+        _ => Answer::Values(kept.values.copied()),
     }
 }
 
@@ -134,8 +133,8 @@ pub fn get<P: Dsp>(
     Ok(told(&plan.controls.items()[place], &kept.controls.items()[place]))
 }
 
-/// What the firmware says of a control: a volume's gains by channel, of which 65536 is 1, or a mux's choice, by one message; or
-/// an equaliser's blob, by a message for each of its parts. Of an equaliser without a blob nothing is asked. It is what the record
+/// What the firmware says of a control: a volume's gains by channel, of which 65536 is 1, a mux's choice, or a demux's eight masks,
+/// by one message; or an equaliser's blob, by a message for each of its parts. Of an equaliser without a blob nothing is asked. It is what the record
 /// says, which stays. `Off`: the power is off.
 pub fn read<P: Dsp>(
     plan: &Plan,

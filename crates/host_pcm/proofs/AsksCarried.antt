@@ -15,8 +15,10 @@ use Rattle.host_widgets.specs.Orders.{Carried}
 use Rattle.host_widgets.proofs.OneOrder.{one-order}
 use Rattle.host_pcm.specs.declared.asking.Ask.{Ask}
 use Rattle.host_pcm.specs.declared.asking.Ask.TheVariants.{Opening, Preparing, Triggering}
-use Rattle.host_pcm.specs.Asks.{stream_at, with_stream_at}
-use Rattle.host_pcm.specs.StreamOrders.{host_at, place_order, opened_stream, Asked}
+use Rattle.host_pcm.specs.Asks.{stream_at}
+use Rattle.host_pcm.specs.StreamCalls.{with_stream_at}
+use Rattle.host_pcm.specs.StreamCalls.{host_at, place_order, opened_stream}
+use Rattle.host_pcm.specs.StreamCalls.{Asked}
 use Rattle.host_pcm.proofs.HostTests.{Found_place, asked-late}
 use Rattle.host_pcm.proofs.AtRest.{open-carried, rest-agrees, closed-idle}
 

@@ -29,8 +29,9 @@ use Rattle.host_widgets.proofs.StreamRows.{AllAt}
 use Rattle.host_widgets.proofs.StreamPlaces.{place-all}
 use Rattle.host_widgets.proofs.RecordsStay.{may, Less, record-less}
 use Rattle.host_pcm.specs.declared.asking.Ask.TheVariants.{Opening, Closing}
-use Rattle.host_pcm.specs.Asks.{stream_at, is_closed, with_stream_at}
-use Rattle.host_pcm.specs.StreamOrders.{host_at, place_order, opened_stream, shut}
+use Rattle.host_pcm.specs.Asks.{stream_at, is_closed}
+use Rattle.host_pcm.specs.StreamCalls.{with_stream_at}
+use Rattle.host_pcm.specs.StreamCalls.{host_at, place_order, opened_stream, shut}
 use Rattle.host_widgets.proofs.PlainOrders.{plain, no-acts}
 use Rattle.host_pcm.proofs.Places.{place-changed}
 

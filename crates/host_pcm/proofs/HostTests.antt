@@ -13,10 +13,12 @@ use Rattle.host_widgets.specs.declared.kept.Power.TheVariants.{On, Off, Unloaded
 use Rattle.host_widgets.specs.declared.kept.Record.{Record}
 use Rattle.host_widgets.specs.Host.{Outcome}
 use Rattle.host_pcm.specs.declared.asking.Ask.{Ask}
-use Rattle.host_pcm.specs.Asks.{stream_place, takes_ask, asks_for_power, range_fault, found_fault, power_fault, named_fault, early_fault, stream_at, stream_caps}
+use Rattle.host_pcm.specs.Asks.{stream_place, takes_ask, asks_for_power, range_fault, found_fault, power_fault, named_fault, early_fault, stream_at}
+use Rattle.host_pcm.specs.StreamCalls.{stream_caps}
 use Rattle.host_widgets.specs.HostRecord.{no_stream}
 use Rattle.host_widgets.specs.Orders.{Carried}
-use Rattle.host_pcm.specs.StreamOrders.{place_order, Asked}
+use Rattle.host_pcm.specs.StreamCalls.{place_order}
+use Rattle.host_pcm.specs.StreamCalls.{Asked}
 
 -- what no failing test says, of a stream that stands so, at this power
 pub record Stood (caps : Caps) (ask : Ask) (found : Found) (power : Power) : Type 0 where

@@ -20,8 +20,9 @@ use Rattle.host_widgets.specs.Host.{Outcome}
 use Rattle.host_widgets.specs.Orders.{Order, Carried, sends}
 use Rattle.host_pcm.specs.declared.asking.Ask.TheVariants.{Closing}
 use Rattle.host_widgets.specs.StreamStands.{takes_trigger}
-use Rattle.host_pcm.specs.Asks.{stream_at, with_stream_at}
-use Rattle.host_pcm.specs.StreamOrders.{host_at, place_order, shut}
+use Rattle.host_pcm.specs.Asks.{stream_at}
+use Rattle.host_pcm.specs.StreamCalls.{with_stream_at}
+use Rattle.host_pcm.specs.StreamCalls.{host_at, place_order, shut}
 use Rattle.host_widgets.specs.ActCarried.{ActCarried}
 use Rattle.host_widgets.proofs.PlainOrders.{plain, ends-with, goes-on, passes-alone}
 use Rattle.host_pcm.proofs.Places.{place-changed, once}

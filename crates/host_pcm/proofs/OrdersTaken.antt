@@ -25,8 +25,10 @@ use Rattle.host_widgets.proofs.WalksHold.{AreTaken, none-taken, plainly-taken}
 use Rattle.host_pcm.specs.declared.asking.Ask.{Ask}
 use Rattle.host_pcm.specs.declared.asking.Ask.TheVariants.{Opening, Preparing, Triggering, Closing}
 use Rattle.host_widgets.specs.StreamStands.{takes_trigger, takes_params}
-use Rattle.host_pcm.specs.Asks.{stream_at, stream_place, stream_caps, early_fault, named_fault}
-use Rattle.host_pcm.specs.StreamOrders.{host_at, asking_order, place_order, stream_order}
+use Rattle.host_pcm.specs.Asks.{stream_at, stream_place, early_fault, named_fault}
+use Rattle.host_pcm.specs.StreamCalls.{stream_caps}
+use Rattle.host_pcm.specs.StreamOrders.{asking_order, stream_order}
+use Rattle.host_pcm.specs.StreamCalls.{host_at, place_order}
 use Rattle.host_pcm.proofs.HostTests.{Stood, found_place}
 use Rattle.host_pcm.proofs.StreamCalls.{ranges}
 use Rattle.host_widgets.proofs.StreamsTaken.{trig-is, free-is, prepare-is}

@@ -9,8 +9,9 @@ use Rattle.host_widgets.specs.HostRecord.{closed, no_stream}
 use Rattle.host_widgets.specs.Kept.{changed, with_stream}
 use Rattle.host_widgets.proofs.ChangedPlaces.{changed-at}
 use Rattle.host_widgets.proofs.StreamPlaces.{streams-ascend}
-use Rattle.host_pcm.specs.Asks.{stream_at, with_stream_at}
-use Rattle.host_pcm.specs.StreamOrders.{host_at}
+use Rattle.host_pcm.specs.Asks.{stream_at}
+use Rattle.host_pcm.specs.StreamCalls.{with_stream_at}
+use Rattle.host_pcm.specs.StreamCalls.{host_at}
 
 module _ (plan : Plan) (sound : IsSound plan) (k : ℕ) (low : k < length plan.streams) (f : StreamRec → StreamRec) where
   pub place-changed : (kept : Record) → length kept.streams ≡ length plan.streams → with_stream_at k (f (stream_at kept k)) kept ≡ with_stream plan (host_at plan k) f kept

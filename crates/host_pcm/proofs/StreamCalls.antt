@@ -29,9 +29,11 @@ use Rattle.host_widgets.proofs.OneActLaws.{IsStreamAct, stream-shown}
 use Rattle.host_widgets.proofs.ActsCome.{IsAnswered}
 use Rattle.host_pcm.specs.declared.asking.Ask.TheVariants.{Preparing}
 use Rattle.host_widgets.specs.StreamStands.{takes_trigger, takes_params}
-use Rattle.host_pcm.specs.Asks.{stream_at, range_fault, stream_caps, with_stream_at}
+use Rattle.host_pcm.specs.Asks.{stream_at, range_fault}
+use Rattle.host_pcm.specs.StreamCalls.{stream_caps}
+use Rattle.host_pcm.specs.StreamCalls.{with_stream_at}
 use Rattle.host_pcm.specs.StreamRanges.{has_rate, has_channels, is_within}
-use Rattle.host_pcm.specs.StreamOrders.{host_at, shut}
+use Rattle.host_pcm.specs.StreamCalls.{host_at, shut}
 use Rattle.host_widgets.specs.ActCarried.{Passes, PlainEnd, ActCarried}
 use Rattle.host_widgets.proofs.ActSteps.{done, ended}
 use Rattle.host_widgets.proofs.PlannedStreams.{place-goes}

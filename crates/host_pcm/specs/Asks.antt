@@ -1,5 +1,5 @@
 -- What may be asked of a stream, and when it is refused before any message.
-use Rattle.std.specs.Prelude.{ℕ, List, get_or, set, Bool, true, false, not, Option, Some, None, position, if◌then◌else◌}
+use Rattle.std.specs.Prelude.{ℕ, List, get_or, Bool, true, false, not, Option, Some, None, position, if◌then◌else◌}
 use Rattle.tplg_model.specs.declared.pcm.Caps.{Caps}
 use Rattle.tplg_plan.specs.declared.plans.Plan.{Plan}
 use Rattle.host_widgets.specs.declared.answers.HostFault.{HostFault}
@@ -54,10 +54,6 @@ abbrev pub power_fault : Caps → Ask → Found → Power → Option HostFault
 power_fault caps ask found powers.Off = if asks_for_power ask then Some Off else found_fault caps ask found
 power_fault caps ask found power = found_fault caps ask found
 
--- what the PCM of the stream at a place can do
-abbrev pub stream_caps : Plan → ℕ → Caps
-stream_caps plan k = (get_or plan.streams k no_stream).caps
-
 -- the record of the stream at a place
 abbrev pub stream_at : Record → ℕ → StreamRec
 stream_at kept k = get_or kept.streams k closed
@@ -65,12 +61,8 @@ stream_at kept k = get_or kept.streams k closed
 -- the tests where something is loaded
 abbrev pub named_fault : Plan → Record → List ℕ → Ask → Option ℕ → Option HostFault
 named_fault plan kept name ask None = Some (NoSuch name)
-named_fault plan kept name ask (Some k) = power_fault (stream_caps plan k) ask (stream_at kept k).found kept.power
+named_fault plan kept name ask (Some k) = power_fault (get_or plan.streams k no_stream).caps ask (stream_at kept k).found kept.power
 
 -- the first test that fails
 abbrev pub early_fault : Plan → Record → List ℕ → Ask → Option HostFault
 early_fault plan kept name ask = loaded_fault kept.power (named_fault plan kept name ask (stream_place plan name))
-
--- the record with another stream at a place
-abbrev pub with_stream_at : ℕ → StreamRec → Record → Record
-with_stream_at k r kept = record { power = kept.power; streams = set kept.streams k r; controls = kept.controls }

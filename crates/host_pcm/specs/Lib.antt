@@ -1,3 +1,4 @@
 pub mod StreamRanges
 pub mod Asks
 pub mod StreamOrders
+pub mod StreamCalls

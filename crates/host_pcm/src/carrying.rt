@@ -4,8 +4,10 @@ ghost use Rattle.host_widgets.specs.HostRecord.{closed};
 ghost use Rattle.host_widgets.specs.Host.{Agrees};
 ghost use Rattle.host_widgets.specs.HostActs.{Prepare, Trig, Free, triggered_found};
 ghost use Rattle.host_widgets.specs.Orders.{Carried};
-ghost use Rattle.host_pcm.specs.Asks.{stream_at, takes_ask, range_fault, stream_caps, with_stream_at};
-ghost use Rattle.host_pcm.specs.StreamOrders.{host_at, opened_stream, place_order};
+ghost use Rattle.host_pcm.specs.Asks.{stream_at, takes_ask, range_fault};
+ghost use Rattle.host_pcm.specs.StreamCalls.{stream_caps};
+ghost use Rattle.host_pcm.specs.StreamCalls.{with_stream_at};
+ghost use Rattle.host_pcm.specs.StreamCalls.{host_at, opened_stream, place_order};
 ghost use Rattle.host_widgets.specs.ActCarried.{ActCarried};
 ghost use Rattle.host_widgets.specs.Sides.{IsReady, SameSide, world_of};
 

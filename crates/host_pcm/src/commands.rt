@@ -9,7 +9,7 @@ ghost use Rattle.sof_base.specs.Ports.{HasRoom};
 ghost use Rattle.mbox_link.specs.Calls.{world};
 ghost use Rattle.tplg_plan.specs.Sound.{IsSound};
 ghost use Rattle.host_widgets.specs.Host.{Agrees};
-ghost use Rattle.host_pcm.specs.StreamOrders.{Asked};
+ghost use Rattle.host_pcm.specs.StreamCalls.{Asked};
 
 use crate::asking::{Ask, tested};
 use crate::carrying;

@@ -10,7 +10,8 @@ use Rattle.stream_law.specs.Placed.{AreAbove, Ascends}
 use Rattle.stream_law.specs.State.{FwState, View, view_of}
 use Rattle.stream_law.specs.Past.{Now, Leads}
 use Rattle.stream_law.specs.Stands.{Stands}
-use Rattle.ipc3_model.specs.Messages.{IsMessage, decoded, message_spelling}
+use Rattle.ipc3_model.specs.Messages.{decoded, message_spelling}
+use Rattle.ipc3_model.specs.Meanings.{IsMessage}
 use Rattle.ipc3_model.specs.declared.message.Message.TheVariants.{CtxSave}
 use Rattle.mbox_link.specs.Step.{body_of, fresh}
 use Rattle.mbox_link.specs.Meetings.{Meeting}

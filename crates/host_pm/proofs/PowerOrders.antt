@@ -23,7 +23,8 @@ use Rattle.host_widgets.specs.ActLists.{go_down, bring_up, bring_back, prepare_a
 use Rattle.host_widgets.specs.OneAct.{own, outcome_by, lag_of, performed}
 use Rattle.host_widgets.specs.Walk.{Walked, walk, followed_by, goes_past}
 use Rattle.host_widgets.specs.ActCalls.{ActsDid, Onwards, next_of, calls_of}
-use Rattle.host_widgets.specs.Orders.{ActsCame, Carried, suspending, resuming, brought_end}
+use Rattle.host_widgets.specs.Orders.{Carried, suspending, resuming, brought_end}
+use Rattle.host_widgets.specs.TestedOrders.{ActsCame}
 use Rattle.host_widgets.specs.StateOf.{state_by}
 use Rattle.host_widgets.specs.ViewOf.{record_view}
 use Rattle.host_widgets.proofs.BuildingActs.{bring-leaves}

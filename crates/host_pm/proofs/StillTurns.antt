@@ -9,7 +9,9 @@ use Rattle.stream_law.specs.declared.stream.Phase.TheVariants as phases
 use Rattle.stream_law.specs.declared.stream.StreamView.{StreamView}
 use Rattle.stream_law.specs.State.{FwState, RingView, History, View, view_of}
 use Rattle.stream_law.specs.Placed.{HasDistinct}
-use Rattle.stream_law.specs.Ways.{agree, components, is_live_phase, is_silent}
+use Rattle.stream_law.specs.Ways.{agree, components, is_live_phase}
+use Rattle.stream_law.specs.Silence.{is_silent}
+use Rattle.stream_law.specs.Joins.{crosses}
 use Rattle.stream_law.specs.Seen.{remembers, seen, ring_seen, history_seen}
 use Rattle.stream_law.proofs.Building.{dead-remembers}
 use Rattle.ipc3_model.specs.Messages.{message_spelling, decoded}
@@ -136,7 +138,7 @@ module _ (plan : Plan) (heap : ℕ) where
   row-rested t host p f f' rested done =
       let v = fw.with_params f host p in
       let l = last-test (not (fw.is_used f.graph host)) (not (fw.has_kind (λ kind. fw.goes kind (direction_of plan host)) (fw.kind_at f.graph host))) (fw.is_stream_phase is_live_phase (fw.phase_at f host))
-      (not (fw.is_rate p.rate)) (not (fw.is_way_ready f.graph host)) (agree v) no_device invalid (seen v None f) f' done in
+      (not (fw.is_rate p.rate)) (not (fw.is_way_ready f.graph host)) (crosses f.graph) (agree v) no_device invalid (seen v None f) f' done in
       subst (IsRested t) l.1 (seen-rested t v f (ap not (none-set host p f.streams (not-true (list_any (λ (s : StreamView). is_live_phase s.phase) f.streams) rested.silent))) rested)
 
   act-rested : (t : ℕ) (act : Act) → IsPrepare act → (f f' : FwState) → IsRested t f → row f (act_message plan act) ≡ Ok f' → IsRested t f'

@@ -26,8 +26,9 @@ use Rattle.host_widgets.specs.Host.{Outcome, IsRecordOf, errno, verdict}
 use Rattle.host_widgets.specs.Bringing.{Fits}
 use Rattle.host_widgets.specs.OneAct.{own, outcome_by, lag_of, performed}
 use Rattle.host_widgets.specs.Walk.{followed_by, walk}
-use Rattle.host_widgets.specs.ActCalls.{ActsDid, ActsSent, Counted, Onwards, came_to, next_of}
-use Rattle.host_widgets.specs.Orders.{ActsCame}
+use Rattle.host_widgets.specs.ActCalls.{ActsDid, Counted, Onwards, came_to, next_of}
+use Rattle.host_widgets.specs.ActCarried.{ActsSent}
+use Rattle.host_widgets.specs.TestedOrders.{ActsCame}
 use Rattle.host_widgets.proofs.Effects.{FollowAll, effect}
 use Rattle.host_widgets.proofs.ManyEffects.{GoesOn, outcome_from}
 use Rattle.host_widgets.proofs.Brings.{brings}

@@ -90,13 +90,12 @@ module _ (plan : Plan) (kept : Record) (host : ℕ) (g : StreamRec → StreamRec
   shape : KeepsShape (record_view plan kept) now None
   shape = record {
     keeps = record {
-      ways = record { joins = refl; kinds = λ c. refl };
+      ways = record { joins = refl; edges = refl; ids = refl; kinds = λ c. refl };
       params = all-kept host g plan.streams kept.streams keeps;
       old_have = all-have plan.streams kept.streams is.each;
       new_have = all-have plan.streams (with_stream plan host g kept).streams will.each;
       agrees = will.shapes;
     };
-    edges = refl;
     blobs = λ c none. refl;
     ramps = λ c. refl;
   }

@@ -9,7 +9,7 @@ use Rattle.mbox_link.specs.Meetings.{Meeting}
 use Rattle.tplg_plan.specs.declared.plans.Plan.{Plan}
 use Rattle.tplg_plan.specs.declared.plans.ControlPlan.{ControlPlan}
 use Rattle.tplg_plan.specs.declared.plans.ControlKind.{ControlKind}
-use Rattle.tplg_plan.specs.declared.plans.ControlKind.TheVariants.{Volume, Choice, Blob}
+use Rattle.tplg_plan.specs.declared.plans.ControlKind.TheVariants.{Volume, Choice, Blob, Masks}
 use Rattle.host_widgets.specs.declared.answers.HostFault.{HostFault}
 use Rattle.host_widgets.specs.declared.answers.HostFault.TheVariants as faults
 use Rattle.host_widgets.specs.declared.answers.HostFault.TheVariants.{NotLoaded, Loaded, NoSuch, State, Off, Range, Refused, LinkDown}
@@ -98,6 +98,7 @@ module _ (plan : Plan) (kept : Record) where
     one-leaves : (id : ℕ) (kind : ControlKind) (r : ControlRec) → Leaves (Put id r.values) → ((k : ℕ) → Leaves (Part id r.blob k)) → AllByRecursion Leaves (control_acts_by id kind r)
     one-leaves id (Volume min max channels lowest step mute) r put parts = (put, tt)
     one-leaves id (Choice items) r put parts = (put, tt)
+    one-leaves id (Masks min max channels) r put parts = (put, tt)
     one-leaves id (Blob most initial) r put parts = all-mapped Leaves (Part id r.blob) parts (part_numbers r.blob)
 
     puts-leave : (ps : List Pair) → AllByRecursion IsThere ps → AllByRecursion Leaves (flat_map control_acts ps)

@@ -12,13 +12,16 @@ use Rattle.host_widgets.specs.declared.kept.Power.{Power}
 use Rattle.host_widgets.specs.declared.kept.Power.TheVariants.{Unloaded, On, Off}
 use Rattle.host_widgets.specs.declared.kept.Record.{Record}
 use Rattle.tplg_plan.specs.Sound.{IsSound}
-use Rattle.host_widgets.specs.Kept.{first_record, with_power, all_closed}
+use Rattle.host_widgets.specs.Kept.{first_record, with_power}
+use Rattle.host_widgets.specs.IdleStreams.{all_closed}
 use Rattle.host_widgets.specs.ActLists.{bring_up}
 use Rattle.host_widgets.specs.StateOf.{state_by}
 use Rattle.host_widgets.specs.Host.{Outcome, Agrees, Sides}
 use Rattle.host_widgets.specs.Bringing.{Fits, BroughtUp, SucceedsExactly, ticks_put}
-use Rattle.host_widgets.specs.ActCalls.{ActsSent, calls_of}
-use Rattle.host_widgets.specs.Orders.{Carried, Tested, brought_end, fault_of_load, loading, unload_fault, unloading, where_on}
+use Rattle.host_widgets.specs.ActCalls.{calls_of}
+use Rattle.host_widgets.specs.ActCarried.{ActsSent}
+use Rattle.host_widgets.specs.Orders.{Carried, brought_end, fault_of_load, loading, unload_fault, unloading, where_on}
+use Rattle.host_widgets.specs.TestedOrders.{Tested}
 use Rattle.host_widgets.proofs.Brings.{brings}
 use Rattle.host_widgets.proofs.BuildingActs.{bring-leaves}
 use Rattle.host_widgets.proofs.LoadOrders.{unloading_at}

@@ -1,7 +1,7 @@
 -- The live controls of a plan, each with its record.
 use Rattle.std.proofs.Common.{◌≡◌, ◌⊎◌, refl, sym, ap, ◌∙◌, ℕ, suc, ◌<◌, ◌≤◌, Bool, true, List, [], ◌∷◌, length, map, get_or, ◌==◌, inl, inr, arith}
 use Rattle.std.specs.Prelude.{◌||◌}
-use Rattle.std.specs.List.{AllByRecursion, list_any, zip}
+use Rattle.std.specs.List.{AllByRecursion, list_all, list_any, zip}
 use Rattle.std.proofs.lemmas.List.{length-replicate}
 use Rattle.std.proofs.lemmas.Slice.Zip.{get_or-zip}
 use Rattle.sof_base.specs.BlobFaults.{is_blob}
@@ -10,13 +10,14 @@ use Rattle.stream_law.specs.declared.graph.Kind.{Kind}
 use Rattle.stream_law.specs.Placed.{Ascends, AreAbove}
 use Rattle.tplg_plan.specs.declared.plans.ControlPlan.{ControlPlan}
 use Rattle.tplg_plan.specs.declared.plans.ControlKind.{ControlKind}
-use Rattle.tplg_plan.specs.declared.plans.ControlKind.TheVariants.{Volume, Choice, Blob}
+use Rattle.tplg_plan.specs.declared.plans.ControlKind.TheVariants.{Volume, Choice, Blob, Masks}
 use Rattle.tplg_plan.specs.Ranges.{is_initial}
 use Rattle.tplg_plan.specs.Sound.{IsControlOf, IsLive}
 use Rattle.host_widgets.specs.declared.kept.ControlRec.{ControlRec}
 use Rattle.host_widgets.specs.Controls.{first_value, first_values, first_blob}
 use Rattle.host_widgets.specs.Kept.{first_control}
 use Rattle.host_widgets.specs.Host.{IsControlSet, AreControls}
+use Rattle.host_widgets.proofs.EightMasks.{is_mask, ranged-masks, same-masks}
 
 abbrev pub Pair : Type 0
 Pair = ControlPlan × ControlRec
@@ -24,11 +25,12 @@ Pair = ControlPlan × ControlRec
 abbrev pub comp_at : Pair → ℕ
 comp_at p = p.0.comp
 
--- what a record may be that goes with a control: the values of a message, and a blob or none
+-- what a record may be that goes with a control: the values of a message, a blob or none, and masks
 abbrev pub Takes : ControlKind → ControlRec → Type 0
 Takes (Volume min max channels lowest step mute) r = length r.values ≡ channels
 Takes (Choice items) r = (v : ℕ) × (r.values ≡ v ∷ []) × (v ≤ 16777216)
 Takes (Blob most initial) r = is_initial r.blob ≡ true
+Takes (Masks min max channels) r = list_all is_mask r.values ≡ true
 
 -- a blob may stand where none or one may
 pub blob-initial : (blob : List ℕ) → is_blob blob ≡ true → is_initial blob ≡ true
@@ -43,14 +45,18 @@ takes-by (Choice items) of r is (inl e) = (0, ap (λ (x : ControlRec). x.values)
 takes-by (Choice items) of r is (inr s) = (s.0, s.1, omega (arith, s.2, is.2))
 takes-by (Blob most initial) of r is (inl e) = ap (λ (x : ControlRec). is_initial x.blob) e ∙ is.1
 takes-by (Blob most initial) of r is (inr s) = blob-initial r.blob s.2
+takes-by (Masks min max channels) of r is (inl e) = ap (λ (x : ControlRec). list_all is_mask x.values) e ∙ same-masks channels max is.2
+takes-by (Masks min max channels) of r is (inr s) = ranged-masks min max is.2 r.values s.1
 
--- a volume or a mux has no blob
+-- a control of another kind has no blob
 pub bare-one : (kind : ControlKind) (r : ControlRec) → ((most : ℕ) (initial : List ℕ) → kind ≡ Blob most initial → ⊥) → ((r ≡ record { values = first_values kind; blob = first_blob kind }) ⊎ IsControlSet kind r) → r.blob ≡ []
 bare-one (Volume min max channels lowest step mute) r other (inl e) = ap (λ (x : ControlRec). x.blob) e
 bare-one (Volume min max channels lowest step mute) r other (inr s) = s.2
 bare-one (Choice items) r other (inl e) = ap (λ (x : ControlRec). x.blob) e
 bare-one (Choice items) r other (inr s) = s.3
 bare-one (Blob most initial) r other was = absurd (other most initial refl)
+bare-one (Masks min max channels) r other (inl e) = ap (λ (x : ControlRec). x.blob) e
+bare-one (Masks min max channels) r other (inr s) = s.2
 
 -- ---- as a list
 

@@ -16,14 +16,15 @@ use Rattle.ipc3_model.specs.declared.message.Message.{Message}
 use Rattle.ipc3_model.specs.declared.message.Message.TheVariants.{CompNew, CompFree, Connect, PipeNew, PipeFree, PipeComplete, BufferNew, BufferFree, CtxSave, SetValue, GetValue, SetData, GetData, PcmParams, PcmFree, TrigStart, TrigStop, TrigPause, TrigRelease}
 use Rattle.ipc3_model.specs.declared.reply.Body.{Body}
 use Rattle.ipc3_model.specs.declared.reply.Body.TheVariants.{Nothing}
-use Rattle.ipc3_model.specs.Messages.{message_spelling, decoded, IsMessage}
+use Rattle.ipc3_model.specs.Messages.{message_spelling, decoded}
+use Rattle.ipc3_model.specs.Meanings.{IsMessage}
 use Rattle.ipc3_model.proofs.Spelled.{decoded-spelling}
 use Rattle.mbox_link.specs.Step.{row, row_of, body, body_of, kind_of, first_setting, first_ramp, new_setting, with_setting_at, with_comp, with_buffer, with_pipe, with_pipes, with_staged, blob_installed, staged_bytes, staging_at, completed, no_memory}
 use Rattle.tplg_plan.specs.declared.plans.Plan.{Plan}
 use Rattle.tplg_plan.specs.declared.plans.WidgetPlan.{WidgetPlan}
 use Rattle.tplg_plan.specs.declared.plans.ControlPlan.{ControlPlan}
 use Rattle.tplg_plan.specs.declared.plans.ControlKind.{ControlKind}
-use Rattle.tplg_plan.specs.declared.plans.ControlKind.TheVariants.{Volume, Choice, Blob}
+use Rattle.tplg_plan.specs.declared.plans.ControlKind.TheVariants.{Volume, Choice, Blob, Masks}
 use Rattle.host_widgets.specs.Controls.{control_of}
 use Rattle.host_widgets.specs.HostActs.{Act, Make, Join, Put, Part, Finish, Prepare, Trig, Free, Save, Ask}
 use Rattle.host_widgets.specs.ActMessages.{act_message, set_message, put_message}
@@ -128,6 +129,7 @@ set-bare : (f : FwState) (comp : ℕ) (values : List ℕ) (kind : ControlKind) �
 set-bare f comp values (Volume min max channels lowest step mute) = refl
 set-bare f comp values (Choice items) = refl
 set-bare f comp values (Blob most initial) = refl
+set-bare f comp values (Masks min max channels) = refl
 
 put-bare : (f : FwState) (comp : ℕ) (values : List ℕ) (k : Option ControlPlan) → body f (put_message comp values k) ≡ Nothing
 put-bare f comp values (Some k) = set-bare f comp values k.kind

@@ -12,7 +12,7 @@ use Rattle.stream_law.specs.declared.graph.Graph.{Graph}
 use Rattle.tplg_plan.specs.declared.plans.Plan.{Plan}
 use Rattle.tplg_plan.specs.declared.plans.ControlPlan.{ControlPlan}
 use Rattle.tplg_plan.specs.declared.plans.ControlKind.{ControlKind}
-use Rattle.tplg_plan.specs.declared.plans.ControlKind.TheVariants.{Volume, Choice, Blob}
+use Rattle.tplg_plan.specs.declared.plans.ControlKind.TheVariants.{Volume, Choice, Blob, Masks}
 use Rattle.mbox_link.specs.BlobParts.{parts, part_numbers}
 use Rattle.tplg_plan.specs.Ranges.{is_initial}
 use Rattle.tplg_plan.specs.Sound.{IsSound, IsSideOf, IsPassed}
@@ -121,6 +121,7 @@ few-joins plan sound =
 few-by : (kind : ControlKind) (comp : ℕ) (r : ControlRec) → Takes kind r → length (control_acts_by comp kind r) ≤ 4
 few-by (Volume min max channels lowest step mute) comp r takes = omega arith
 few-by (Choice items) comp r takes = omega arith
+few-by (Masks min max channels) comp r takes = omega arith
 few-by (Blob most initial) comp r takes = by r.blob takes
   where
     by : (bytes : List ℕ) → is_initial bytes ≡ true → length (part_acts comp bytes) ≤ 4

@@ -10,7 +10,7 @@ use Rattle.stream_law.specs.State.{FwState}
 use Rattle.stream_law.specs.Placed.{Ascends}
 use Rattle.stream_law.proofs.Waits.{eqb_turned}
 use Rattle.ipc3_model.specs.declared.message.Message.TheVariants.{PipeComplete}
-use Rattle.ipc3_model.specs.Messages.{IsMessage}
+use Rattle.ipc3_model.specs.Meanings.{IsMessage}
 use Rattle.mbox_link.specs.Step.{row, is_used, has_comp, has_edge, has_pipe, completed, complete_pipe, with_pipes, no_device, busy, invalid}
 use Rattle.tplg_plan.specs.declared.plans.Plan.{Plan}
 use Rattle.tplg_plan.specs.Sound.{pipe_at, IsPipelineOf, IsSound}

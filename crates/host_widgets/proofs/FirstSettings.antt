@@ -4,7 +4,7 @@ use Rattle.std.proofs.lemmas.List.{length-replicate}
 use Rattle.tplg_plan.specs.declared.plans.Plan.{Plan}
 use Rattle.tplg_plan.specs.declared.plans.ControlPlan.{ControlPlan}
 use Rattle.tplg_plan.specs.declared.plans.ControlKind.{ControlKind}
-use Rattle.tplg_plan.specs.declared.plans.ControlKind.TheVariants.{Volume, Choice, Blob}
+use Rattle.tplg_plan.specs.declared.plans.ControlKind.TheVariants.{Volume, Choice, Blob, Masks}
 use Rattle.host_widgets.specs.declared.kept.ControlRec.{ControlRec}
 use Rattle.host_widgets.specs.Controls.{control_of, first_value, first_values}
 use Rattle.host_widgets.specs.HostActs.{Put}
@@ -17,12 +17,14 @@ values-are (Volume min max channels lowest step mute) =
     ap (λ (n : ℕ). replicate n (first_value (Volume min max channels lowest step mute))) (length-replicate channels (first_value (Volume min max channels lowest step mute)))
 values-are (Choice items) = refl
 values-are (Blob most initial) = refl
+values-are (Masks min max channels) = ap (λ (n : ℕ). replicate n max) (length-replicate channels max)
 
 -- a control that is no blob is set by one message
 one-put : (kind : ControlKind) (comp : ℕ) (r : ControlRec) → ((most : ℕ) (initial : List ℕ) → kind ≡ Blob most initial → ⊥) → control_acts_by comp kind r ≡ Put comp r.values ∷ []
 one-put (Volume min max channels lowest step mute) comp r other = refl
 one-put (Choice items) comp r other = refl
 one-put (Blob most initial) comp r other = absurd (other most initial refl)
+one-put (Masks min max channels) comp r other = refl
 
 pub put-acts : (k : ControlPlan) (r : ControlRec) → ((most : ℕ) (initial : List ℕ) → k.kind ≡ Blob most initial → ⊥) → control_acts (k, r) ≡ Put k.comp r.values ∷ []
 put-acts k r other = one-put k.kind k.comp r other

@@ -8,9 +8,9 @@ use Rattle.sof_base.specs.Slots.{AreSlots, IsSlot}
 use Rattle.stream_law.specs.Gain.{gain_below, gain_at, gain_of, half_decibels}
 use Rattle.ipc3_model.specs.declared.message.Message.TheVariants.{SetValue}
 use Rattle.ipc3_model.specs.ControlWords.{value_slots}
-use Rattle.ipc3_model.specs.Messages.{IsMessage}
+use Rattle.ipc3_model.specs.Meanings.{IsMessage}
 use Rattle.tplg_plan.specs.declared.plans.ControlKind.{ControlKind}
-use Rattle.tplg_plan.specs.declared.plans.ControlKind.TheVariants.{Volume, Choice, Blob}
+use Rattle.tplg_plan.specs.declared.plans.ControlKind.TheVariants.{Volume, Choice, Blob, Masks}
 use Rattle.tplg_plan.specs.GainOf.{control_gain}
 use Rattle.tplg_plan.proofs.Gains.{above-most, below-zero, below-suc}
 
@@ -51,6 +51,7 @@ pub control_gain-most : (kind : ControlKind) (value : ℕ) → control_gain kind
 control_gain-most (Volume min max channels lowest step mute) value = gain-most lowest step mute value
 control_gain-most (Choice items) value = omega arith
 control_gain-most (Blob most initial) value = omega arith
+control_gain-most (Masks min max channels) value = omega arith
 
 -- ---- lists of gains
 
@@ -72,13 +73,14 @@ unfolding AreSlots IsSlot
 value-slots channel [] few are = tt
 value-slots channel (v ∷ vs) few are = (omega (arith, few), (omega (arith, are.0), value-slots (channel + 1) vs (omega (arith, few)) are.1))
 
--- the command of a volume or of a mux
-of-values : (command : ℕ) → command ≤ 1 → (command == 0 || command == 1) ≡ true
+-- the command of a volume, of a mux or of a demux
+of-values : (command : ℕ) → command ≤ 2 → (command == 0 || command == 1 || command == 2) ≡ true
 of-values zero low = refl
 of-values (suc zero) low = refl
-of-values (suc (suc command)) low = absurd (omega (arith, low))
+of-values (suc (suc zero)) low = refl
+of-values (suc (suc (suc command))) low = absurd (omega (arith, low))
 
-pub set-message : (id command : ℕ) (values : List ℕ) → id < 2 ^ 32 → command ≤ 1 → 1 ≤ length values → length values ≤ 8 → AreGains values → IsMessage (SetValue id command values)
+pub set-message : (id command : ℕ) (values : List ℕ) → id < 2 ^ 32 → command ≤ 2 → 1 ≤ length values → length values ≤ 8 → AreGains values → IsMessage (SetValue id command values)
 unfolding AreSlots IsSlot
 set-message id command values fits low some few are =
     ((tt, (omega arith, (tt, (fits, (omega arith, (omega (arith, low), (tt, (tt, (tt, (tt, (tt, (tt, (tt, (tt, (omega (arith, few), (tt, (tt, (tt, (tt, (tt, (tt, (tt, (tt, value-slots 0 values (omega (arith, few)) are))))))))))))))))))))))), (of-values command low, rw (le-leb 1 (length values) some, le-leb (length values) 8 few) refl))

@@ -9,9 +9,9 @@ use Rattle.stream_law.specs.declared.graph.Comp.{Comp}
 use Rattle.stream_law.specs.declared.graph.Edge.{Edge}
 use Rattle.stream_law.specs.declared.graph.Join.{Join}
 use Rattle.stream_law.specs.declared.graph.Graph.{Graph}
-use Rattle.stream_law.specs.State.{FwState}
+use Rattle.stream_law.specs.State.{FwState, view_of}
 use Rattle.stream_law.specs.Ways.{comp_of, edge_of, source_of, sink_of, is_end, leads, buffers}
-use Rattle.stream_law.specs.Joins.{kind_ins, kind_outs, fits_kind, with_join, would_cycle, would_reach, would_grow}
+use Rattle.stream_law.specs.Joins.{kind_ins, kind_outs, fits_kind, with_join, would_cycle, would_stay}
 use Rattle.stream_law.proofs.EdgeNumbers.{right-most, right-ins, right-outs}
 use Rattle.mbox_link.specs.Step.{has_comp, has_edge, has_pipe, is_used, is_joined, takes_join, connect, no_device, busy, invalid}
 use Rattle.tplg_plan.specs.declared.plans.Plan.{Plan}
@@ -23,12 +23,12 @@ use Rattle.host_widgets.proofs.Joined.{source_by, sink_by, edge_with, joined_gra
 
 -- ---- a join is made where no test refuses it
 
-connect-by : (done : FwState) (a b c d e h k : Bool) → a ≡ true → b ≡ true → c ≡ false → d ≡ true → e ≡ false → h ≡ false → k ≡ false → cond (not (a && b)) (Err no_device) (cond c (Err busy) (cond (not d || e || h || k) (Err invalid) (Ok done))) ≡ Ok done
-connect-by done a b c d e h k is_a is_b is_c is_d is_e is_h is_k = rw (is_a, is_b, is_c, is_d, is_e, is_h, is_k) refl
+connect-by : (done : FwState) (a b c d e h : Bool) → a ≡ true → b ≡ true → c ≡ false → d ≡ true → e ≡ false → h ≡ true → cond (not (a && b)) (Err no_device) (cond c (Err busy) (cond (not d || e || not h) (Err invalid) (Ok done))) ≡ Ok done
+connect-by done a b c d e h is_a is_b is_c is_d is_e is_h = rw (is_a, is_b, is_c, is_d, is_e, is_h) refl
 
-pub connects : (f : FwState) (source sink : ℕ) → is_used f.graph source ≡ true → is_used f.graph sink ≡ true → is_joined f.graph source sink ≡ false → takes_join f.graph source sink ≡ true → would_cycle f.graph source sink ≡ false → would_reach f.graph source sink ≡ false → would_grow f.graph f.streams source sink ≡ false → connect f source sink ≡ Ok (record f { graph = with_join f.graph (record { source = source; sink = sink }) })
-connects f source sink from to free takes cycle reach grow =
-    connect-by (record f { graph = with_join f.graph (record { source = source; sink = sink }) }) (is_used f.graph source) (is_used f.graph sink) (is_joined f.graph source sink) (takes_join f.graph source sink) (would_cycle f.graph source sink) (would_reach f.graph source sink) (would_grow f.graph f.streams source sink) from to free takes cycle reach grow
+pub connects : (f : FwState) (source sink : ℕ) → is_used f.graph source ≡ true → is_used f.graph sink ≡ true → is_joined f.graph source sink ≡ false → takes_join f.graph source sink ≡ true → would_cycle f.graph source sink ≡ false → would_stay (view_of f) source sink ≡ true → connect f source sink ≡ Ok (record f { graph = with_join f.graph (record { source = source; sink = sink }) })
+connects f source sink from to free takes cycle stay =
+    connect-by (record f { graph = with_join f.graph (record { source = source; sink = sink }) }) (is_used f.graph source) (is_used f.graph sink) (is_joined f.graph source sink) (takes_join f.graph source sink) (would_cycle f.graph source sink) (would_stay (view_of f) source sink) from to free takes cycle stay
 
 -- ---- walks
 

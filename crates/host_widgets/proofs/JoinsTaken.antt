@@ -2,18 +2,19 @@
 use Rattle.std.proofs.Common.{◌≡◌, ◌⊎◌, inl, inr, refl, sym, ap, subst, ◌∙◌, ℕ, ◌+◌, ◌≤◌, ◌<◌, List, [], ◌∷◌, ◌++◌, map, length, filter, Bool, true, false, not, cond, ◌==◌, ◌&&◌, ◌||◌, Option, Some, None, is_some, Ok, append_assoc, append-nil, length-append, arith}
 use Rattle.std.specs.Prelude.{option_and_then}
 use Rattle.std.specs.Option.{option_map}
-use Rattle.std.specs.List.{find, list_any, AllByRecursion}
+use Rattle.std.specs.List.{find, list_any, list_all, AllByRecursion}
 use Rattle.std.proofs.lemmas.Bool.{true≢false, eqb-true, eq-eqb, false_from_ne_true, le-leb, or_left, or_right, or_from, and_parts, and_from, and_left, and_right}
 use Rattle.sof_base.specs.Slots.{AreSlots, IsSlot}
 use Rattle.stream_law.specs.declared.graph.Comp.{Comp}
 use Rattle.stream_law.specs.declared.graph.Edge.{Edge}
 use Rattle.stream_law.specs.declared.graph.Join.{Join}
 use Rattle.stream_law.specs.declared.graph.Graph.{Graph}
-use Rattle.stream_law.specs.State.{FwState}
-use Rattle.stream_law.specs.Ways.{comp_of, edge_of, source_of, sink_of, is_end, ins, outs, leads, reaches, is_capture, buffers}
-use Rattle.stream_law.specs.Joins.{kind_ins, kind_outs, fits_kind, with_join, would_cycle, would_reach, would_grow, has_grown, crosses, is_play}
+use Rattle.stream_law.specs.declared.stream.StreamView.{StreamView}
+use Rattle.stream_law.specs.State.{FwState, view_of}
+use Rattle.stream_law.specs.Ways.{comp_of, edge_of, source_of, sink_of, is_end, ins, outs, leads, buffers, agree}
+use Rattle.stream_law.specs.Joins.{kind_ins, kind_outs, fits_kind, with_join, would_cycle, has_stayed, stays, would_stay}
 use Rattle.ipc3_model.specs.declared.message.Message.TheVariants.{Connect}
-use Rattle.ipc3_model.specs.Messages.{IsMessage}
+use Rattle.ipc3_model.specs.Meanings.{IsMessage}
 use Rattle.mbox_link.specs.Step.{row, has_comp, has_edge, is_used, is_joined, takes_join, has_free_in, has_free_out, leads_in, leads_out, kind_at}
 use Rattle.tplg_plan.specs.declared.plans.Plan.{Plan}
 use Rattle.tplg_plan.specs.Sound.{IsSideOf, IsPassed, IsSound}
@@ -24,11 +25,12 @@ use Rattle.host_widgets.proofs.Stages.{made_comp}
 use Rattle.host_widgets.proofs.SilentTicks.{at}
 use Rattle.host_widgets.proofs.Effects.{effect}
 use Rattle.host_widgets.proofs.Making.{plainly_follows}
-use Rattle.host_widgets.proofs.LookedUp.{all-found, any-implied, filter-fewer}
+use Rattle.host_widgets.proofs.LookedUp.{all-found, filter-fewer}
 use Rattle.host_widgets.proofs.NamedIds.{buffer-found, component-found, id-fits}
 use Rattle.host_widgets.proofs.OneAfterAnother.{Goes, goes-nowhere, goes-on}
 use Rattle.host_widgets.proofs.Joined.{standing, joined_graph, all-left, all-at, free-source, free-sink, joined-more}
-use Rattle.host_widgets.proofs.StandingStill.{no-params, stands-still}
+use Rattle.host_widgets.proofs.Records.{closed-agree}
+use Rattle.host_widgets.proofs.StandingStill.{first_streams, no-params-all, stands-still}
 use Rattle.host_widgets.proofs.JoinRows.{connects, leads-longer, within-outs, within-ins, list_all-found, end-some, end-at, comp-made, has-comp, has-edge, no-comp, no-edge, used-comp, used-edge, same-buffers, source-is, sink-is, source-so_far, sink-so_far}
 
 -- a test that the key of a record passes, some key passes
@@ -62,31 +64,14 @@ module _ (plan : Plan) (sound : IsSound plan) (done : List Join) (j : Join) (res
       longer : leads done (length done) j.sink j.source ≡ true → leads plan.graph.joins (length plan.graph.joins) j.sink j.source ≡ true
       longer h = ap (λ (js : List Join). leads js (length plan.graph.joins) j.sink j.source) cut ∙ leads-longer done (j ∷ rest) (length done) (length plan.graph.joins) j.sink j.source fewer-joins h
 
-  reach-more : (a b : ℕ) → reaches (with_join now j) a b ≡ true → reaches plan.graph a b ≡ true
-  unfolding reaches
-  reach-more a b h =
-      let all : plan.graph.joins ≡ (done ++ j ∷ []) ++ rest = cut ∙ sym (append_assoc done (j ∷ []) rest) in
-      let few : length (done ++ j ∷ []) ≤ length plan.graph.joins = (let n : length plan.graph.joins ≡ length (done ++ j ∷ []) + length rest = ap length all ∙ length-append (done ++ j ∷ []) rest in omega (arith, n)) in
-      ap (λ (js : List Join). leads js (length plan.graph.joins) a b) all ∙ leads-longer (done ++ j ∷ []) rest (length (done ++ j ∷ [])) (length plan.graph.joins) a b few h
-
-  crosses-more : crosses (with_join now j) ≡ true → crosses plan.graph ≡ true
-  crosses-more h = any-implied (made_comp plan) (λ (a : Comp). is_play a.kind && list_any (λ (b : Comp). is_capture b.kind && reaches (with_join now j) a.id b.id) now.comps) (λ (a : Comp). is_play a.kind && list_any (λ (b : Comp). is_capture b.kind && reaches plan.graph a.id b.id) plan.graph.comps) outer plan.graph.comps h
-    where
-      inner : (a b : Comp) → (is_capture b.kind && reaches (with_join now j) a.id b.id) ≡ true → (is_capture b.kind && reaches plan.graph a.id b.id) ≡ true
-      inner a b h = let parts = and_parts (is_capture b.kind) (reaches (with_join now j) a.id b.id) h in and_from (is_capture b.kind) (reaches plan.graph a.id b.id) parts.0 (reach-more a.id b.id parts.1)
-
-      outer : (a : Comp) → (is_play a.kind && list_any (λ (b : Comp). is_capture b.kind && reaches (with_join now j) a.id b.id) now.comps) ≡ true → (is_play a.kind && list_any (λ (b : Comp). is_capture b.kind && reaches plan.graph a.id b.id) plan.graph.comps) ≡ true
-      outer a h =
-          let parts = and_parts (is_play a.kind) (list_any (λ (b : Comp). is_capture b.kind && reaches (with_join now j) a.id b.id) now.comps) h in
-          and_from (is_play a.kind) (list_any (λ (b : Comp). is_capture b.kind && reaches plan.graph a.id b.id) plan.graph.comps) parts.0 (any-implied (made_comp plan) (λ (b : Comp). is_capture b.kind && reaches (with_join now j) a.id b.id) (λ (b : Comp). is_capture b.kind && reaches plan.graph a.id b.id) (inner a) plan.graph.comps parts.1)
-
-  no-reach : would_reach now j.source j.sink ≡ false
-  unfolding would_reach
-  no-reach = false_from_ne_true (crosses (with_join now j)) (λ h. true≢false (sym (crosses-more h) ∙ sound.apart))
-
-  no-growth : (heap : ℕ) → would_grow now (standing plan heap now).streams j.source j.sink ≡ false
-  unfolding would_grow
-  no-growth heap = no-params (λ s. has_grown now (with_join now j) s.host) plan.streams
+  -- no stream has parameters yet
+  ways-stay : (heap t : ℕ) → would_stay (view_of (at (standing plan heap now) t)) j.source j.sink ≡ true
+  unfolding stays agree
+  ways-stay heap t =
+      and_from (list_all (λ (s : StreamView). not (is_some s.params) || has_stayed now (with_join now j) s.host) (first_streams plan.streams))
+      (agree (record { graph = with_join now j; streams = first_streams plan.streams }))
+      (no-params-all (λ s. has_stayed now (with_join now j) s.host) plan.streams)
+      (closed-agree (with_join now j) plan.streams (first_streams plan.streams))
 
   -- ---- from a component into a buffer
 
@@ -196,7 +181,7 @@ module _ (plan : Plan) (sound : IsSound plan) (done : List Join) (j : Join) (res
       }
 
   join-row : (heap t : ℕ) → row (at (standing plan heap now) t) (Connect j.source j.sink) ≡ Ok (effect (Connect j.source j.sink) (at (standing plan heap now) t))
-  join-row heap t = connects (at (standing plan heap now) t) j.source j.sink ends.from ends.to ends.free ends.takes no-cycle no-reach (no-growth heap)
+  join-row heap t = connects (at (standing plan heap now) t) j.source j.sink ends.from ends.to ends.free ends.takes no-cycle (ways-stay heap t)
 
   join-message : IsMessage (Connect j.source j.sink)
   unfolding AreSlots IsSlot

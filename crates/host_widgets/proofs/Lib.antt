@@ -22,6 +22,8 @@ pub mod Joined
 pub mod StandingStill
 pub mod JoinRows
 pub mod JoinsTaken
+pub mod EightMasks
+pub mod SameTouch
 pub mod ControlLists
 pub mod PartsTaken
 pub mod PutsTaken

@@ -12,7 +12,8 @@ use Rattle.host_widgets.specs.Kept.{first_record, with_power}
 use Rattle.host_widgets.specs.ActLists.{bring_up}
 use Rattle.host_widgets.specs.ActCalls.{calls_of}
 use Rattle.host_widgets.specs.Host.{Outcome}
-use Rattle.host_widgets.specs.Orders.{Order, Carried, ActsCame, Tested, Plain, brought_end, loading, where_on}
+use Rattle.host_widgets.specs.Orders.{Order, Carried, Plain, brought_end, loading, where_on}
+use Rattle.host_widgets.specs.TestedOrders.{ActsCame, Tested}
 
 -- an unload, by the power
 abbrev pub unloading_at : Plan → Power → Order

@@ -11,14 +11,15 @@ use Rattle.stream_law.specs.declared.graph.Kind.{Kind}
 use Rattle.tplg_plan.specs.declared.plans.Plan.{Plan}
 use Rattle.tplg_plan.specs.declared.plans.ControlPlan.{ControlPlan}
 use Rattle.tplg_plan.specs.declared.plans.ControlKind.{ControlKind}
-use Rattle.tplg_plan.specs.declared.plans.ControlKind.TheVariants.{Volume, Choice, Blob}
+use Rattle.tplg_plan.specs.declared.plans.ControlKind.TheVariants.{Volume, Choice, Blob, Masks}
 use Rattle.tplg_plan.specs.Ranges.{is_initial}
 use Rattle.tplg_plan.specs.Sound.{IsControlOf, IsLive, IsSound}
 use Rattle.host_widgets.proofs.NamedIds.{few-widgets as at-most}
 use Rattle.host_widgets.specs.declared.kept.ControlRec.{ControlRec}
 use Rattle.host_widgets.specs.declared.kept.Record.{Record}
 use Rattle.host_widgets.specs.Host.{AreControls, IsControlSet}
-use Rattle.host_widgets.specs.Controls.{HasFew, control_of, first_values, first_blob}
+use Rattle.host_widgets.specs.Controls.{control_of, first_values, first_blob}
+use Rattle.host_widgets.specs.FewValues.{HasFew}
 use Rattle.host_widgets.proofs.ControlLists.{takes-by}
 
 pub few-widgets : (plan : Plan) → IsSound plan → length plan.widgets < 2 ^ 32
@@ -30,6 +31,7 @@ few-kind : (kind : ControlKind) (of : Kind) → IsControlOf kind of → HasFew k
 few-kind (Volume min max channels lowest step mute) of is = (is.2, is.4)
 few-kind (Choice items) of is = tt
 few-kind (Blob most initial) of is = tt
+few-kind (Masks min max channels) of is = is.4
 
 few-at : (g : Graph) (ks : List ControlPlan) (i : ℕ) (d : ControlPlan) → i < length ks → AllByRecursion (IsLive g) ks → HasFew (get_or ks i d).kind
 few-at g [] i d within live = absurd (omega (arith, within))
@@ -70,6 +72,7 @@ short-kind : (kind : ControlKind) (of : Kind) → IsControlOf kind of → length
 short-kind (Volume min max channels lowest step mute) of is = omega arith
 short-kind (Choice items) of is = omega arith
 short-kind (Blob most initial) of is = few-initial initial is.1
+short-kind (Masks min max channels) of is = omega arith
 
 short-at : (g : Graph) (ks : List ControlPlan) (i : ℕ) (d : ControlPlan) → i < length ks → AllByRecursion (IsLive g) ks → length (first_blob (get_or ks i d).kind) ≤ 1024
 short-at g [] i d within live = absurd (omega (arith, within))
@@ -101,6 +104,8 @@ initial-one (Volume min max channels lowest step mute) of r is (inl e) = ap (λ 
 initial-one (Volume min max channels lowest step mute) of r is (inr s) = ap is_initial s.2
 initial-one (Choice items) of r is (inl e) = ap (λ (x : ControlRec). is_initial x.blob) e
 initial-one (Choice items) of r is (inr s) = ap is_initial s.3
+initial-one (Masks min max channels) of r is (inl e) = ap (λ (x : ControlRec). is_initial x.blob) e
+initial-one (Masks min max channels) of r is (inr s) = ap is_initial s.2
 initial-one (Blob most initial) of r is was = takes-by (Blob most initial) of r is was
 
 initial-by : (g : Graph) (ks : List ControlPlan) (rs : List ControlRec) (i : ℕ) (d : ControlRec) → i < length rs → AllByRecursion (IsLive g) ks → AreControls ks rs → is_initial (get_or rs i d).blob ≡ true

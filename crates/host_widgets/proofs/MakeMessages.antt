@@ -10,12 +10,12 @@ use Rattle.stream_law.specs.declared.graph.Comp.{Comp}
 use Rattle.stream_law.specs.Ways.{comp_of}
 use Rattle.ipc3_model.specs.declared.message.Message.TheVariants as messages
 use Rattle.ipc3_model.specs.Allowed as allowed
-use Rattle.ipc3_model.specs.Messages.{IsMessage}
+use Rattle.ipc3_model.specs.Meanings.{IsMessage}
 use Rattle.tplg_plan.specs.declared.plans.Plan.{Plan}
 use Rattle.tplg_plan.specs.declared.plans.WidgetPlan.{WidgetPlan}
 use Rattle.tplg_plan.specs.declared.plans.ControlPlan.{ControlPlan}
 use Rattle.tplg_plan.specs.declared.plans.ControlKind.{ControlKind}
-use Rattle.tplg_plan.specs.declared.plans.ControlKind.TheVariants.{Volume, Choice, Blob}
+use Rattle.tplg_plan.specs.declared.plans.ControlKind.TheVariants.{Volume, Choice, Blob, Masks}
 use Rattle.tplg_plan.specs.WidgetWords.{FitsWords}
 use Rattle.tplg_plan.specs.Ranges as plan_ranges
 use Rattle.tplg_plan.specs.Sound.{IsSound, IsLive, IsControlOf, NamesComponent, NamesBuffer, NamesPipeline}
@@ -40,6 +40,7 @@ volume-allowed (Volume min max channels lowest step mute) is =
     ap allowed.is_channels e ∙ and_from (nat_le 1 channels) (nat_le channels 8) (le-leb 1 channels is.3) (le-leb channels 8 is.4)
 volume-allowed (Choice items) is = let wrong = is.0 in absurd (cc wrong)
 volume-allowed (Blob most initial) is = let wrong = is.0 in absurd (cc wrong)
+volume-allowed (Masks min max channels) is = let wrong = is.0 in absurd (cc wrong)
 
 volume-channels : (n : ℕ) → allowed.is_channels n ≡ true → n < 2 ^ 32
 volume-channels n is = let low = leb-true n 8 (and_parts (nat_le 1 n) (nat_le n 8) is).1 in omega arith
@@ -97,6 +98,7 @@ module _ (plan : Plan) (s : IsSound plan) (n : ℕ) (within : n < length plan.wi
   message-kind kinds.Mixer are = ((tt, (omega arith, (id-fits, (omega arith, (fits.pipe, (tt, (tt, (tt, (tt, (fits.periods_sink, (fits.periods_source, (tt, (format-fits, (tt, (tt, (tt, tt)))))))))))))))), tt)
   message-kind kinds.Mux are = ((tt, (omega arith, (id-fits, (omega arith, (fits.pipe, (tt, (tt, (tt, (tt, (fits.periods_sink, (fits.periods_source, (tt, (format-fits, (tt, (tt, (tt, tt)))))))))))))))), tt)
   message-kind kinds.Eq are = ((tt, (omega arith, (id-fits, (omega arith, (fits.pipe, (tt, (tt, (tt, (tt, (fits.periods_sink, (fits.periods_source, (tt, (format-fits, (tt, (tt, (tt, (tt, (tt, (tt, (tt, (tt, (tt, (tt, (tt, (tt, tt))))))))))))))))))))))))), tt)
+  message-kind kinds.Demux are = ((tt, (omega arith, (id-fits, (omega arith, (fits.pipe, (tt, (tt, (tt, (tt, (fits.periods_sink, (fits.periods_source, (tt, (format-fits, (tt, (tt, (tt, (tt, (tt, (tt, (tt, (tt, (tt, (tt, (tt, (tt, tt))))))))))))))))))))))))), tt)
 
   pub is_comp_message : (x : NamesComponent plan.graph n w) → IsMessage (comp_message n (control_of plan n) w x.comp)
   is_comp_message x = message-kind x.comp.kind (live x.comp x.there)

@@ -30,7 +30,7 @@ use Rattle.host_widgets.specs.HostActs.{Make}
 use Rattle.host_widgets.specs.ActMessages.{act_message}
 use Rattle.host_widgets.specs.Acts.{component_words, widget_words, no_words, comp_message, buffer_message, pipe_message, made_buffer, made_pipe}
 use Rattle.host_widgets.specs.Expected.{stream_view, stated_bytes, stated_by, with_pieces}
-use Rattle.host_widgets.specs.Host.{idle_view}
+use Rattle.host_widgets.specs.IdleStreams.{idle_view}
 use Rattle.host_widgets.proofs.Effects.{effect}
 use Rattle.host_widgets.proofs.LookedUp.{found-is}
 use Rattle.host_widgets.proofs.Stages.{made_comp, loose, begun, made_state}

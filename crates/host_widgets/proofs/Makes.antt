@@ -10,7 +10,7 @@ use Rattle.stream_law.specs.declared.graph.Comp.{Comp}
 use Rattle.stream_law.specs.declared.graph.Edge.{Edge}
 use Rattle.stream_law.specs.State.{FwState, HeapView, RingView}
 use Rattle.stream_law.specs.Ways.{comp_of, edge_of, is_live_phase}
-use Rattle.ipc3_model.specs.Messages.{IsMessage}
+use Rattle.ipc3_model.specs.Meanings.{IsMessage}
 use Rattle.mbox_link.specs.Step.{fresh, comp_bytes}
 use Rattle.tplg_plan.specs.declared.plans.Plan.{Plan}
 use Rattle.tplg_plan.specs.Sound.{IsSound, host_of}
@@ -21,7 +21,7 @@ use Rattle.host_widgets.specs.Acts.{widget_ids}
 use Rattle.host_widgets.specs.ActLists.{bring_up}
 use Rattle.host_widgets.specs.Expected.{stated_by, stated_bytes, needed_by}
 use Rattle.host_widgets.specs.StateOf.{state_by}
-use Rattle.host_widgets.specs.Host.{idle_view}
+use Rattle.host_widgets.specs.IdleStreams.{idle_view}
 use Rattle.host_widgets.specs.Bringing.{Fits}
 use Rattle.host_widgets.proofs.SilentTicks.{IsStill}
 use Rattle.host_widgets.proofs.Carving.{left, fresh-left}

@@ -23,8 +23,9 @@ use Rattle.host_widgets.specs.Host.{Outcome, verdict}
 use Rattle.host_widgets.specs.Bringing.{Fits, BroughtUp}
 use Rattle.host_widgets.specs.OneAct.{own, outcome_by, performed as came_by, lag_of}
 use Rattle.host_widgets.specs.Walk.{walk, followed_by, goes_past}
-use Rattle.host_widgets.specs.ActCalls.{ActDid, ActsDid, ActsSent, Onwards, came_to, next_of}
-use Rattle.host_widgets.specs.Orders.{ActsCame}
+use Rattle.host_widgets.specs.ActCalls.{ActDid, ActsDid, Onwards, came_to, next_of}
+use Rattle.host_widgets.specs.ActCarried.{ActsSent}
+use Rattle.host_widgets.specs.TestedOrders.{ActsCame}
 use Rattle.host_widgets.proofs.ReplyErrors.{done_reply}
 use Rattle.host_widgets.proofs.Exchanges.{Came, came, verdict-number}
 use Rattle.host_widgets.proofs.SilentTicks.{at, AreInputs, ticks-still}

@@ -10,7 +10,8 @@ use Rattle.stream_law.specs.Stands.{Stands}
 use Rattle.stream_law.proofs.SeenLaws.{seen-sees}
 use Rattle.ipc3_model.specs.declared.reply.Body.{Body}
 use Rattle.ipc3_model.specs.declared.reply.Body.TheVariants.{Nothing}
-use Rattle.ipc3_model.specs.Messages.{message_spelling, decoded, IsMessage}
+use Rattle.ipc3_model.specs.Messages.{message_spelling, decoded}
+use Rattle.ipc3_model.specs.Meanings.{IsMessage}
 use Rattle.mbox_link.specs.Step.{row, body_of}
 use Rattle.tplg_plan.specs.declared.plans.Plan.{Plan}
 use Rattle.host_widgets.specs.declared.kept.StreamRec.{StreamRec}

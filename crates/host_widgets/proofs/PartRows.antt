@@ -16,7 +16,7 @@ use Rattle.stream_law.specs.Ways.{comp_of}
 use Rattle.stream_law.specs.Seen.{is_equaliser}
 use Rattle.stream_law.proofs.Placing.{find-placed_there}
 use Rattle.ipc3_model.specs.declared.message.Message.TheVariants.{SetData}
-use Rattle.ipc3_model.specs.Messages.{IsMessage}
+use Rattle.ipc3_model.specs.Meanings.{IsMessage}
 use Rattle.mbox_link.specs.BlobParts.{payload, blob_part, is_last, parts}
 use Rattle.mbox_link.specs.Step.{row, is_used, has_comp, has_edge, has_pipe, has_kind, kind_at, staging_at, bytes_left, is_next, keeps_order, staged_bytes, unstaged, with_staged, blob_installed, part_staged, no_device, invalid}
 use Rattle.host_widgets.proofs.LookedUp.{any-found}

@@ -12,7 +12,8 @@ use Rattle.stream_law.specs.State.{FwState, Staging, View, view_of}
 use Rattle.stream_law.specs.Ways.{comp_of}
 use Rattle.ipc3_model.specs.declared.message.Message.TheVariants.{SetData}
 use Rattle.ipc3_model.specs.declared.reply.Reply.{Reply}
-use Rattle.ipc3_model.specs.Messages.{message_spelling, decoded, IsMessage}
+use Rattle.ipc3_model.specs.Messages.{message_spelling, decoded}
+use Rattle.ipc3_model.specs.Meanings.{IsMessage}
 use Rattle.mbox_link.specs.BlobParts.{blob_part, is_last, parts}
 use Rattle.mbox_link.specs.Step.{row, body_of, with_comps, with_setting, with_staged, blob_installed}
 use Rattle.mbox_link.specs.Exchange.{ticked, ticks}
@@ -24,7 +25,8 @@ use Rattle.host_widgets.specs.declared.kept.Record.{Record}
 use Rattle.host_widgets.specs.HostActs.{Act, Part, after, with_blob}
 use Rattle.host_widgets.specs.Kept.{with_control}
 use Rattle.host_widgets.specs.ActLists.{part_acts}
-use Rattle.host_widgets.specs.ActCalls.{ActsDid, ActsSent, Onwards, came_to, next_of}
+use Rattle.host_widgets.specs.ActCalls.{ActsDid, Onwards, came_to, next_of}
+use Rattle.host_widgets.specs.ActCarried.{ActsSent}
 use Rattle.host_widgets.specs.Host.{Outcome, verdict}
 use Rattle.host_widgets.specs.OneAct.{performed as came_by, lag_of, own, outcome_by}
 use Rattle.host_widgets.specs.ViewOf.{graph_by, record_view}

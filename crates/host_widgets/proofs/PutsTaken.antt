@@ -18,18 +18,18 @@ use Rattle.stream_law.specs.Seen.{seen, is_volume}
 use Rattle.stream_law.proofs.Waits.{eqb_turned}
 use Rattle.ipc3_model.specs.declared.message.Message.{Message}
 use Rattle.ipc3_model.specs.declared.message.Message.TheVariants.{SetValue}
-use Rattle.ipc3_model.specs.Messages.{IsMessage}
+use Rattle.ipc3_model.specs.Meanings.{IsMessage}
 use Rattle.mbox_link.specs.Step.{row, is_used, has_comp, has_edge, has_pipe, first_setting, new_setting, with_setting, with_setting_at, with_comps, value_set, no_device}
 use Rattle.tplg_plan.specs.declared.plans.Plan.{Plan}
 use Rattle.tplg_plan.specs.declared.plans.WidgetPlan.{WidgetPlan}
 use Rattle.tplg_plan.specs.declared.plans.ControlPlan.{ControlPlan}
 use Rattle.tplg_plan.specs.declared.plans.ControlKind.{ControlKind}
-use Rattle.tplg_plan.specs.declared.plans.ControlKind.TheVariants.{Volume, Choice, Blob}
+use Rattle.tplg_plan.specs.declared.plans.ControlKind.TheVariants.{Volume, Choice, Blob, Masks}
 use Rattle.tplg_plan.specs.GainOf.{control_gain}
 use Rattle.tplg_plan.specs.Ranges.{is_initial}
 use Rattle.tplg_plan.specs.Sound.{IsControlOf, IsLive, IsSound}
 use Rattle.host_widgets.specs.declared.kept.Record.{Record}
-use Rattle.host_widgets.specs.Controls.{control_of, first_value, first_values}
+use Rattle.host_widgets.specs.Controls.{control_of, first_value, first_values, eight_masks}
 use Rattle.host_widgets.specs.ViewOf.{record_setting}
 use Rattle.host_widgets.specs.HostActs.{Act, Put}
 use Rattle.host_widgets.specs.ActLists.{part_acts, control_acts_by, control_acts}
@@ -50,6 +50,7 @@ use Rattle.host_widgets.proofs.PartsTaken.{graph-seen, parts-go}
 use Rattle.host_widgets.proofs.Joined.{standing, joined_graph, all-joined}
 use Rattle.host_widgets.proofs.StandingStill.{stands-still}
 use Rattle.host_widgets.proofs.GreatestGains.{AreGains, gains-are, gains-pass, set-message}
+use Rattle.host_widgets.proofs.EightMasks.{is_mask, eight, few-masks, masks-few}
 
 -- ---- settings while some live controls are still to be set
 
@@ -89,6 +90,7 @@ abbrev wanted : ControlKind → ControlRec → Setting
 wanted (Volume min max channels lowest step mute) r = settings.Gains (map (control_gain (Volume min max channels lowest step mute)) r.values)
 wanted (Choice items) r = settings.Choice (get_or r.values 0 0)
 wanted (Blob most initial) r = settings.Blob r.blob
+wanted (Masks min max channels) r = settings.Masks (eight_masks r.values)
 
 abbrev with_kind : ℕ → ControlKind → ControlPlan
 with_kind id q = record { comp = id; kind = q }
@@ -97,6 +99,7 @@ set-is : (id : ℕ) (q : ControlKind) (r : ControlRec) (kind : Kind) → IsContr
 set-is id (Volume min max channels lowest step mute) r kind is = ap (λ (x : Kind). record_setting x (Some (with_kind id (Volume min max channels lowest step mute), r))) is.0
 set-is id (Choice items) r kind is = ap (λ (x : Kind). record_setting x (Some (with_kind id (Choice items), r))) is.0
 set-is id (Blob most initial) r kind is = ap (λ (x : Kind). record_setting x (Some (with_kind id (Blob most initial), r))) is.0
+set-is id (Masks min max channels) r kind is = ap (λ (x : Kind). record_setting x (Some (with_kind id (Masks min max channels), r))) is.0
 
 -- a component of a plan with a live control has it set to that
 module _ (plan : Plan) (sound : IsSound plan) (kept : Record) (id : ℕ) (q : ControlKind) (r : ControlRec) (live : IsLive plan.graph (with_kind id q)) (there : control_of plan id ≡ Some (with_kind id q)) (set : control_at plan kept id ≡ Some (with_kind id q, r)) (ks : List Pair) (apart : list_any (λ (p : Pair). p.0.comp == id) ks ≡ false) where
@@ -232,6 +235,25 @@ put-one plan sound heap kept id (Choice items) r ks live there set takes apart t
     new =
         ap (λ (kind : Kind). new_setting kind (first_setting (component_words kind (Some (with_kind id (Choice items))) (widget_words plan live.comp.id))) 1 r.values) live.kind.0
         ∙ subst (λ (vs : List ℕ). new_setting kinds.Mux (settings.Choice 0) 1 vs ≡ Some (settings.Choice (get_or vs 0 0))) (sym takes.1) refl
+put-one plan sound heap kept id (Masks min max channels) r ks live there set takes apart then h more =
+    put-goes plan sound kept id demux r live there set ks apart heap r.values 2 masks refl new (set-message id 2 masks (id-fits plan sound id (component-found plan sound id live.comp live.there).low) (omega arith) (omega (arith, long)) (omega (arith, long)) (masks-few masks few)) then h more
+  where
+    demux : ControlKind
+    demux = Masks min max channels
+
+    masks : List ℕ
+    masks = eight_masks r.values
+
+    long : length masks ≡ 8
+    long = eight r.values
+
+    few : list_all is_mask masks ≡ true
+    few = few-masks r.values takes
+
+    new : new_setting live.comp.kind (first_setting (component_words live.comp.kind (Some (with_kind id demux)) (widget_words plan live.comp.id))) 2 masks ≡ Some (settings.Masks masks)
+    new =
+        ap (λ (kind : Kind). new_setting kind (first_setting (component_words kind (Some (with_kind id demux)) (widget_words plan live.comp.id))) 2 masks) live.kind.0
+        ∙ ap (λ (h : Bool). cond h (Some (settings.Masks masks)) None) (and_from (length masks == 8) (list_all is_mask masks) (eq-eqb (length masks) 8 long) few)
 put-one plan sound heap kept id (Blob most initial) r ks live there set takes apart then h more = by r.blob refl takes
   where
     before : Graph

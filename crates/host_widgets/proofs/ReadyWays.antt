@@ -10,8 +10,9 @@ use Rattle.stream_law.specs.declared.graph.Comp.{Comp}
 use Rattle.stream_law.specs.declared.graph.Edge.{Edge}
 use Rattle.stream_law.specs.declared.graph.Graph.{Graph}
 use Rattle.stream_law.specs.declared.stream.StreamView.{StreamView}
-use Rattle.stream_law.specs.Ways.{comp_of, edge_of, buffers, ins, outs, reaches, on_way, is_capture, touch, is_complete}
+use Rattle.stream_law.specs.Ways.{comp_of, edge_of, ins, outs, on_way, is_capture, touch, is_complete}
 use Rattle.stream_law.specs.Joins.{fits_kind}
+use Rattle.stream_law.specs.Stays.{SameWays}
 use Rattle.mbox_link.specs.Step.{with_comps, kind_at, has_kind, is_host, goes, is_used, has_edge, has_pipe, is_ready_comp, is_ready_edge, is_way_ready}
 use Rattle.tplg_plan.specs.declared.plans.Plan.{Plan}
 use Rattle.tplg_plan.specs.declared.plans.StreamPlan.{StreamPlan}
@@ -19,6 +20,7 @@ use Rattle.tplg_plan.specs.Sound.{IsSound, host_by, host_of}
 use Rattle.host_widgets.specs.Acts.{direction_by, direction_of}
 use Rattle.host_widgets.proofs.LookedUp.{find-map, any-found}
 use Rattle.host_widgets.proofs.NamedIds.{buffer-found, each-comp, each-edge}
+use Rattle.host_widgets.proofs.SameTouch.{touch_same}
 
 -- ---- a graph with other settings
 
@@ -35,22 +37,21 @@ module _ (g : Graph) (setting : Comp → Setting) where
   pub comp-set : (id : ℕ) → comp_of set id ≡ option_map (set_by setting) (comp_of g id)
   comp-set id = find-map (λ (c : Comp). c.id) (λ (c : Comp). c.id) (set_by setting) (λ c. refl) g.comps id
 
-  captures : (o : Option Comp) → option_map_or (λ c. is_capture c.kind) (option_map (set_by setting) o) false ≡ option_map_or (λ c. is_capture c.kind) o false
-  captures None = refl
-  captures (Some c) = refl
-
-  -- ways are the same
-  pub way-set : (host x : ℕ) → on_way set host x ≡ on_way g host x
-  unfolding on_way reaches
-  way-set host x = ap (λ (b : Bool). if b then reaches g x host else reaches g host x) (ap (λ (o : Option Comp). option_map_or (λ c. is_capture c.kind) o false) (comp-set host) ∙ captures (comp_of g host))
+  kind-set : (o : Option Comp) → option_map (λ c. c.kind) (option_map (set_by setting) o) ≡ option_map (λ c. c.kind) o
+  kind-set None = refl
+  kind-set (Some c) = refl
 
   pub comps-set : (cs : List Comp) → map (λ (c : Comp). c.id) (map (set_by setting) cs) ≡ map (λ (c : Comp). c.id) cs
   comps-set [] = refl
   comps-set (c ∷ cs) = ap (λ (ids : List ℕ). c.id ∷ ids) (comps-set cs)
 
+  -- ways are the same
+  pub ways-set : SameWays set g
+  ways-set = record { joins = refl; edges = refl; ids = comps-set g.comps; kinds = λ c. ap (option_map (λ (x : Comp). x.kind)) (comp-set c) ∙ kind-set (comp_of g c) }
+
   -- and so streams touch where they did
   pub touch-set : (a b : ℕ) → touch set a b ≡ touch g a b
-  touch-set a b = λ i. list_any (λ x. way-set a x i && way-set b x i) (comps-set g.comps i ++ buffers g)
+  touch-set = touch_same set g ways-set
 
 -- ---- hosts
 

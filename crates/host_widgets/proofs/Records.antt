@@ -6,7 +6,8 @@ use Rattle.std.proofs.lemmas.Bool.{and_parts}
 use Rattle.sof_base.specs.declared.format.Params.{Params}
 use Rattle.stream_law.specs.declared.graph.Graph.{Graph}
 use Rattle.stream_law.specs.declared.stream.StreamView.{StreamView}
-use Rattle.stream_law.specs.Ways.{touch, same_shape, agree, is_live_phase, is_silent}
+use Rattle.stream_law.specs.Ways.{touch, same_shape, agree, is_live_phase}
+use Rattle.stream_law.specs.Silence.{is_silent}
 use Rattle.mbox_link.specs.Calls.{Meaning}
 use Rattle.tplg_plan.specs.declared.plans.Plan.{Plan}
 use Rattle.tplg_plan.specs.declared.plans.StreamPlan.{StreamPlan}
@@ -17,7 +18,8 @@ use Rattle.host_widgets.specs.declared.kept.Power.TheVariants.{Unloaded}
 use Rattle.host_widgets.specs.declared.kept.StreamRec.{StreamRec}
 use Rattle.host_widgets.specs.declared.kept.Record.{Record}
 use Rattle.host_widgets.specs.HostRecord.{closed, halted, halted_found, may_have}
-use Rattle.host_widgets.specs.Kept.{first_record, all_closed, went_down}
+use Rattle.host_widgets.specs.Kept.{first_record, went_down}
+use Rattle.host_widgets.specs.IdleStreams.{all_closed}
 use Rattle.host_widgets.specs.ViewOf.{graph_by, record_view}
 use Rattle.host_widgets.specs.Expected.{stream_view, phase_of}
 use Rattle.host_widgets.specs.Host.{IsRecordOf, Agrees}
@@ -67,7 +69,7 @@ closed_pairs ps = zip ps (map (λ (s : StreamPlan). closed) ps)
 abbrev closed_views : List StreamPlan → List StreamView
 closed_views ps = map stream_view (closed_pairs ps)
 
-closed-agree : (g : Graph) (ps : List StreamPlan) (ss : List StreamView) → list_all (λ (s : StreamView). list_all (λ (t : StreamView). not (touch g s.host t.host) || same_shape s.params t.params) ss) (closed_views ps) ≡ true
+pub closed-agree : (g : Graph) (ps : List StreamPlan) (ss : List StreamView) → list_all (λ (s : StreamView). list_all (λ (t : StreamView). not (touch g s.host t.host) || same_shape s.params t.params) ss) (closed_views ps) ≡ true
 closed-agree g [] ss = refl
 closed-agree g (p ∷ ps) ss = rw (idle-fair g p.host ss) (closed-agree g ps ss)
 

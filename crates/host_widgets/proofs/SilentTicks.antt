@@ -3,10 +3,10 @@ use Rattle.std.proofs.Common.{◌≡◌, ℕ, zero, suc, ◌+◌, ◌%◌, ◌^�
 use Rattle.std.specs.Prelude.{IsTrue, All, nat_eq}
 use Rattle.std.specs.List.{IsDistinct}
 use Rattle.sof_base.specs.Ports.{Io, InputView}
-use Rattle.sof_io.specs.Bound.{input_slots, HasPosition}
+use Rattle.sof_io.specs.Takes.{input_slots, HasPosition}
 use Rattle.stream_law.specs.State.{FwState, view_of}
 use Rattle.stream_law.specs.Placed.{HasDistinct}
-use Rattle.stream_law.specs.Ways.{is_silent}
+use Rattle.stream_law.specs.Silence.{is_silent}
 use Rattle.stream_law.specs.Move.{next_clock}
 use Rattle.stream_law.specs.TickLaws.{HasOneOfEach, clocked}
 use Rattle.stream_law.proofs.Silent.{silent-tick}

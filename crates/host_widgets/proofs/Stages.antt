@@ -6,7 +6,7 @@ use Rattle.stream_law.specs.declared.graph.Pipe.{Pipe}
 use Rattle.stream_law.specs.State.{FwState}
 use Rattle.mbox_link.specs.Step.{first_setting}
 use Rattle.tplg_plan.specs.declared.plans.Plan.{Plan}
-use Rattle.host_widgets.specs.Kept.{all_closed}
+use Rattle.host_widgets.specs.IdleStreams.{all_closed}
 use Rattle.host_widgets.specs.Controls.{control_of}
 use Rattle.host_widgets.specs.Acts.{component_words, widget_words}
 use Rattle.host_widgets.specs.ViewOf.{record_view}

@@ -10,7 +10,8 @@ use Rattle.stream_law.specs.Ways.{agree, is_of, live}
 use Rattle.stream_law.specs.Seen.{flows, remembers, goes_on, keeps_numbers, numbers_in, marked}
 use Rattle.stream_law.specs.Past.{Moment, Boot, Cut, Now, Tick, Past, Leads, new_life, after_now}
 use Rattle.stream_law.specs.Move.{audio_after, state_after, io_after}
-use Rattle.stream_law.specs.Stands.{Stands, Reads, ring_frames}
+use Rattle.stream_law.specs.Stands.{Stands, ring_frames}
+use Rattle.stream_law.specs.InputsRead.{Reads}
 use Rattle.stream_law.specs.Viewing.{IsPlayable}
 use Rattle.stream_law.proofs.Building.{lying-empty}
 use Rattle.stream_law.proofs.Keyed.{keys-remade}

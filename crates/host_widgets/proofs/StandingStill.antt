@@ -1,6 +1,6 @@
 -- While a plan is brought up nothing moves, and no stream has parameters.
-use Rattle.std.proofs.Common.{◌≡◌, refl, sym, ap, subst, ℕ, List, [], ◌∷◌, map, Bool, false, not, ◌==◌, ◌&&◌, is_some}
-use Rattle.std.specs.List.{list_any, zip, IsDistinct}
+use Rattle.std.proofs.Common.{◌≡◌, refl, sym, ap, subst, ℕ, List, [], ◌∷◌, map, Bool, true, false, not, ◌==◌, ◌&&◌, ◌||◌, is_some}
+use Rattle.std.specs.List.{list_any, list_all, zip, IsDistinct}
 use Rattle.stream_law.specs.declared.graph.Edge.{Edge}
 use Rattle.stream_law.specs.declared.graph.Graph.{Graph}
 use Rattle.stream_law.specs.declared.stream.StreamView.{StreamView}
@@ -22,9 +22,9 @@ use Rattle.host_widgets.proofs.Joined.{standing}
 abbrev pub first_streams : List StreamPlan → List StreamView
 first_streams ss = map stream_view (zip ss (map (λ s. closed) ss))
 
-pub no-params : (test : StreamView → Bool) (ss : List StreamPlan) → list_any (λ (s : StreamView). is_some s.params && test s) (first_streams ss) ≡ false
-no-params test [] = refl
-no-params test (s ∷ ss) = no-params test ss
+pub no-params-all : (test : StreamView → Bool) (ss : List StreamPlan) → list_all (λ (s : StreamView). not (is_some s.params) || test s) (first_streams ss) ≡ true
+no-params-all test [] = refl
+no-params-all test (s ∷ ss) = no-params-all test ss
 
 pub none-live : (ss : List StreamPlan) → list_any (λ (s : StreamView). is_live_phase s.phase) (first_streams ss) ≡ false
 none-live [] = refl

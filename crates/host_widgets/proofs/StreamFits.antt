@@ -11,7 +11,7 @@ use Rattle.sof_base.proofs.RateLaws.{rate-most}
 use Rattle.stream_law.specs.declared.graph.Comp.{Comp}
 use Rattle.stream_law.specs.Ways.{is_capture, comp_of}
 use Rattle.ipc3_model.specs.Allowed.{is_direction}
-use Rattle.ipc3_model.specs.Messages.{IsMessage}
+use Rattle.ipc3_model.specs.Meanings.{IsMessage}
 use Rattle.ipc3_model.specs.declared.message.Message.TheVariants.{PcmParams, PcmFree}
 use Rattle.mbox_link.specs.Step.{is_rate}
 use Rattle.tplg_plan.specs.declared.plans.Plan.{Plan}

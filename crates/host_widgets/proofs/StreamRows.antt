@@ -13,6 +13,7 @@ use Rattle.stream_law.specs.declared.stream.StreamView.{StreamView}
 use Rattle.stream_law.specs.State.{FwState, View, view_of}
 use Rattle.stream_law.specs.Seen.{seen}
 use Rattle.stream_law.specs.Ways.{agree, same_shape, is_live_phase}
+use Rattle.stream_law.specs.Joins.{crosses}
 use Rattle.mbox_link.specs.Step.{invalid, no_device, is_used, is_rate, is_way_ready, is_host, goes, has_kind, is_stream_phase, kind_at, phase_at, set_stream, with_params, stream_changed, pcm_params}
 use Rattle.tplg_plan.specs.declared.plans.Plan.{Plan}
 use Rattle.tplg_plan.specs.declared.plans.StreamPlan.{StreamPlan}
@@ -21,7 +22,8 @@ use Rattle.host_widgets.specs.declared.kept.StreamRec.{StreamRec}
 use Rattle.host_widgets.specs.Acts.{direction_of}
 use Rattle.host_widgets.specs.Expected.{phase_of, stream_view}
 use Rattle.host_widgets.specs.Host.{conflicts}
-use Rattle.host_widgets.proofs.ReadyWays.{set_as, has_host, touch-set, way-ready, host-used, host-kind, host-goes}
+use Rattle.host_widgets.proofs.SameTouch.{crosses_same}
+use Rattle.host_widgets.proofs.ReadyWays.{set_as, has_host, ways-set, touch-set, way-ready, host-used, host-kind, host-goes}
 use Rattle.host_widgets.proofs.OthersAgree.{is_other, agrees-exactly}
 
 -- ---- the stream of a host
@@ -111,5 +113,6 @@ module _ (plan : Plan) (sound : IsSound plan) (setting : Comp → Setting) (rs :
           ap (λ (v : View). is_stream_phase is_live_phase (option_map (λ (s : StreamView). s.phase) (find (λ (s : StreamView). s.host == host) v.streams))) shows
           ∙ phase-shown is_live_phase false host plan.streams rs same some rests in
           let ready : is_way_ready f.graph host ≡ true = ap (λ (v : View). is_way_ready v.graph host) shows ∙ way-ready plan sound setting host in
-          (λ i. if not (used i) then Err no_device else if not (kind i) || moves i || not (rate i) || not (ready i) || not (agrees i) then Err invalid else Ok (seen (with_params f host p) None f))
+          let apart : crosses f.graph ≡ false = ap (λ (v : View). crosses v.graph) shows ∙ crosses_same (set_as setting plan.graph) plan.graph (ways-set plan.graph setting) ∙ sound.apart in
+          (λ i. if not (used i) then Err no_device else if not (kind i) || moves i || not (rate i) || not (ready i) || apart i || not (agrees i) then Err invalid else Ok (seen (with_params f host p) None f))
           ∙ ap (λ (b : Bool). if b then Err invalid else Ok (seen (with_params f host p) None f)) (not-not (list_any (conflicts plan host p) (zip plan.streams rs)))

@@ -4,11 +4,13 @@ use Rattle.std.specs.Prelude.{if◌then◌else◌}
 use Rattle.std.specs.List.{list_all}
 use Rattle.std.proofs.lemmas.Bool.{and_parts, false≢true}
 use Rattle.sof_base.specs.declared.format.Params.{Params}
+use Rattle.stream_law.specs.Joins.{crosses}
 use Rattle.stream_law.specs.State.{FwState, view_of}
 use Rattle.stream_law.specs.Ways.{agree, is_live_phase}
 use Rattle.stream_law.specs.Seen.{seen}
 use Rattle.ipc3_model.specs.declared.reply.Body.TheVariants.{Nothing}
-use Rattle.ipc3_model.specs.Messages.{message_spelling, decoded, IsMessage}
+use Rattle.ipc3_model.specs.Messages.{message_spelling, decoded}
+use Rattle.ipc3_model.specs.Meanings.{IsMessage}
 use Rattle.mbox_link.specs.Step as fw
 use Rattle.mbox_link.specs.Step.{row, body_of, invalid, no_device}
 use Rattle.tplg_plan.specs.declared.plans.Plan.{Plan}
@@ -87,18 +89,19 @@ params-rest Running takes live = false≢true takes
 params-rest Paused takes live = false≢true takes
 params-rest Found_On takes live = false≢true live
 
--- the last of five tests of a row that was done
-or_true : (a b c d : Bool) → (a || b || c || d || true) ≡ true
-or_true true b c d = refl
-or_true false true c d = refl
-or_true false false true d = refl
-or_true false false false true = refl
-or_true false false false false = refl
+-- the last of six tests of a row that was done
+or_true : (a b c d k : Bool) → (a || b || c || d || k || true) ≡ true
+or_true true b c d k = refl
+or_true false true c d k = refl
+or_true false false true d k = refl
+or_true false false false true k = refl
+or_true false false false false true = refl
+or_true false false false false false = refl
 
-pub last-test : (x a b c d g : Bool) (e i : ℤ) (y f : FwState) → (if x then Err e else if a || b || c || d || not g then Err i else Ok y) ≡ Ok f → (g ≡ true) × (y ≡ f)
-last-test true a b c d g e i y f is = absurd (cc is)
-last-test false a b c d false e i y f is = absurd (cc (sym (ap (λ (t : Bool). if t then Err i else Ok y) (or_true a b c d)) ∙ is))
-last-test false a b c d true e i y f is = (refl, by (a || b || c || d || false) is)
+pub last-test : (x a b c d k g : Bool) (e i : ℤ) (y f : FwState) → (if x then Err e else if a || b || c || d || k || not g then Err i else Ok y) ≡ Ok f → (g ≡ true) × (y ≡ f)
+last-test true a b c d k g e i y f is = absurd (cc is)
+last-test false a b c d k false e i y f is = absurd (cc (sym (ap (λ (t : Bool). if t then Err i else Ok y) (or_true a b c d k)) ∙ is))
+last-test false a b c d k true e i y f is = (refl, by (a || b || c || d || k || false) is)
   where
     by : (t : Bool) → (if t then Err i else Ok y) ≡ Ok f → y ≡ f
     by true is = absurd (cc is)
@@ -169,5 +172,5 @@ module _ (plan : Plan) (kept : Record) (is : IsRecordOf plan kept) (host : ℕ) 
       agrees f f' done =
           let v = fw.with_params f host p in
           let l = last-test (not (fw.is_used f.graph host)) (not (fw.has_kind (λ kind. fw.goes kind (direction_of plan host)) (fw.kind_at f.graph host))) (fw.is_stream_phase is_live_phase (fw.phase_at f host))
-          (not (fw.is_rate p.rate)) (not (fw.is_way_ready f.graph host)) (agree v) no_device invalid (seen v None f) f' done in
+          (not (fw.is_rate p.rate)) (not (fw.is_way_ready f.graph host)) (crosses f.graph) (agree v) no_device invalid (seen v None f) f' done in
           ap (λ (g : FwState). agree (view_of g)) (sym l.1) ∙ l.0

@@ -17,7 +17,8 @@ use Rattle.host_widgets.specs.HostActs.{Act}
 use Rattle.host_widgets.specs.ActMessages.{act_message}
 use Rattle.host_widgets.specs.Host.{Outcome, verdict}
 use Rattle.host_widgets.specs.Bringing.{Sent}
-use Rattle.host_widgets.specs.ActCalls.{ActsSent, ActsDid, Onwards, came_to}
+use Rattle.host_widgets.specs.ActCalls.{ActsDid, Onwards, came_to}
+use Rattle.host_widgets.specs.ActCarried.{ActsSent}
 use Rattle.host_widgets.specs.OneAct.{one_act}
 use Rattle.host_widgets.specs.Walk.{goes_past}
 use Rattle.host_widgets.specs.declared.kept.Record.{Record}

@@ -1,5 +1,5 @@
 -- Acts over any device: the exchange of each, and what its message met there.
-use Rattle.std.specs.Prelude.{◌≡◌, ℕ, ◌-◌, List, [], ◌∷◌, Bool, true, false, Option, Result, Ok, Err, MatchResult}
+use Rattle.std.specs.Prelude.{◌≡◌, ℕ, ◌-◌, List, [], ◌∷◌, Bool, true, false, Option, Result, Ok, Err}
 use Rattle.stream_law.specs.Past as past
 use Rattle.stream_law.specs.Past.{Moment}
 use Rattle.ipc3_model.specs.declared.reply.Reply.{Reply}
@@ -42,13 +42,6 @@ pub record ActDid {D : Type 0} (means : Meaning D) (plan : Plan) (heap : ℕ) (k
   pub came : came_to (verdict answer) ≡ outcome_by m.fate (own plan heap kept act)
 
 -- ---- acts, one after another
-
--- these were sent, up to the first that did not pass, and came to this
-abbrev pub ActsSent : {D : Type 0} → Meaning D → Plan → List Act → World D → World D → Outcome → Type 0
-ActsSent means plan [] w v result = (v ≡ w) × (result ≡ Ok tt)
-ActsSent {D} means plan (act ∷ acts) w v result =
-    (mid : World D) × (answer : Option (List ℕ)) × Exchanged means (message_spelling (act_message plan act)) answer w mid ×
-    MatchResult (verdict answer) (λ reply. ActsSent means plan acts mid v result) (λ fault. (v ≡ mid) × (result ≡ Err fault))
 
 -- the acts go on, or end here with no more meetings
 abbrev pub Onwards : {D : Type 0} → Bool → List Meeting → World D → World D → Type 0 → Type 0

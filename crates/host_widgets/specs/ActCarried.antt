@@ -1,5 +1,5 @@
 -- One message of a call, and one act with what a failed link leaves.
-use Rattle.std.specs.Prelude.{◌≡◌, ℕ, List, [], Bool, true, false, Option, Result, Err}
+use Rattle.std.specs.Prelude.{◌≡◌, ℕ, List, [], Bool, true, false, Option, Result, Err, ◌∷◌, Ok, MatchResult}
 use Rattle.ipc3_model.specs.declared.reply.Reply.{Reply}
 use Rattle.mbox_link.specs.Meetings.{Meeting}
 use Rattle.mbox_link.specs.Calls.{World, Meaning, Exchanged, Led}
@@ -12,6 +12,15 @@ use Rattle.host_widgets.specs.OneAct.{own, outcome_by, performed}
 use Rattle.host_widgets.specs.ActCalls.{ActDid, came_to, calls_of}
 use Rattle.host_widgets.specs.Orders.{plain_end}
 use Rattle.host_widgets.specs.Host.{Outcome, verdict}
+use Rattle.ipc3_model.specs.Messages.{message_spelling}
+use Rattle.host_widgets.specs.ActMessages.{act_message}
+
+-- these were sent, up to the first that did not pass, and came to this
+abbrev pub ActsSent : {D : Type 0} → Meaning D → Plan → List Act → World D → World D → Outcome → Type 0
+ActsSent means plan [] w v result = (v ≡ w) × (result ≡ Ok tt)
+ActsSent {D} means plan (act ∷ acts) w v result =
+    (mid : World D) × (answer : Option (List ℕ)) × Exchanged means (message_spelling (act_message plan act)) answer w mid ×
+    MatchResult (verdict answer) (λ reply. ActsSent means plan acts mid v result) (λ fault. (v ≡ mid) × (result ≡ Err fault))
 
 -- whether the link failed
 abbrev pub is_down : {T : Type 0} → Result T HostFault → Bool

@@ -2,20 +2,22 @@
 use Rattle.std.specs.Prelude.{ℕ, List, [], map, Option, Some, None}
 use Rattle.ipc3_model.specs.declared.message.Message.{Message}
 use Rattle.ipc3_model.specs.declared.message.Message.TheVariants.{Connect, SetValue, GetValue, SetData, GetData, PipeComplete, PcmParams, PcmFree, CtxSave}
-use Rattle.ipc3_model.specs.declared.control_kind.TheConstants.{CTRL_VOLUME, CTRL_ENUM}
+use Rattle.ipc3_model.specs.declared.control_kind.TheConstants.{CTRL_VOLUME, CTRL_ENUM, CTRL_SWITCH}
 use Rattle.tplg_plan.specs.declared.plans.Plan.{Plan}
 use Rattle.tplg_plan.specs.declared.plans.ControlPlan.{ControlPlan}
 use Rattle.tplg_plan.specs.declared.plans.ControlKind.{ControlKind}
 use Rattle.tplg_plan.specs.declared.plans.ControlKind.TheVariants as controls
 use Rattle.tplg_plan.specs.GainOf.{control_gain}
-use Rattle.host_widgets.specs.Controls.{control_of}
+use Rattle.host_widgets.specs.Controls.{control_of, eight_masks}
 use Rattle.host_widgets.specs.Acts.{make_message, widget_words, direction_of, trigger_message}
 use Rattle.mbox_link.specs.BlobParts.{blob_part}
 use Rattle.host_widgets.specs.HostActs.{Act, Make, Join, Put, Part, Finish, Prepare, Trig, Free, Save, Ask}
 
--- SET_VALUE: a volume's gains by CTRL_VOLUME, a mux's choice by CTRL_ENUM; no other component is set so
+-- SET_VALUE: a volume's gains by CTRL_VOLUME, a mux's choice by CTRL_ENUM, a demux's eight masks by CTRL_SWITCH; no other component is
+-- set so
 abbrev pub set_message : ℕ → List ℕ → ControlKind → Message
 set_message comp values (controls.Choice items) = SetValue comp CTRL_ENUM values
+set_message comp values (controls.Masks min max channels) = SetValue comp CTRL_SWITCH (eight_masks values)
 set_message comp values kind = SetValue comp CTRL_VOLUME (map (control_gain kind) values)
 
 abbrev pub put_message : ℕ → List ℕ → Option ControlPlan → Message
@@ -26,6 +28,7 @@ put_message comp values None = SetValue comp CTRL_VOLUME []
 abbrev pub get_message : ℕ → ℕ → ControlKind → Message
 get_message comp k (controls.Volume min max channels lowest step mute) = GetValue comp CTRL_VOLUME
 get_message comp k (controls.Choice items) = GetValue comp CTRL_ENUM
+get_message comp k (controls.Masks min max channels) = GetValue comp CTRL_SWITCH
 get_message comp k (controls.Blob most initial) = GetData comp k
 
 abbrev pub ask_message : ℕ → ℕ → Option ControlPlan → Message

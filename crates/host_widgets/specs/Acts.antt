@@ -3,7 +3,7 @@ use Rattle.std.specs.Prelude.{ℕ, ◌==◌, List, length, get_or, find, Option,
 use Rattle.std.specs.List.{range_with_len}
 use Rattle.std.specs.Option.{option_map}
 use Rattle.stream_law.specs.declared.graph.Kind.{Kind}
-use Rattle.stream_law.specs.declared.graph.Kind.TheVariants.{HostPlay, HostCapture, DaiPlay, DaiCapture, Volume, Mixer, Mux, Eq}
+use Rattle.stream_law.specs.declared.graph.Kind.TheVariants.{HostPlay, HostCapture, DaiPlay, DaiCapture, Volume, Mixer, Mux, Eq, Demux}
 use Rattle.stream_law.specs.declared.graph.Comp.{Comp}
 use Rattle.stream_law.specs.declared.graph.Edge.{Edge}
 use Rattle.stream_law.specs.declared.graph.Pipe.{Pipe}
@@ -69,6 +69,7 @@ component_words Volume k w = volume_words k w
 component_words Mixer k w = words.Mixer
 component_words Mux k w = words.Mux
 component_words Eq k w = words.Eq
+component_words Demux k w = words.Demux
 
 -- COMP_NEW
 abbrev pub comp_message : ℕ → Option ControlPlan → WidgetPlan → Comp → Message

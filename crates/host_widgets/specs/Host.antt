@@ -5,8 +5,6 @@ use Rattle.std.specs.Option.{option_map}
 use Rattle.sof_base.specs.BlobFaults.{is_blob}
 use Rattle.sof_base.specs.declared.errno.Errno.{Errno}
 use Rattle.sof_base.specs.declared.format.Params.{Params}
-use Rattle.stream_law.specs.declared.stream.Phase.TheVariants.{Idle}
-use Rattle.stream_law.specs.declared.stream.StreamView.{StreamView}
 use Rattle.stream_law.specs.State.{view_of}
 use Rattle.stream_law.specs.Ways.{is_live_phase, touch, same_shape, agree}
 use Rattle.ipc3_model.specs.declared.reply.Reply.{Reply}
@@ -18,7 +16,7 @@ use Rattle.tplg_plan.specs.declared.plans.Plan.{Plan}
 use Rattle.tplg_plan.specs.declared.plans.StreamPlan.{StreamPlan}
 use Rattle.tplg_plan.specs.declared.plans.ControlPlan.{ControlPlan}
 use Rattle.tplg_plan.specs.declared.plans.ControlKind.{ControlKind}
-use Rattle.tplg_plan.specs.declared.plans.ControlKind.TheVariants.{Volume, Choice, Blob}
+use Rattle.tplg_plan.specs.declared.plans.ControlKind.TheVariants.{Volume, Choice, Blob, Masks}
 use Rattle.host_widgets.specs.declared.answers.HostFault.{HostFault}
 use Rattle.host_widgets.specs.declared.answers.HostFault.TheVariants.{Refused, LinkDown}
 use Rattle.host_widgets.specs.declared.kept.Power.{Power}
@@ -62,16 +60,10 @@ verdict (Some bytes) = judged (decoded_reply bytes)
 
 -- ---- what the firmware itself refuses
 
--- a stream of a host, without parameters
-abbrev pub idle_view : ℕ → StreamView
-idle_view host = record { host = host; phase = Idle; params = None }
-
 -- a stream that is not this host's, has parameters, touches this one, and has another rate or number of channels
 abbrev pub conflicts : Plan → ℕ → Params → StreamPlan × StreamRec → Bool
 conflicts plan host p (s, r) =
     not (s.host == host) && touch plan.graph s.host host && is_some r.params && not (same_shape r.params (Some p))
-
--- ---- what a device has that was brought up
 
 -- ---- both sides
 
@@ -82,13 +74,15 @@ Sides means plan kept device Unloaded = (kept ≡ first_record plan) × (means.o
 Sides means plan kept device On = option_map view_of (means.on device) ≡ Some (record_view plan kept)
 Sides means plan kept device Off = (list_any (λ s. is_live_phase (phase_of s.found)) kept.streams ≡ false) × (means.on device ≡ None)
 
--- what a command may set: a value for each channel of a volume, in its range; the number of one of a mux's items; and a blob that is
--- not longer than an equaliser takes
+-- what a command may set: a value for each channel of a volume, in its range; the number of one of a mux's items; a blob that is not
+-- longer than an equaliser takes; and a mask for each channel of a demux's control, in its range
 abbrev pub IsControlSet : ControlKind → ControlRec → Type 0
 IsControlSet (Volume min max channels lowest step mute) c =
     (length c.values ≡ channels) × (list_all (λ v. nat_le min v && nat_le v max) c.values ≡ true) × (c.blob ≡ [])
 IsControlSet (Choice items) c = (v : ℕ) × (c.values ≡ v ∷ []) × (v < items) × (c.blob ≡ [])
 IsControlSet (Blob most initial) c = (c.values ≡ []) × (length c.blob ≤ most) × (is_blob c.blob ≡ true)
+IsControlSet (Masks min max channels) c =
+    (length c.values ≡ channels) × (list_all (λ v. nat_le min v && nat_le v max) c.values ≡ true) × (c.blob ≡ [])
 
 -- a record for each live control, which is as it begins or was set
 abbrev pub AreControls : List ControlPlan → List ControlRec → Type 0

@@ -19,7 +19,7 @@ use Rattle.mbox_link.specs.BlobParts.{is_last}
 pub data Act : Type 0 where
   Make : (id : ℕ) → Act  -- a widget is made
   Join : (source sink : ℕ) → Act  -- a buffer and a component are joined
-  Put : (comp : ℕ) (values : List ℕ) → Act  -- a volume or a mux has these values, by channel
+  Put : (comp : ℕ) (values : List ℕ) → Act  -- a volume, a mux or a demux has these values, by channel or by output
   Part : (comp : ℕ) (blob : List ℕ) (k : ℕ) → Act  -- an equaliser gets the k-th part of a blob
   Finish : (id : ℕ) → Act  -- a pipeline is complete
   Prepare : (host : ℕ) (params : Params) → Act  -- a stream has parameters

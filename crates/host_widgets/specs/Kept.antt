@@ -25,10 +25,6 @@ first_record plan = record { power = Unloaded; streams = map (λ s. closed) plan
 abbrev pub with_power : Power → Record → Record
 with_power power kept = record { power = power; streams = kept.streams; controls = kept.controls }
 
--- every stream is closed and every control is as it begins, at this power
-abbrev pub all_closed : Power → Plan → Record
-all_closed power plan = with_power power (first_record plan)
-
 -- the power is off, and no stream is Running or Paused
 abbrev pub went_down : Record → Record
 went_down kept = record { power = Off; streams = map halted kept.streams; controls = kept.controls }

@@ -1,5 +1,6 @@
 pub mod HostRecord
 pub mod Controls
+pub mod FewValues
 pub mod Acts
 pub mod Kept
 pub mod HostActs
@@ -11,11 +12,13 @@ pub mod ViewOf
 pub mod StateOf
 pub mod Keeps
 pub mod Host
+pub mod IdleStreams
 pub mod Bringing
 pub mod OneAct
 pub mod Walk
 pub mod ActCalls
 pub mod Orders
+pub mod TestedOrders
 pub mod Named
 pub mod ActCarried
 pub mod WalkRows

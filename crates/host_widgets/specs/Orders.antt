@@ -93,14 +93,6 @@ ticking kept = record { first = where_on kept.power (Tick ∷ []); acts = []; ma
 
 -- ---- over any device
 
--- These acts were sent by one exchange each, up to the end of the walk, and no other call was made. By what the messages met there,
--- they came to this, and left this record.
-pub record ActsCame {D : Type 0} (means : Meaning D) (plan : Plan) (heap : ℕ) (past_refusals : Bool) (acts : List Act) (kept kept' : Record) (w v : World D) (result : Outcome) : Type 0 where
-  pub meetings : List Meeting
-  pub did : ActsDid means plan heap past_refusals kept acts meetings w v
-  pub came : result ≡ (walk plan heap past_refusals next_of kept meetings acts).outcome
-  pub left : kept' ≡ (walk plan heap past_refusals next_of kept meetings acts).kept
-
 -- what a walk left is ended: the record, and the calls of the last moments
 abbrev pub Ends : {D : Type 0} → Meaning D → Plan → ℕ → Order → Record → Record → World D → World D → Walked (List Meeting) → Type 0
 Ends means plan heap o kept kept' w v walked =
@@ -127,8 +119,3 @@ fault_of_load power = Some Loaded
 abbrev pub unload_fault : Power → Option HostFault
 unload_fault Unloaded = Some NotLoaded
 unload_fault power = None
-
--- where the test tells a fault, that is answered, with nothing changed and no call made; else the order is carried out
-pub record Tested {D : Type 0} (means : Meaning D) (plan : Plan) (heap : ℕ) (test : Option HostFault) (o : Order) (kept kept' : Record) (w v : World D) (result : Outcome) : Type 0 where
-  pub early : (fault : HostFault) → test ≡ Some fault → (result ≡ Err fault) × (v ≡ w) × (kept' ≡ kept)
-  pub late : test ≡ None → Carried means plan heap o kept kept' w v result

@@ -4,7 +4,8 @@ use Rattle.sof_base.specs.declared.format.Format.TheVariants.{S16}
 use Rattle.sof_base.specs.declared.format.Params.{Params}
 use Rattle.mbox_link.specs.declared.fates.Fate.{Fate}
 use Rattle.mbox_link.specs.declared.fates.Entry.{Entry}
-use Rattle.mbox_link.specs.Meetings.{Queue, calm, next_meeting}
+use Rattle.mbox_link.specs.Meetings.{Queue, next_meeting}
+use Rattle.mbox_link.specs.CalmDevice.{calm}
 use Rattle.tplg_plan.specs.declared.plans.Plan.{Plan}
 use Rattle.host_widgets.specs.declared.kept.Found.{Found}
 use Rattle.host_widgets.specs.declared.kept.Found.TheVariants.{Running}

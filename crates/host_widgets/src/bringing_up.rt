@@ -11,10 +11,10 @@ ghost use Rattle.host_widgets.specs.Kept.{controls_of};
 ghost use Rattle.host_widgets.specs.HostActs.{Make, Join, Finish};
 ghost use Rattle.host_widgets.specs.Acts.{widget_ids};
 ghost use Rattle.host_widgets.specs.ActLists.{control_acts, bring_up};
-ghost use Rattle.host_widgets.specs.ActCalls.{ActsSent};
+ghost use Rattle.host_widgets.specs.ActCarried.{ActsSent};
 ghost use Rattle.host_widgets.specs.Host.{AreControls};
 ghost use Rattle.host_widgets.specs.Bringing.{BroughtUp};
-ghost use Rattle.host_widgets.specs.Orders.{ActsCame};
+ghost use Rattle.host_widgets.specs.TestedOrders.{ActsCame};
 
 use crate::answers::HostFault;
 use crate::controls::set_message;

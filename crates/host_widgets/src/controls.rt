@@ -2,11 +2,12 @@
 ghost use Rattle.std.specs.Prelude.{◌≡◌, ◌==◌, ◌<◌, ◌≤◌, ◌^◌, suc, ◌-◌, find, unwrap_or, replicate, map, length, option_copied};
 ghost use Rattle.std.specs.List.{range_with_len};
 ghost use Rattle.host_widgets.specs.Controls as law;
+ghost use Rattle.host_widgets.specs.FewValues as few_values;
 ghost use Rattle.host_widgets.specs.Acts as acts;
 ghost use Rattle.host_widgets.specs.ActMessages as messages;
 ghost use Rattle.tplg_plan.specs.GainOf.{control_gain};
 
-use ipc3_codec::{CTRL_ENUM, CTRL_VOLUME, CompWords, Message};
+use ipc3_codec::{CTRL_ENUM, CTRL_SWITCH, CTRL_VOLUME, CompWords, Message};
 use sof_base::Bounded;
 use tplg_plan::{ControlKind, ControlPlan, Plan, WidgetPlan, gain, half_decibels};
 
@@ -58,17 +59,17 @@ fn count(kind: &ControlKind) -> u8
     ensures { result ≡ length (law.first_values kind.now) }
 {
     match kind {
-        ControlKind::Volume { channels, .. } => *channels,
+        ControlKind::Volume { channels, .. } | ControlKind::Masks { channels, .. } => *channels,
         ControlKind::Choice { .. } => 1,
         ControlKind::Blob { .. } => 0,
     }
 }
 
 // The value that a control begins with on all its channels. A volume begins at the least that is not silent and whose gain is 1
-// or more, or at its greatest where there is none; a choice at 0. A blob has none, and 0 stands for it.
+// or more, or at its greatest where there is none; a choice at 0; masks at their greatest. A blob has none, and 0 stands for it.
 #[tactic(auto, unfolding(crate::specs::Controls::first_value))]
 fn first_value(kind: &ControlKind) -> u32
-    requires { law.HasFew kind.now }
+    requires { few_values.HasFew kind.now }
     ensures { result ≡ law.first_value kind.now }
 {
     match kind {
@@ -80,13 +81,14 @@ fn first_value(kind: &ControlKind) -> u32
             tlv_mute,
             ..
         } => first_full(*min, *max, *tlv_min, *tlv_step, *tlv_mute),
+        ControlKind::Masks { max, .. } => *max,
         ControlKind::Choice { .. } | ControlKind::Blob { .. } => 0,
     }
 }
 
 /// The values that a control begins with, by channel; a choice has one, and a blob none.
 pub fn first_values(kind: &ControlKind) -> Bounded<u32, 8>
-    requires { law.HasFew kind.now }
+    requires { few_values.HasFew kind.now }
     ensures { result ≡ law.first_values kind.now }
 {
     same_numbers(count(kind), first_value(kind))
@@ -98,7 +100,7 @@ fn greatest_value(kind: &ControlKind) -> u32
 {
     match kind {
         ControlKind::Volume { max, .. } => *max,
-        ControlKind::Choice { .. } | ControlKind::Blob { .. } => 0,
+        _ => 0,
     }
 }
 
@@ -113,7 +115,7 @@ pub fn first_blob(kind: &ControlKind) -> Bounded<u8, 1024>
             // Never so: it is no longer.
             None => Bounded::empty(),
         },
-        ControlKind::Volume { .. } | ControlKind::Choice { .. } => Bounded::empty(),
+        _ => Bounded::empty(),
     }
 }
 
@@ -155,6 +157,38 @@ pub fn volume_words(plan: &Plan, id: u32, widget: &WidgetPlan) -> CompWords
     }
 }
 
+// The mask of an output: its value, and 255 past the values.
+fn mask_at(values: &[u32], output: usize) -> u32
+    ensures { result ≡ law.mask_at values.now output }
+{
+    match values.get(output) {
+        Some(mask) => *mask,
+        None => 255,
+    }
+}
+
+// The masks of eight outputs.
+fn eight_masks(values: &Bounded<u32, 8>) -> Bounded<u32, 8>
+    ensures { result ≡ law.eight_masks values.now }
+{
+    let values = values.items();
+    let masks = [
+        mask_at(values, 0),
+        mask_at(values, 1),
+        mask_at(values, 2),
+        mask_at(values, 3),
+        mask_at(values, 4),
+        mask_at(values, 5),
+        mask_at(values, 6),
+        mask_at(values, 7),
+    ];
+    match Bounded::new(&masks) {
+        Some(list) => list,
+        // Never so: there are 8.
+        None => Bounded::empty(),
+    }
+}
+
 /// The message that sets these values at a control.
 pub fn set_message(comp: u32, kind: &ControlKind, values: &Bounded<u32, 8>) -> Message
     ensures { result ≡ messages.set_message comp values.now kind.now }
@@ -164,6 +198,11 @@ pub fn set_message(comp: u32, kind: &ControlKind, values: &Bounded<u32, 8>) -> M
             id: comp,
             command: CTRL_ENUM,
             values: values.copied(),
+        },
+        ControlKind::Masks { .. } => Message::SetValue {
+            id: comp,
+            command: CTRL_SWITCH,
+            values: eight_masks(values),
         },
         ControlKind::Volume { .. } | ControlKind::Blob { .. } => Message::SetValue {
             id: comp,

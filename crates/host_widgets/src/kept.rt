@@ -2,7 +2,8 @@
 ghost use Rattle.std.specs.Prelude.{◌≡◌, ◌≤◌, IfOk, length, map};
 ghost use Rattle.tplg_plan.specs.Sound.{IsSound};
 ghost use Rattle.host_widgets.specs.HostRecord.{closed};
-ghost use Rattle.host_widgets.specs.Controls.{HasFew, first_blob};
+ghost use Rattle.host_widgets.specs.Controls.{first_blob};
+ghost use Rattle.host_widgets.specs.FewValues.{HasFew};
 ghost use Rattle.host_widgets.specs.Kept.{first_control, first_record};
 
 use crate::controls::{first_blob, first_values};
@@ -37,7 +38,7 @@ pub struct StreamRec {
     pub params: Option<Params>,
 }
 
-/// A live control: a volume's or a mux's values by channel, and an equaliser's blob.
+/// A live control: the values by channel of a volume, a mux or a demux, and an equaliser's blob.
 #[derive(Debug, Drop)]
 pub struct ControlRec {
     pub values: Bounded<u32, 8>,

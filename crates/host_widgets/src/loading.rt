@@ -7,7 +7,8 @@ ghost use Rattle.host_widgets.specs.Kept.{first_record, with_power};
 ghost use Rattle.host_widgets.specs.Host.{Agrees};
 ghost use Rattle.host_widgets.specs.Bringing.{BroughtUp, SucceedsExactly};
 ghost use Rattle.host_widgets.specs.Sides.{SameSide, world_of};
-ghost use Rattle.host_widgets.specs.Orders.{Carried, Tested, brought_end, fault_of_load, loading};
+ghost use Rattle.host_widgets.specs.Orders.{Carried, brought_end, fault_of_load, loading};
+ghost use Rattle.host_widgets.specs.TestedOrders.{Tested};
 
 use crate::answers::HostFault;
 use crate::bringing_up::bring_up;

@@ -35,6 +35,7 @@ fn component_words(plan: &Plan, id: u32, kind: Kind, words: &WidgetPlan) -> Comp
         Kind::Mixer => CompWords::Mixer,
         Kind::Mux => CompWords::Mux,
         Kind::Eq => CompWords::Eq,
+        Kind::Demux => CompWords::Demux,
     }
 }
 

@@ -6,7 +6,7 @@ ghost use Rattle.tplg_plan.specs.declared.plans.Plan.{Plan};
 ghost use Rattle.mbox_link.specs.BlobParts.{parts, blob_part};
 ghost use Rattle.mbox_link.specs.Calls.{world};
 ghost use Rattle.host_widgets.specs.ActLists.{part_acts};
-ghost use Rattle.host_widgets.specs.ActCalls.{ActsSent};
+ghost use Rattle.host_widgets.specs.ActCarried.{ActsSent};
 
 use crate::answers::HostFault;
 use crate::sending::send;

@@ -2,7 +2,7 @@
 ghost use Rattle.std.specs.Prelude.{◌≡◌, ◌≤◌, ◌*◌, is_some, true, IfOk};
 ghost use Rattle.sof_base.specs.Ports.{HasRoom};
 ghost use Rattle.ipc3_model.specs.Messages.{message_spelling};
-ghost use Rattle.mbox_link.specs.Exchange.{answered};
+ghost use Rattle.mbox_link.specs.AnswerBytes.{answered};
 ghost use Rattle.mbox_link.specs.Calls.{world};
 ghost use Rattle.host_widgets.specs.Host.{verdict};
 ghost use Rattle.host_widgets.specs.Bringing.{Sent};

@@ -5,7 +5,8 @@ ghost use Rattle.tplg_plan.specs.Sound.{IsSound};
 ghost use Rattle.host_widgets.specs.HostRecord.{closed};
 ghost use Rattle.host_widgets.specs.Kept.{first_control, first_record};
 ghost use Rattle.host_widgets.specs.Host.{Agrees, IsRecordOf};
-ghost use Rattle.host_widgets.specs.Orders.{Tested, unload_fault, unloading};
+ghost use Rattle.host_widgets.specs.Orders.{unload_fault, unloading};
+ghost use Rattle.host_widgets.specs.TestedOrders.{Tested};
 
 use crate::answers::HostFault;
 use crate::kept::{ControlRec, Found, Power, Record, StreamRec, first_control};

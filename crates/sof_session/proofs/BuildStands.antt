@@ -10,7 +10,8 @@ use Rattle.stream_law.specs.declared.graph.Edge.{Edge}
 use Rattle.stream_law.specs.declared.stream.StreamView.{StreamView}
 use Rattle.stream_law.specs.State.{FwState, View, RingView, view_of}
 use Rattle.stream_law.specs.Table.{list_of, table, updated}
-use Rattle.stream_law.specs.Ways.{agree, buffers, components, is_live_phase, is_silent}
+use Rattle.stream_law.specs.Ways.{agree, buffers, components, is_live_phase}
+use Rattle.stream_law.specs.Silence.{is_silent}
 use Rattle.stream_law.specs.Move.{next_clock}
 use Rattle.stream_law.specs.Past.{Moment, Boot, Cut, Now, Tick, Past, Leads, start, empty_view, new_life, after_now}
 use Rattle.stream_law.specs.Stands.{Stands, SameView, ring_frames}

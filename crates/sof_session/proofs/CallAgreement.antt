@@ -12,8 +12,10 @@ use Rattle.host_widgets.specs.declared.kept.Record.{Record}
 use Rattle.host_widgets.specs.HostActs.{Act}
 use Rattle.host_widgets.specs.Host.{Outcome, Agrees}
 use Rattle.host_widgets.specs.Bringing.{BroughtUp, ticks_put}
-use Rattle.host_widgets.specs.Kept.{all_closed, first_record, with_power}
-use Rattle.host_widgets.specs.Orders.{Order, Carried, Tested, brought_end, sends, fault_of_load, loading, resuming, suspending, unload_fault, unloading}
+use Rattle.host_widgets.specs.Kept.{first_record, with_power}
+use Rattle.host_widgets.specs.IdleStreams.{all_closed}
+use Rattle.host_widgets.specs.Orders.{Order, Carried, brought_end, sends, fault_of_load, loading, resuming, suspending, unload_fault, unloading}
+use Rattle.host_widgets.specs.TestedOrders.{Tested}
 use Rattle.host_widgets.specs.StateOf.{loaded_state}
 use Rattle.host_widgets.proofs.LoadEnds.{failed-off}
 use Rattle.host_widgets.proofs.LoadOrders.{unloading_at}

@@ -9,7 +9,8 @@ use Rattle.host_widgets.specs.declared.kept.Record.{Record}
 use Rattle.host_widgets.specs.Host.{Outcome, Agrees}
 use Rattle.host_widgets.specs.Bringing.{BroughtUp}
 use Rattle.host_widgets.specs.Kept.{first_record}
-use Rattle.host_widgets.specs.Orders.{Order, Tested, fault_of_load, loading, resuming, suspending, unload_fault, unloading}
+use Rattle.host_widgets.specs.Orders.{Order, fault_of_load, loading, resuming, suspending, unload_fault, unloading}
+use Rattle.host_widgets.specs.TestedOrders.{Tested}
 use Rattle.host_pm.specs.PowerTests.{suspend_fault, resume_fault}
 use Rattle.host_pm.specs.Resumed.{ResumeLeft}
 use Rattle.sof_session.specs.Agreement.{AreAgreed}

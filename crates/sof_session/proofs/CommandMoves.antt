@@ -48,8 +48,10 @@ use Rattle.host_widgets.specs.Orders.{Order, Manner, Plain, Loading, Resuming, S
 use Rattle.host_widgets.proofs.NamedIds.{each-pipe, pipeline-found}
 use Rattle.host_pcm.specs.declared.asking.Ask.TheVariants.{Opening, Preparing, Triggering, Closing}
 use Rattle.host_pcm.specs.declared.asking.Ask as asks
-use Rattle.host_pcm.specs.Asks.{stream_place, stream_at, stream_caps, range_fault, early_fault, named_fault}
-use Rattle.host_pcm.specs.StreamOrders.{host_at, asking_order, stream_order}
+use Rattle.host_pcm.specs.Asks.{stream_place, stream_at, range_fault, early_fault, named_fault}
+use Rattle.host_pcm.specs.StreamCalls.{stream_caps}
+use Rattle.host_pcm.specs.StreamOrders.{asking_order, stream_order}
+use Rattle.host_pcm.specs.StreamCalls.{host_at}
 use Rattle.host_pcm.proofs.HostTests.{found_place}
 use Rattle.host_pcm.proofs.StreamCalls.{ranges}
 use Rattle.host_ctl.specs.ControlAsks.{named_control}
@@ -269,6 +271,7 @@ few-control : (comp : ℕ) (kind : ControlKind) (c : ControlRec) → AreFewActs 
 few-control comp (controls.Blob most initial) c = few-map (Part comp c.blob) (λ k. tt) (part_numbers c.blob)
 few-control comp (controls.Volume min max channels lowest step mute) c = (tt, tt)
 few-control comp (controls.Choice items) c = (tt, tt)
+few-control comp (controls.Masks min max channels) c = (tt, tt)
 
 few-up : (plan : Plan) (kept : Record) → AreFewActs (bring_up plan kept)
 few-up plan kept =
@@ -340,6 +343,7 @@ few-asks : (comp : ℕ) (kind : ControlKind) (c : ControlRec) → AreFewActs (as
 few-asks comp (controls.Blob most initial) c = few-map (Ask comp) (λ k. tt) (part_numbers c.blob)
 few-asks comp (controls.Volume min max channels lowest step mute) c = (tt, tt)
 few-asks comp (controls.Choice items) c = (tt, tt)
+few-asks comp (controls.Masks min max channels) c = (tt, tt)
 
 read-paced : (kept : Record) (k : Option (ControlPlan × ControlRec)) → IsPacedOrder (reading_order kept k)
 read-paced kept None = quiet-paced _

@@ -6,7 +6,7 @@ use Rattle.std.proofs.lemmas.List.{length-map}
 use Rattle.tplg_plan.specs.declared.plans.Plan.{Plan}
 use Rattle.tplg_plan.specs.declared.plans.ControlPlan.{ControlPlan}
 use Rattle.tplg_plan.specs.declared.plans.ControlKind.{ControlKind}
-use Rattle.tplg_plan.specs.declared.plans.ControlKind.TheVariants.{Volume, Choice, Blob}
+use Rattle.tplg_plan.specs.declared.plans.ControlKind.TheVariants.{Volume, Choice, Blob, Masks}
 use Rattle.host_widgets.specs.declared.answers.Answer.{Answer}
 use Rattle.host_widgets.specs.declared.answers.Answer.TheVariants.{Done}
 use Rattle.host_widgets.specs.declared.answers.HostFault.{HostFault}
@@ -65,6 +65,7 @@ sent-get plan kept name = sent-quiet kept (control_told (named_at plan kept name
 few-installed : (kind : ControlKind) (blob : List ℕ) → MayInstall kind blob → length (part_numbers blob) ≤ 4
 few-installed (Volume min max channels lowest step mute) blob may = absurd may
 few-installed (Choice items) blob may = absurd may
+few-installed (Masks min max channels) blob may = absurd may
 few-installed (Blob most initial) blob may = few-numbers blob may.1
 
 sent-installing : (plan : Plan) (kept : Record) (name blob : List ℕ) (o : Option ControlPlan) → installing_fault name blob o ≡ None → IsSent kept (installing_order plan kept blob o)
@@ -84,6 +85,7 @@ sent-bytes plan kept name blob none =
 few-asks : (comp : ℕ) (kind : ControlKind) (c : ControlRec) → Takes kind c → length (ask_acts comp kind c) ≤ 900
 few-asks comp (Volume min max channels lowest step mute) c takes = omega arith
 few-asks comp (Choice items) c takes = omega arith
+few-asks comp (Masks min max channels) c takes = omega arith
 few-asks comp (Blob most initial) c takes = omega (arith, few-kept c.blob takes, length-map (part_numbers c.blob) (Ask comp))
 
 sent-asks : (kept : Record) (k : ControlPlan) (c : ControlRec) → Takes k.kind c → IsSent kept (reading_order kept (Some (k, c)))

@@ -6,8 +6,9 @@ use Rattle.std.specs.List.{IsDistinct, AllByRecursion}
 use Rattle.std.proofs.lemmas.Bool.{eqb-true, eqb-false, eq-eqb, ne_eqb, ltb-false, true≢false, and_parts}
 use Rattle.std.proofs.lemmas.List.{append-nil}
 use Rattle.sof_base.specs.Ports.{InputView}
-use Rattle.sof_io.specs.Bound.{input_slots}
-use Rattle.sof_io.specs.Fills.{filled_at, ended_at, is_wanting, wanting, fuller_input, ended_input}
+use Rattle.sof_io.specs.Takes.{input_slots}
+use Rattle.sof_io.specs.Fills.{filled_at, ended_at, wanting}
+use Rattle.sof_io.specs.Takes.{is_wanting, fuller_input, ended_input}
 use Rattle.stream_law.specs.Order.{is_among}
 use Rattle.stream_law.specs.Stands.{is_bound, position_of, left_of}
 use Rattle.stream_law.specs.Viewing.{Fills}

@@ -7,7 +7,7 @@ use Rattle.std.specs.List.{AllByRecursion, IsDistinct}
 use Rattle.std.specs.Prelude.{find}
 use Rattle.std.specs.Option.{option_map_or}
 use Rattle.sof_base.specs.Ports.{InputView}
-use Rattle.sof_io.specs.Bound.{input_slots}
+use Rattle.sof_io.specs.Takes.{input_slots}
 use Rattle.stream_law.specs.State.{FwState}
 use Rattle.stream_law.specs.Table.{list_of, number_of}
 use Rattle.stream_law.specs.Past.{Moment, Past, start}
@@ -25,7 +25,8 @@ use Rattle.host_widgets.specs.Host.{IsRecordOf}
 use Rattle.host_widgets.proofs.Records.{closed-record}
 use Rattle.sof_script.specs.declared.script.Command.{Command}
 use Rattle.sof_session.specs.Commands.{Known, Came}
-use Rattle.sof_session.specs.Fills.{AreNew, AreWhole, FilledBy, bytes_read, next_read, after_read, may_grow}
+use Rattle.sof_session.specs.Fills.{AreWhole, FilledBy, bytes_read, next_read, after_read, may_grow}
+use Rattle.sof_session.specs.NewInputs.{AreNew}
 use Rattle.sof_session.specs.Lives.{Life, Bare, Seated, Turn, Task, Begin, Fill, Carry, Carries, Turned, Turns, device_of, inputs_of, reads_by, reads_in, with_out, carried_outs}
 use Rattle.sof_session.specs.RunOver.{IsAt, EndsAt, TurnedBy, TurnsBy, RunOver}
 use Rattle.sof_session.specs.Seat.{Seat, new_seat}

@@ -5,7 +5,7 @@ use Rattle.stream_law.specs.State.{FwState, RingView}
 use Rattle.stream_law.specs.Table.{list_of}
 use Rattle.stream_law.specs.Move.{Audio, state_after}
 use Rattle.tplg_plan.specs.declared.plans.Plan.{Plan}
-use Rattle.host_widgets.specs.Kept.{all_closed}
+use Rattle.host_widgets.specs.IdleStreams.{all_closed}
 use Rattle.host_widgets.specs.StateOf.{loaded_state}
 use Rattle.host_widgets.specs.declared.kept.Power.TheVariants.{On}
 use Rattle.host_widgets.specs.declared.kept.Record.{Record}

@@ -4,7 +4,7 @@ use Rattle.std.specs.Option.{option_map}
 use Rattle.std.specs.List.{slice_get, zip, range_with_len}
 use Rattle.std.proofs.lemmas.Option.{slice_get-map, slice_get-get_or}
 use Rattle.std.proofs.lemmas.List.FromFn.{length-range_with_len, get_or-range_with_len}
-use Rattle.sof_session.specs.Show.{IsLineAt}
+use Rattle.sof_session.specs.ShownLines.{IsLineAt}
 
 -- ---- elements by number
 

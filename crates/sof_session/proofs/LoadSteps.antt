@@ -1,7 +1,8 @@
 -- What a load does to a session.
 use Rattle.std.proofs.Common.{◌≡◌, ⊎_elim, false, refl, sym, ap, ◌∙◌, subst, zero-add, ℕ, ◌+◌, ◌<◌, ◌-◌, ◌%◌, ◌^◌, List, [], ◌∷◌, ◌++◌, length, Option, Some, None, Ok, Err, arith}
 use Rattle.std.proofs.lemmas.List.{append-nil}
-use Rattle.sof_base.specs.Ports.{Io, drained}
+use Rattle.sof_base.specs.Ports.{Io}
+use Rattle.sof_base.specs.DrainedOutputs.{drained}
 use Rattle.stream_law.specs.State.{FwState}
 use Rattle.stream_law.specs.Past.{Moment, Boot, empty_view}
 use Rattle.mbox_link.specs.Calls.{World, Meaning, Led}

@@ -11,7 +11,7 @@ use Rattle.stream_law.specs.Placed.{Ascends, AreAbove}
 use Rattle.tplg_plan.specs.declared.plans.Plan.{Plan}
 use Rattle.tplg_plan.specs.declared.plans.ControlPlan.{ControlPlan}
 use Rattle.tplg_plan.specs.declared.plans.ControlKind.{ControlKind}
-use Rattle.tplg_plan.specs.declared.plans.ControlKind.TheVariants.{Volume, Choice, Blob}
+use Rattle.tplg_plan.specs.declared.plans.ControlKind.TheVariants.{Volume, Choice, Blob, Masks}
 use Rattle.tplg_plan.specs.declared.plans.StreamPlan.{StreamPlan}
 use Rattle.tplg_plan.specs.Sound.{IsSound, IsControlOf, IsLive, host_by, host_of}
 
@@ -27,6 +27,7 @@ record IsOther (cs : List Comp) (k : ControlPlan) : Type 0 where
 no-host : (kind : ControlKind) (of : Kind) (id : ℕ) → IsControlOf kind of → host_by of id ≡ None
 no-host (Volume min max channels lowest step mute) of id is = ap (λ (k : Kind). host_by k id) is.0
 no-host (Choice items) of id is = ap (λ (k : Kind). host_by k id) is.0
+no-host (Masks min max channels) of id is = ap (λ (k : Kind). host_by k id) is.0
 no-host (Blob most initial) of id is = ap (λ (k : Kind). host_by k id) is.0
 
 all-others : (g : Graph) (ks : List ControlPlan) → AllByRecursion (IsLive g) ks → AllByRecursion (IsOther g.comps) ks

@@ -1,12 +1,14 @@
 -- What a planned fate, a planned lag and a show do to a session.
 use Rattle.std.proofs.Common.{◌≡◌, refl, sym, ap, ◌∙◌, subst, ℕ, ◌+◌, Bool, true, false, List, [], Result, Ok, Err}
-use Rattle.sof_base.specs.Ports.{Io, drained}
+use Rattle.sof_base.specs.Ports.{Io}
+use Rattle.sof_base.specs.DrainedOutputs.{drained}
 use Rattle.mbox_link.specs.declared.fates.Entry.{Entry}
 use Rattle.mbox_link.specs.declared.fates.Fate.{Fate}
 use Rattle.mbox_link.specs.declared.fates.PlanFull.{PlanFull}
 use Rattle.mbox_link.specs.Calls.{World, Meaning}
 use Rattle.mbox_link.specs.Planned.{PlannedSo}
-use Rattle.mbox_link.specs.Meetings.{Doing, calm, has_room, has_lag_room, with_fate, with_lag}
+use Rattle.mbox_link.specs.Meetings.{Doing, has_room, has_lag_room, with_fate, with_lag}
+use Rattle.mbox_link.specs.CalmDevice.{calm}
 use Rattle.mbox_link.specs.Wire.{Wire}
 use Rattle.host_widgets.specs.declared.answers.Answer.{Answer}
 use Rattle.host_widgets.specs.declared.answers.Answer.TheVariants.{Show}

@@ -2,7 +2,8 @@
 use Rattle.std.proofs.Common.{◌≡◌, refl, ap, ◌∙◌, ℕ, Bool, suc, ◌+◌, ◌<◌, ◌≤◌, ◌^◌, ◌-◌, true, sym, subst, List, [], ◌∷◌, zip, length, Option, Some, None, arith}
 use Rattle.std.specs.List.{filter_map, cons_option, flat_map}
 use Rattle.std.proofs.lemmas.List.{length-map, length-append}
-use Rattle.sof_base.specs.Ports.{Io, drained}
+use Rattle.sof_base.specs.Ports.{Io}
+use Rattle.sof_base.specs.DrainedOutputs.{drained}
 use Rattle.stream_law.specs.State.{FwState}
 use Rattle.mbox_link.specs.Calls.{World, Meaning}
 use Rattle.mbox_link.specs.Wire.{Wire}
@@ -22,7 +23,8 @@ use Rattle.host_widgets.specs.declared.kept.StreamRec.{StreamRec}
 use Rattle.host_widgets.specs.HostActs.{Save}
 use Rattle.host_widgets.specs.ActLists.{go_down, stop_acts, stop_by}
 use Rattle.host_widgets.specs.Host.{Outcome}
-use Rattle.host_widgets.specs.Orders.{Carried, Order, Tested, suspending}
+use Rattle.host_widgets.specs.Orders.{Carried, Order, suspending}
+use Rattle.host_widgets.specs.TestedOrders.{Tested}
 use Rattle.host_widgets.proofs.StandingOn.{ReadsOn, reads-of}
 use Rattle.host_widgets.proofs.WalksHold.{Held, HeldBy, walk-holds}
 use Rattle.host_pm.specs.PowerTests.{suspend_fault}

@@ -29,7 +29,8 @@ use Rattle.host_widgets.proofs.SoundPlays.{sound-plays}
 use Rattle.host_pcm.specs.declared.asking.Ask.{Ask}
 use Rattle.host_pcm.specs.declared.asking.Ask.TheVariants.{Opening, Preparing, Triggering, Closing}
 use Rattle.host_pcm.specs.Asks.{stream_place, stream_at}
-use Rattle.host_pcm.specs.StreamOrders.{host_at, asking_order}
+use Rattle.host_pcm.specs.StreamOrders.{asking_order}
+use Rattle.host_pcm.specs.StreamCalls.{host_at}
 use Rattle.host_ctl.specs.ControlAsks.{named_control}
 use Rattle.host_ctl.specs.ControlOrders.{setting_order, installing_order, reading_order, named_at}
 use Rattle.sof_script.specs.declared.script.Command.{Command}

@@ -2,7 +2,8 @@
 use Rattle.std.proofs.Common.{◌≡◌, ⊎_elim, refl, sym, ap, ◌∙◌, subst, zero-add, ℕ, false, ◌+◌, ◌<◌, ◌≤◌, ◌^◌, ◌-◌, ◌%◌, List, [], ◌∷◌, ◌++◌, zip, length, Option, Some, None, Ok, Err, arith}
 use Rattle.std.specs.List.{AllByRecursion, flat_map, list_any}
 use Rattle.std.proofs.lemmas.List.{append-nil, length-append}
-use Rattle.sof_base.specs.Ports.{Io, drained}
+use Rattle.sof_base.specs.Ports.{Io}
+use Rattle.sof_base.specs.DrainedOutputs.{drained}
 use Rattle.sof_base.specs.declared.format.Params.{Params}
 use Rattle.stream_law.specs.State.{FwState, View, view_of}
 use Rattle.stream_law.specs.Ways.{is_live_phase}

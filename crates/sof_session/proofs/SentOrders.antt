@@ -19,7 +19,8 @@ use Rattle.host_widgets.proofs.WalksHold.{AreTaken}
 use Rattle.host_pcm.specs.declared.asking.Ask.{Ask}
 use Rattle.host_pcm.specs.declared.asking.Ask.TheVariants.{Opening, Preparing, Triggering, Closing}
 use Rattle.host_pcm.specs.Asks.{stream_place, stream_at, early_fault}
-use Rattle.host_pcm.specs.StreamOrders.{host_at, asking_order, opened_stream, shut, stream_order}
+use Rattle.host_pcm.specs.StreamOrders.{asking_order, stream_order}
+use Rattle.host_pcm.specs.StreamCalls.{host_at, opened_stream, shut}
 use Rattle.host_pcm.proofs.OrdersTaken.{asked-taken}
 
 few-closing : (host : ℕ) (found : Found) → length (close_by host found) ≤ 900

@@ -14,7 +14,8 @@ use Rattle.host_widgets.specs.declared.kept.Record.{Record}
 use Rattle.host_widgets.specs.HostActs.{Act}
 use Rattle.host_widgets.specs.ActCalls.{calls_of}
 use Rattle.host_widgets.specs.Host.{Outcome, Agrees}
-use Rattle.host_widgets.specs.Orders.{Order, Carried, Tested, sends}
+use Rattle.host_widgets.specs.Orders.{Order, Carried, sends}
+use Rattle.host_widgets.specs.TestedOrders.{Tested}
 use Rattle.sof_session.specs.Agreement.{AreAgreed, Powered}
 use Rattle.sof_session.specs.Seat.{Seat}
 use Rattle.sof_session.proofs.Agreement.{at}

@@ -1,13 +1,15 @@
 -- All that a step of a session says, by what its command did and what its call left as it was.
 use Rattle.std.proofs.Common.{◌≡◌, ◌+◌, ◌<◌, ◌≤◌, ◌^◌, false, ap, subst, sym, arith}
-use Rattle.sof_base.specs.Ports.{Io, drained}
+use Rattle.sof_base.specs.Ports.{Io}
+use Rattle.sof_base.specs.DrainedOutputs.{drained}
 use Rattle.sof_io.specs.Bound.{output_slots}
 use Rattle.mbox_link.specs.Calls.{Meaning, MovesBy}
 use Rattle.mbox_link.specs.Link.{link}
 use Rattle.host_widgets.specs.declared.answers.Answer.{Answer}
 use Rattle.sof_script.specs.declared.script.Command.{Command}
 use Rattle.sof_session.specs.Agreement.{AreAgreed}
-use Rattle.sof_session.specs.CommandRanges.{is_tick, most_sent}
+use Rattle.sof_session.specs.CommandRanges.{most_sent}
+use Rattle.sof_session.specs.Commands.{is_tick}
 use Rattle.sof_session.specs.CommandTests.{fault_of}
 use Rattle.sof_session.specs.Commands.{Known, is_plan, order_of}
 use Rattle.sof_session.specs.Fills.{input_ends}

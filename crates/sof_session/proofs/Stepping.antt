@@ -1,12 +1,14 @@
 -- What a command does to a session, from what it did on its link.
 use Rattle.std.proofs.Common.{◌≡◌, refl, sym, ap, ◌∙◌, subst, ℕ, ◌+◌, ◌<◌, ◌-◌, ◌^◌, Bool, false, List, [], ◌++◌, map, length, Option, Some, None}
-use Rattle.sof_base.specs.Ports.{Io, InputView, OutputView, drained}
+use Rattle.sof_base.specs.Ports.{Io, InputView, OutputView}
+use Rattle.sof_base.specs.DrainedOutputs.{drained}
 use Rattle.stream_law.specs.State.{FwState}
 use Rattle.stream_law.specs.Past.{Moment, Past, Leads}
 use Rattle.mbox_link.specs.Calls.{World, Meaning}
 use Rattle.mbox_link.specs.Wire.{Wire}
 use Rattle.mbox_link.specs.Link.{link}
-use Rattle.mbox_link.specs.Meetings.{Doing, calm}
+use Rattle.mbox_link.specs.Meetings.{Doing}
+use Rattle.mbox_link.specs.CalmDevice.{calm}
 use Rattle.tplg_plan.specs.declared.plans.Plan.{Plan}
 use Rattle.host_widgets.specs.declared.answers.Answer.{Answer}
 use Rattle.host_widgets.specs.declared.answers.Answer.TheVariants.{Fault}

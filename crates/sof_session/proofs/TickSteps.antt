@@ -1,14 +1,16 @@
 -- What a tick does to a session.
 use Rattle.std.proofs.Common.{◌≡◌, refl, sym, ap, subst, ℕ, [], ◌∷◌, Option, Some, Ok}
 use Rattle.std.proofs.lemmas.List.{append-nil}
-use Rattle.sof_base.specs.Ports.{Io, drained}
+use Rattle.sof_base.specs.Ports.{Io}
+use Rattle.sof_base.specs.DrainedOutputs.{drained}
 use Rattle.stream_law.specs.State.{FwState, view_of}
 use Rattle.stream_law.specs.Past.{Tick}
 use Rattle.stream_law.specs.Viewing.{IsPlayable}
 use Rattle.mbox_link.specs.Calls.{World, Meaning}
 use Rattle.mbox_link.specs.Wire.{Wire}
 use Rattle.mbox_link.specs.Link.{link}
-use Rattle.mbox_link.specs.Meetings.{calm, queue_of}
+use Rattle.mbox_link.specs.Meetings.{queue_of}
+use Rattle.mbox_link.specs.CalmDevice.{calm}
 use Rattle.tplg_plan.specs.Sound.{IsSound}
 use Rattle.host_widgets.specs.declared.answers.Answer.TheVariants.{Done}
 use Rattle.host_widgets.specs.declared.kept.Power.{Power}

@@ -1,7 +1,8 @@
 -- What an unload does to a session.
 use Rattle.std.proofs.Common.{◌≡◌, false, refl, sym, ap, ◌∙◌, subst, ◌+◌, ◌<◌, ◌-◌, ◌^◌, List, [], ◌∷◌, length, Option, Some, None, arith}
 use Rattle.std.proofs.lemmas.List.{append-nil}
-use Rattle.sof_base.specs.Ports.{Io, drained}
+use Rattle.sof_base.specs.Ports.{Io}
+use Rattle.sof_base.specs.DrainedOutputs.{drained}
 use Rattle.stream_law.specs.State.{FwState}
 use Rattle.stream_law.specs.Past.{Moment, Cut}
 use Rattle.mbox_link.specs.Calls.{World, Meaning}

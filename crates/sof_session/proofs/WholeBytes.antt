@@ -4,7 +4,7 @@ use Rattle.std.specs.Option.{option_map_or}
 use Rattle.std.proofs.lemmas.Bool.{cases_Bool, eqb-true, true≢false}
 use Rattle.std.proofs.lemmas.List.{append-nil}
 use Rattle.sof_base.specs.Ports.{InputView}
-use Rattle.sof_io.specs.Bound.{input_slots}
+use Rattle.sof_io.specs.Takes.{input_slots}
 use Rattle.stream_law.specs.Table.{list_of, number_of, updated}
 use Rattle.stream_law.specs.Ways.{buffers, source_of}
 use Rattle.stream_law.specs.Order.{is_among}

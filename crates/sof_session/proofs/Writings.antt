@@ -1,7 +1,8 @@
 -- What ticks leave of endpoints, and outputs to which nothing was written yet.
 use Rattle.std.proofs.Common.{◌≡◌, ℕ, zero, suc, ◌≤◌, Bool, List, [], ◌∷◌, ◌++◌, map, drop, length, refl, sym, ap, subst, ◌∙◌, arith}
 use Rattle.std.proofs.Math.Seq.{drop-append_seam}
-use Rattle.sof_base.specs.Ports.{Io, InputView, OutputView, HasRoom, drained}
+use Rattle.sof_base.specs.Ports.{Io, InputView, OutputView, HasRoom}
+use Rattle.sof_base.specs.DrainedOutputs.{drained}
 use Rattle.sof_io.specs.Bound.{output_slots}
 use Rattle.stream_law.specs.State.{FwState}
 use Rattle.stream_law.specs.Table.{list_of, number_of}

@@ -1,4 +1,4 @@
--- Which numbers a command may have, whether it makes ticks, and how many messages it sends.
+-- Which numbers a command may have, and how many messages it sends.
 use Rattle.std.specs.Prelude.{ℕ, nat_le, nat_lt, Bool, true, false, ◌&&◌, ℤ, pos, negsuc}
 use Rattle.sof_script.specs.declared.script.Command.{Command}
 use Rattle.sof_script.specs.declared.script.Command.TheVariants as commands
@@ -23,11 +23,6 @@ is_in_range (commands.Drop k) = is_ahead k
 is_in_range (commands.Lose k) = is_ahead k
 is_in_range (commands.Lag k ticks) = is_ahead k && is_lag ticks
 is_in_range command = true
-
--- whether a command itself is ticks
-abbrev pub is_tick : Command → Bool
-is_tick (commands.Tick n) = true
-is_tick command = false
 
 -- the most messages that a command sends: a tick sends none
 abbrev pub most_sent : Command → ℕ

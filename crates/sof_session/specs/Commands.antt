@@ -109,3 +109,8 @@ next plan heap doing known (commands.Lose k) =
 next plan heap doing known (commands.Lag k ticks) =
     let n = known.queue.sent + k in planned_where_room known (has_lag_room n ticks known.queue.entries) (with_lag n ticks known.queue.entries)
 next plan heap doing known command = tested plan heap doing known (order_of plan known.kept command) (fault_of plan known.kept command)
+
+-- whether a command itself is ticks
+abbrev pub is_tick : Command → Bool
+is_tick (commands.Tick n) = true
+is_tick command = false

@@ -1,8 +1,6 @@
 -- How a session's inputs are filled between its commands, and what bytes they may have as a whole.
 use Rattle.std.specs.Prelude.{◌≡◌, ◌==◌, ℕ, ◌≤◌, List, [], ◌∷◌, ◌++◌, map, length, Bool, false, not, Option, Some, if◌then◌else◌}
-use Rattle.std.specs.List.{AllByRecursion}
 use Rattle.sof_base.specs.Ports.{InputView}
-use Rattle.sof_io.specs.Takes.{new_input}
 use Rattle.sof_io.specs.Fills.{filled_at, ended_at, wanting}
 use Rattle.stream_law.specs.Table.{list_of}
 
@@ -28,10 +26,6 @@ bytes_read [] = []
 bytes_read ((slot, bytes) ∷ reads) = (slot, bytes ++ list_of (bytes_read reads) slot) ∷ bytes_read reads
 
 -- ---- inputs
-
--- inputs of which nothing was read yet
-abbrev pub AreNew : List InputView → Type 0
-AreNew inputs = AllByRecursion (λ (input : InputView). input ≡ new_input input.slot) inputs
 
 -- the slot of each input, and whether it has ended
 abbrev pub input_ends : List InputView → List (ℕ × Bool)

@@ -1,4 +1,5 @@
 pub mod Show
+pub mod ShownLines
 pub mod Seat
 pub mod CommandTests
 pub mod CommandRanges
@@ -8,6 +9,7 @@ pub mod SessionStep
 pub mod Agreement
 pub mod SessionCalls
 pub mod Fills
+pub mod NewInputs
 pub mod Lives
 pub mod RunOver
 pub mod RunLaws

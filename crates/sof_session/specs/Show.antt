@@ -1,11 +1,11 @@
 -- The lines that say how everything stands.
-use Rattle.std.specs.Prelude.{◌≡◌, ℕ, Bool, true, false, List, [], ◌∷◌, ◌++◌, map, get_or, codes, decimal, Option, Some, None, MatchOption}
-use Rattle.std.specs.List.{zip, slice_get}
+use Rattle.std.specs.Prelude.{ℕ, List, [], ◌∷◌, ◌++◌, map, get_or, codes, decimal, Option, Some, None}
+use Rattle.std.specs.List.{zip}
 use Rattle.sof_base.specs.declared.format.Format.{Format}
 use Rattle.sof_base.specs.declared.format.Format.TheVariants.{S16, S24, S32}
 use Rattle.sof_base.specs.declared.format.Params.{Params}
 use Rattle.stream_law.specs.declared.graph.Kind.{Kind}
-use Rattle.stream_law.specs.declared.graph.Kind.TheVariants.{HostPlay, HostCapture, DaiPlay, DaiCapture, Volume, Mixer, Mux, Eq}
+use Rattle.stream_law.specs.declared.graph.Kind.TheVariants.{HostPlay, HostCapture, DaiPlay, DaiCapture, Volume, Mixer, Mux, Eq, Demux}
 use Rattle.stream_law.specs.declared.graph.Comp.{Comp}
 use Rattle.stream_law.specs.declared.graph.Edge.{Edge}
 use Rattle.stream_law.specs.declared.graph.Pipe.{Pipe}
@@ -53,6 +53,7 @@ kind_words Volume = codes "volume"
 kind_words Mixer = codes "mixer"
 kind_words Mux = codes "mux"
 kind_words Eq = codes "eq"
+kind_words Demux = codes "demux"
 
 -- ---- widgets, by id
 
@@ -154,10 +155,6 @@ lines_by Off plan kept = loaded_lines plan kept
 -- the lines that `show` says, in order
 abbrev pub show_lines : Plan → Record → List (List ℕ)
 show_lines plan kept = power_words kept.power ∷ lines_by kept.power plan kept
-
--- whether there is a line of this number, counted from 0, and where there is, that it is this one
-abbrev pub IsLineAt : List (List ℕ) → ℕ → Bool → List ℕ → Type 0
-IsLineAt lines k there line = MatchOption (slice_get lines k) (there ≡ false) (λ text. (there ≡ true) × (line ≡ text))
 
 -- the lines that a command shows
 abbrev pub shown_by : Command → Plan → Record → List (List ℕ)

@@ -1,6 +1,7 @@
 // A host with its device behind a link.
 ghost use Rattle.std.specs.Prelude.{◌≡◌, ℕ, ◌+◌, ◌<◌, ◌≤◌, ◌^◌, true, false, length, MatchResult};
-ghost use Rattle.sof_base.specs.Ports.{Io, HasRoom, drained};
+ghost use Rattle.sof_base.specs.Ports.{Io, HasRoom};
+ghost use Rattle.sof_base.specs.DrainedOutputs.{drained};
 ghost use Rattle.mbox_link.specs.Calls.{MovesBy, world};
 ghost use Rattle.mbox_link.specs.Fates.{IsMeant};
 ghost use Rattle.mbox_link.specs.Link.{link};
@@ -13,12 +14,14 @@ ghost use Rattle.host_ctl.specs.ControlAsks.{set_fault, bytes_fault, get_fault, 
 ghost use Rattle.host_ctl.specs.ControlOrders.{set_order, bytes_order, get_order, read_order};
 ghost use Rattle.sof_io.specs.Bound.{output_slots};
 ghost use Rattle.sof_session.specs.Agreement.{AreAgreed};
-ghost use Rattle.sof_session.specs.CommandRanges.{is_in_range, is_tick, most_sent};
+ghost use Rattle.sof_session.specs.CommandRanges.{is_in_range, most_sent};
+ghost use Rattle.sof_session.specs.Commands.{is_tick};
 ghost use Rattle.sof_session.specs.Fills.{input_ends};
 ghost use Rattle.sof_session.specs.Seat.{new_seat};
 ghost use Rattle.sof_session.specs.SessionCalls.{Stays, CallRan, LoadRan, ResumeRan, PlanRan, LagRan, ports};
 ghost use Rattle.sof_session.specs.SessionStep.{CommandDone};
-ghost use Rattle.sof_session.specs.Show.{show_lines, IsLineAt};
+ghost use Rattle.sof_session.specs.Show.{show_lines};
+ghost use Rattle.sof_session.specs.ShownLines.{IsLineAt};
 
 use crate::answers::{answer_of, plan_answer, told_answer};
 use crate::show::show_line;

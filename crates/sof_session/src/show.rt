@@ -4,6 +4,7 @@ ghost use Rattle.std.specs.Option.{option_copied};
 ghost use Rattle.stream_law.specs.Ways as ways;
 ghost use Rattle.host_widgets.specs.Acts.{pipe_by_id};
 ghost use Rattle.sof_session.specs.Show as show;
+ghost use Rattle.sof_session.specs.ShownLines as shown_lines;
 
 use crate::words::{say_end, say_format, say_found, say_kind, say_params, write_power};
 use host_widgets::{ControlRec, Power, Record, StreamRec};
@@ -137,7 +138,7 @@ fn write_stream(plan: &Plan, stream: &StreamPlan, kept: &StreamRec, line: &mut L
 
 // Writes the k-th of the lines of the streams, and answers whether there is one.
 fn write_kth_stream(plan: &Plan, kept: &Record, k: usize, line: &mut Line) -> bool
-    ensures line { show.IsLineAt (show.stream_lines plan.now kept.now) k result line.new }
+    ensures line { shown_lines.IsLineAt (show.stream_lines plan.now kept.now) k result line.new }
     ensures short { result ≡ true → length line.new < 2304 }
 {
     let Some(stream) = plan.streams.items().get(k) else {
@@ -172,7 +173,7 @@ fn write_control(plan: &Plan, control: &ControlPlan, held: &ControlRec, line: &m
 
 // Writes the k-th of the lines of the live controls, and answers whether there is one.
 fn write_kth_control(plan: &Plan, kept: &Record, k: usize, line: &mut Line) -> bool
-    ensures line { show.IsLineAt (show.control_lines plan.now kept.now) k result line.new }
+    ensures line { shown_lines.IsLineAt (show.control_lines plan.now kept.now) k result line.new }
     ensures short { result ≡ true → length line.new < 2304 }
 {
     let Some(control) = plan.controls.items().get(k) else {
@@ -187,7 +188,7 @@ fn write_kth_control(plan: &Plan, kept: &Record, k: usize, line: &mut Line) -> b
 
 // The same of the lines of the streams and then of the live controls.
 fn write_kth_state(plan: &Plan, kept: &Record, k: usize, line: &mut Line) -> bool
-    ensures line { show.IsLineAt (show.state_lines plan.now kept.now) k result line.new }
+    ensures line { shown_lines.IsLineAt (show.state_lines plan.now kept.now) k result line.new }
     ensures short { result ≡ true → length line.new < 2304 }
 {
     let streams = plan.streams.items().len().min(kept.streams.items().len());
@@ -199,7 +200,7 @@ fn write_kth_state(plan: &Plan, kept: &Record, k: usize, line: &mut Line) -> boo
 
 // The same of the lines of the edges and then of these.
 fn write_kth_edge(plan: &Plan, kept: &Record, k: usize, line: &mut Line) -> bool
-    ensures line { show.IsLineAt (show.edge_lines plan.now kept.now) k result line.new }
+    ensures line { shown_lines.IsLineAt (show.edge_lines plan.now kept.now) k result line.new }
     ensures short { result ≡ true → length line.new < 2304 }
 {
     let edges = plan.graph.edges.items();
@@ -212,7 +213,7 @@ fn write_kth_edge(plan: &Plan, kept: &Record, k: usize, line: &mut Line) -> bool
 
 // The same of all lines where the plan is loaded.
 fn write_kth_loaded(plan: &Plan, kept: &Record, k: u32, line: &mut Line) -> bool
-    ensures line { show.IsLineAt (show.loaded_lines plan.now kept.now) k result line.new }
+    ensures line { shown_lines.IsLineAt (show.loaded_lines plan.now kept.now) k result line.new }
     ensures short { result ≡ true → length line.new < 2304 }
 {
     let widgets = plan.widgets.items().len();
@@ -225,7 +226,7 @@ fn write_kth_loaded(plan: &Plan, kept: &Record, k: u32, line: &mut Line) -> bool
 
 /// Writes the k-th of the lines that say how everything stands, from 0, and answers whether there is one.
 pub fn show_line(plan: &Plan, kept: &Record, k: u32, line: &mut Line) -> bool
-    ensures line { show.IsLineAt (show.show_lines plan.now kept.now) k result line.new }
+    ensures line { shown_lines.IsLineAt (show.show_lines plan.now kept.now) k result line.new }
     ensures short { result ≡ true → length line.new < 2304 }
 {
     if k == 0 {

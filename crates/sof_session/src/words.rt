@@ -53,6 +53,7 @@ pub fn say_kind(kind: Kind, line: &mut Line)
         Kind::Mixer => line.say(b"mixer"),
         Kind::Mux => line.say(b"mux"),
         Kind::Eq => line.say(b"eq"),
+        Kind::Demux => line.say(b"demux"),
     }
 }
 

@@ -2,7 +2,7 @@
 use Rattle.std.specs.Prelude.{ℕ, List, [], ◌∷◌, ◌++◌, codes, map, replicate}
 use Rattle.std.specs.List.{concat}
 use Rattle.stream_law.specs.Past.{Moment}
-use Rattle.mbox_link.specs.Meetings.{calm}
+use Rattle.mbox_link.specs.CalmDevice.{calm}
 use Rattle.tplg_plan.specs.declared.plans.Plan.{Plan}
 use Rattle.tplg_model.specs.declared.tokens.TokenArray.{TokenArray}
 use Rattle.tplg_model.specs.declared.tokens.TokenArray.TheVariants.{Number, Text}
@@ -17,12 +17,13 @@ use Rattle.tplg_model.specs.declared.block.Route.{Route}
 use Rattle.tplg_model.specs.Spelling.{BlockValue}
 use Rattle.tplg_graph.specs.PlanOf.{plan_of}
 use Rattle.sof_script.specs.declared.script.Command.TheVariants.{Load, Show}
-use Rattle.sof_script.specs.Commands.{numbered_from}
+use Rattle.sof_script.specs.ScriptRead.{numbered_from}
 use Rattle.sof_script.specs.declared.script.Numbered.{Numbered}
 use Rattle.sof_session.specs.Commands.{Known, first_known, next}
 use Rattle.sof_session.specs.Show.{shown_by}
 use Rattle.sof_session.specs.Written.{boots_in}
-use Rattle.sof_run.specs.Lines.{with_newline, spoken}
+use Rattle.sof_run.specs.Lines.{with_newline}
+use Rattle.sof_run.specs.LineParts.{spoken}
 
 -- one number
 abbrev pub number : ℕ → ℕ → TokenArray

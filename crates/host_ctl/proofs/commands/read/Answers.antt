@@ -3,7 +3,8 @@ use Rattle.mbox_link.specs.Calls.{World, world}
 use Rattle.host_widgets.specs.Sides.{world_of}
 use Rattle.host_widgets.specs.declared.answers.Answer.{Answer}
 use Rattle.host_widgets.specs.declared.kept.Record.{Record}
-use Rattle.host_widgets.specs.Orders.{Order, Carried, Tested}
+use Rattle.host_widgets.specs.Orders.{Order, Carried}
+use Rattle.host_widgets.specs.TestedOrders.{Tested}
 use Rattle.host_ctl.specs.ControlAsks.{read_fault}
 use Rattle.host_ctl.specs.ControlOrders.{ask_acts, read_order, control_answer}
 use Rattle.host_ctl.specs.ControlAnswers.{outcome_of, Shows}

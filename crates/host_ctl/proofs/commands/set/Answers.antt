@@ -3,7 +3,8 @@ use Rattle.mbox_link.specs.Calls.{World, world}
 use Rattle.host_widgets.specs.Sides.{world_of}
 use Rattle.tplg_plan.specs.declared.plans.ControlPlan.{ControlPlan}
 use Rattle.host_widgets.specs.declared.kept.Record.{Record}
-use Rattle.host_widgets.specs.Orders.{Order, Carried, Tested}
+use Rattle.host_widgets.specs.Orders.{Order, Carried}
+use Rattle.host_widgets.specs.TestedOrders.{Tested}
 use Rattle.host_ctl.specs.ControlAsks.{channels_of, spread, set_fault}
 use Rattle.host_ctl.specs.ControlOrders.{put_order, set_order}
 use Rattle.host_ctl.specs.ControlAnswers.{MaySet}

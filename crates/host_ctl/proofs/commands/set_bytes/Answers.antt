@@ -2,7 +2,8 @@ use Rattle.std.proofs.Common.{subst, rules}
 use Rattle.mbox_link.specs.Calls.{World, world}
 use Rattle.host_widgets.specs.Sides.{world_of}
 use Rattle.host_widgets.specs.declared.kept.Record.{Record}
-use Rattle.host_widgets.specs.Orders.{Order, Carried, Tested}
+use Rattle.host_widgets.specs.Orders.{Order, Carried}
+use Rattle.host_widgets.specs.TestedOrders.{Tested}
 use Rattle.host_ctl.specs.ControlAsks.{bytes_fault}
 use Rattle.host_ctl.specs.ControlOrders.{bytes_order}
 use Rattle.host_ctl.specs.ControlPlaces.{control_here}

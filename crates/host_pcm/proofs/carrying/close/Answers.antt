@@ -5,7 +5,7 @@ use Rattle.host_widgets.specs.HostRecord.{closed}
 use Rattle.host_widgets.specs.Host.{Agrees}
 use Rattle.host_widgets.specs.Orders.{Carried}
 use Rattle.host_pcm.specs.declared.asking.Ask.TheVariants.{Closing}
-use Rattle.host_pcm.specs.StreamOrders.{place_order}
+use Rattle.host_pcm.specs.StreamCalls.{place_order}
 use Rattle.host_pcm.proofs.AtRest.{idle-while-off, close-carried, rest-agrees}
 use Rattle.host_pcm.proofs.carrying.close.Goals as goal
 

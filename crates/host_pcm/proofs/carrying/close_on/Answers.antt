@@ -9,7 +9,7 @@ use Rattle.host_widgets.specs.Host.{Agrees}
 use Rattle.host_widgets.specs.Orders.{Carried}
 use Rattle.host_pcm.specs.declared.asking.Ask.TheVariants.{Closing}
 use Rattle.host_pcm.specs.Asks.{stream_at}
-use Rattle.host_pcm.specs.StreamOrders.{place_order}
+use Rattle.host_pcm.specs.StreamCalls.{place_order}
 use Rattle.host_pcm.proofs.AtRest.{is_idle, idle-from, close-carried, rest-agrees}
 use Rattle.host_pcm.proofs.OneOrders.{free-closes}
 use Rattle.host_pcm.proofs.carrying.close_on.Goals as goal

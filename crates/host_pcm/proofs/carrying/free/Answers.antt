@@ -5,7 +5,7 @@ use Rattle.host_widgets.specs.declared.kept.Record.{Record}
 use Rattle.host_widgets.specs.HostActs.{Free}
 use Rattle.host_widgets.specs.Host.{Outcome, Agrees}
 use Rattle.host_widgets.proofs.Walks.{handed_on}
-use Rattle.host_pcm.specs.StreamOrders.{host_at}
+use Rattle.host_pcm.specs.StreamCalls.{host_at}
 use Rattle.host_widgets.specs.ActCarried.{ActCarried}
 use Rattle.host_widgets.proofs.PlannedStreams.{place-stream}
 use Rattle.host_pcm.proofs.StreamCalls.{free-done, free-ended}

@@ -4,7 +4,7 @@ use Rattle.tplg_plan.specs.declared.plans.StreamPlan.{StreamPlan}
 use Rattle.host_widgets.specs.HostActs.{Prepare}
 use Rattle.host_widgets.specs.Host.{Outcome}
 use Rattle.host_widgets.proofs.Walks.{handed_on}
-use Rattle.host_pcm.specs.StreamOrders.{host_at}
+use Rattle.host_pcm.specs.StreamCalls.{host_at}
 use Rattle.host_widgets.specs.ActCarried.{ActCarried}
 use Rattle.host_widgets.proofs.PlannedStreams.{place-stream}
 use Rattle.host_pcm.proofs.StreamCalls.{params-done, params-ended}

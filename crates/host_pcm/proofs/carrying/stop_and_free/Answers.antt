@@ -8,7 +8,7 @@ use Rattle.host_widgets.specs.Host.{Agrees, Outcome}
 use Rattle.host_widgets.specs.Orders.{Carried}
 use Rattle.host_widgets.proofs.Walks.{handed_on}
 use Rattle.host_pcm.specs.declared.asking.Ask.TheVariants.{Closing}
-use Rattle.host_pcm.specs.StreamOrders.{host_at, place_order}
+use Rattle.host_pcm.specs.StreamCalls.{host_at, place_order}
 use Rattle.host_widgets.specs.ActCarried.{ActCarried}
 use Rattle.host_widgets.proofs.OneOrder.{act-room}
 use Rattle.host_pcm.proofs.OneOrders.{stop-failed, stopped-power, stopped-found, stop-then}

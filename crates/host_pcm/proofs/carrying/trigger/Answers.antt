@@ -6,7 +6,7 @@ use Rattle.host_widgets.specs.HostRecord.{closed}
 use Rattle.host_widgets.specs.HostActs.{Trig}
 use Rattle.host_widgets.specs.Host.{Outcome}
 use Rattle.host_widgets.proofs.Walks.{handed_on}
-use Rattle.host_pcm.specs.StreamOrders.{host_at}
+use Rattle.host_pcm.specs.StreamCalls.{host_at}
 use Rattle.host_widgets.specs.ActCarried.{ActCarried}
 use Rattle.host_widgets.proofs.PlannedStreams.{place-stream}
 use Rattle.host_pcm.proofs.StreamCalls.{trigger-done, trigger-ended}

@@ -3,7 +3,7 @@ use Rattle.mbox_link.specs.Calls.{World, world}
 use Rattle.host_widgets.specs.Sides.{world_of}
 use Rattle.host_widgets.specs.declared.kept.Record.{Record}
 use Rattle.host_pcm.specs.declared.asking.Ask.TheVariants.{Closing}
-use Rattle.host_pcm.specs.StreamOrders.{Asked}
+use Rattle.host_pcm.specs.StreamCalls.{Asked}
 use Rattle.host_pcm.proofs.HostTests.{found_place}
 use Rattle.host_pcm.proofs.AsksCarried.{carried-asked, prepared-asked, triggered-asked, opened-asked, opened-agrees}
 use Rattle.host_pcm.proofs.commands.ask.Goals as goal

@@ -6,7 +6,7 @@ use Rattle.mbox_link.specs.Calls.{world}
 use Rattle.host_widgets.specs.ActLists.{bring_up, bring_back, prepare_acts}
 use Rattle.host_widgets.specs.Host.{Outcome}
 use Rattle.host_widgets.specs.Bringing.{BroughtUp, ticks_put}
-use Rattle.host_widgets.specs.Orders.{ActsCame}
+use Rattle.host_widgets.specs.TestedOrders.{ActsCame}
 use Rattle.host_widgets.specs.declared.kept.Record.{Record}
 use Rattle.host_widgets.proofs.SilentTicks.{AreInputs}
 use Rattle.host_widgets.proofs.Walks.{did-on, did-room, handed_on}

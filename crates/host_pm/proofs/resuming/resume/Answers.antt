@@ -4,7 +4,8 @@ use Rattle.mbox_link.specs.Calls.{World, world}
 use Rattle.host_widgets.specs.declared.answers.HostFault.TheVariants.{NotLoaded, State}
 use Rattle.host_widgets.specs.declared.kept.Found.TheVariants.{On}
 use Rattle.host_widgets.specs.declared.kept.Record.{Record}
-use Rattle.host_widgets.specs.Orders.{Tested, resuming}
+use Rattle.host_widgets.specs.Orders.{resuming}
+use Rattle.host_widgets.specs.TestedOrders.{Tested}
 use Rattle.host_widgets.proofs.LoadOrders.{told-early, done-late}
 use Rattle.host_pm.specs.PowerTests.{resume_fault}
 use Rattle.host_pm.proofs.resuming.resume.Goals as goal

@@ -3,7 +3,8 @@ use Rattle.host_widgets.specs.Sides.{world_of}
 use Rattle.mbox_link.specs.Calls.{World, world}
 use Rattle.host_widgets.specs.declared.answers.HostFault.TheVariants.{NotLoaded, Off}
 use Rattle.host_widgets.specs.declared.kept.Record.{Record}
-use Rattle.host_widgets.specs.Orders.{Tested, suspending}
+use Rattle.host_widgets.specs.Orders.{suspending}
+use Rattle.host_widgets.specs.TestedOrders.{Tested}
 use Rattle.host_widgets.proofs.LoadOrders.{told-early, done-late}
 use Rattle.host_pm.specs.PowerTests.{suspend_fault}
 use Rattle.host_pm.proofs.suspending.suspend.Goals as goal

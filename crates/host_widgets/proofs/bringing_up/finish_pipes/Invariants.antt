@@ -1,7 +1,7 @@
 use Rattle.std.proofs.Common.{take, map}
 use Rattle.mbox_link.specs.Calls.{world}
 use Rattle.host_widgets.specs.HostActs.{Finish}
-use Rattle.host_widgets.specs.ActCalls.{ActsSent}
+use Rattle.host_widgets.specs.ActCarried.{ActsSent}
 use Rattle.host_widgets.proofs.Walks.{passing}
 use Rattle.host_widgets.proofs.bringing_up.finish_pipes.Given as goal
 

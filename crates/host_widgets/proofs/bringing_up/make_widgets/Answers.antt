@@ -7,7 +7,7 @@ use Rattle.tplg_plan.specs.declared.plans.Plan.{Plan}
 use Rattle.ipc3_model.specs.declared.message.Message.{Message}
 use Rattle.ipc3_model.specs.Messages.{message_spelling}
 use Rattle.host_widgets.specs.Bringing.{Sent}
-use Rattle.host_widgets.specs.ActCalls.{ActsSent}
+use Rattle.host_widgets.specs.ActCarried.{ActsSent}
 use Rattle.host_widgets.specs.HostActs.{Act, Make}
 use Rattle.host_widgets.specs.Acts.{widget_ids, no_words, make_message}
 use Rattle.host_widgets.specs.ActMessages.{act_message}

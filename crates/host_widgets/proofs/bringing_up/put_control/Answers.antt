@@ -9,7 +9,7 @@ use Rattle.host_widgets.specs.ActLists.{part_acts, control_acts}
 use Rattle.host_widgets.specs.ActMessages.{act_message}
 use Rattle.host_widgets.specs.Host.{Outcome}
 use Rattle.host_widgets.specs.Bringing.{Sent}
-use Rattle.host_widgets.specs.ActCalls.{ActsSent}
+use Rattle.host_widgets.specs.ActCarried.{ActsSent}
 use Rattle.host_widgets.proofs.Walks.{passing, failing, sent-one, handed_on}
 use Rattle.host_widgets.proofs.FirstSettings.{put-acts, put-message, blob-acts}
 use Rattle.host_widgets.proofs.bringing_up.put_control.Goals as goal

@@ -8,7 +8,7 @@ use Rattle.host_widgets.specs.declared.kept.ControlRec.{ControlRec}
 use Rattle.host_widgets.specs.Controls.{control_of}
 use Rattle.host_widgets.specs.ActLists.{control_acts}
 use Rattle.host_widgets.specs.Kept.{controls_of}
-use Rattle.host_widgets.specs.ActCalls.{ActsSent}
+use Rattle.host_widgets.specs.ActCarried.{ActsSent}
 use Rattle.host_widgets.proofs.ControlLists.{Pair, same-length, pairs-long, pair-at}
 use Rattle.host_widgets.proofs.Walks.{passing, sent-on, sent-room, sent-all, sent-stops, handed_on}
 use Rattle.host_widgets.proofs.Loadables.{is-first, initial-here}

@@ -8,7 +8,7 @@ use Rattle.host_widgets.specs.ActLists.{control_acts}
 use Rattle.host_widgets.specs.declared.kept.Record.{Record}
 use Rattle.host_widgets.specs.Kept.{controls_of}
 use Rattle.host_widgets.specs.Host.{Outcome}
-use Rattle.host_widgets.specs.ActCalls.{ActsSent}
+use Rattle.host_widgets.specs.ActCarried.{ActsSent}
 use Rattle.host_widgets.proofs.Walks.{failing, sent-on, sent-room, sent-then, sent-ended, handed_on}
 use Rattle.host_widgets.proofs.bringing_up.send_list.Goals as goal
 

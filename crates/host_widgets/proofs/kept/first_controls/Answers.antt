@@ -1,7 +1,8 @@
 use Rattle.std.proofs.Common.{◌≡◌, ◌∙◌, sym, ap, subst, map, take, ◌++◌, ◌∷◌, [], get_or, List, length, ◌<◌, ◌≤◌, arith}
 use Rattle.std.proofs.lemmas.List.{take_more, take_all, map-append}
 use Rattle.tplg_plan.specs.declared.plans.ControlPlan.{ControlPlan}
-use Rattle.host_widgets.specs.Controls.{HasFew, first_blob}
+use Rattle.host_widgets.specs.Controls.{first_blob}
+use Rattle.host_widgets.specs.FewValues.{HasFew}
 use Rattle.host_widgets.specs.Kept.{first_control}
 use Rattle.host_widgets.proofs.Loadables.{has-few, few-bytes}
 use Rattle.host_widgets.proofs.kept.first_controls.Goals as goal

@@ -9,7 +9,8 @@ use Rattle.host_widgets.specs.declared.kept.Record.{Record}
 use Rattle.host_widgets.specs.Kept.{first_record}
 use Rattle.host_widgets.specs.Host.{Agrees, Sides}
 use Rattle.host_widgets.specs.Bringing.{SucceedsExactly}
-use Rattle.host_widgets.specs.Orders.{Tested, fault_of_load, loading}
+use Rattle.host_widgets.specs.Orders.{fault_of_load, loading}
+use Rattle.host_widgets.specs.TestedOrders.{Tested}
 use Rattle.host_widgets.proofs.LoadOrders.{told-early, done-late}
 use Rattle.host_widgets.proofs.LoadEnds.{load-agrees, load-exactly}
 use Rattle.host_widgets.proofs.loading.load.Goals as goal

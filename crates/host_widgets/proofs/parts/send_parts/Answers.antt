@@ -8,7 +8,7 @@ use Rattle.mbox_link.specs.BlobParts.{blob_part, part_numbers, parts}
 use Rattle.mbox_link.specs.Calls.{world}
 use Rattle.host_widgets.specs.ActLists.{part_acts}
 use Rattle.host_widgets.specs.Bringing.{Sent}
-use Rattle.host_widgets.specs.ActCalls.{ActsSent}
+use Rattle.host_widgets.specs.ActCarried.{ActsSent}
 use Rattle.host_widgets.specs.HostActs.{Act, Part}
 use Rattle.host_widgets.specs.WalkRows.{one_plan}
 use Rattle.host_widgets.proofs.Walks.{passing, sent-on, sent-room, sent-more, sent-ends, handed_on}

@@ -2,7 +2,7 @@ use Rattle.std.proofs.Common.{take}
 use Rattle.mbox_link.specs.Calls.{world}
 use Rattle.tplg_plan.specs.declared.plans.Plan.{Plan}
 use Rattle.host_widgets.specs.ActLists.{part_acts}
-use Rattle.host_widgets.specs.ActCalls.{ActsSent}
+use Rattle.host_widgets.specs.ActCarried.{ActsSent}
 use Rattle.host_widgets.proofs.Walks.{passing}
 use Rattle.host_widgets.proofs.parts.send_parts.Given as goal
 

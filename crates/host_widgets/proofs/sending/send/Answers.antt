@@ -1,6 +1,6 @@
 use Rattle.std.proofs.Common.{◌≡◌, take, List, ℕ, subst}
 use Rattle.mbox_link.specs.Calls.{world, Exchanged}
-use Rattle.mbox_link.specs.Exchange.{answered}
+use Rattle.mbox_link.specs.AnswerBytes.{answered}
 use Rattle.ipc3_model.specs.Messages.{message_spelling}
 use Rattle.host_widgets.proofs.Exchanges.{sent}
 use Rattle.host_widgets.proofs.sending.send.Goals as goal

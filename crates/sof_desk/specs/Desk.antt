@@ -75,10 +75,8 @@ Took means usage old new = TookFile means usage old new ⊎ SameUses means old n
 -- what a call takes: a create a file to be written, an open one to be read, and any other call none
 abbrev pub TookFor : {D : Type 0} → DeskMeaning D → DeskAct → (done : Bool) → D → D → Type 0
 TookFor means (Create slot name) true old new = Took means ToWrite old new
-TookFor means (Create slot name) false old new = SameUses means old new
-TookFor means (Put place piece) done old new = SameUses means old new
 TookFor means (Open slot name) true old new = Took means ToRead old new
-TookFor means (Open slot name) false old new = SameUses means old new
+TookFor means _ _ old new = SameUses means old new
 
 -- what a load does: it answers, takes its file to be read, writes nothing and opens nothing
 pub record Loaded {D : Type 0} (means : DeskMeaning D) (name : List ℕ) (limit : ℕ) (heard : Heard) (old new : D) : Type 0 where
@@ -93,15 +91,13 @@ pub record Loaded {D : Type 0} (means : DeskMeaning D) (name : List ℕ) (limit 
 
 -- some bytes more, where they are told
 abbrev pub with_more : Option (List ℕ) → List ℕ → Option (List ℕ)
-with_more None more = None
-with_more (Some bytes) more = Some (bytes ++ more)
+with_more told more = option_map (λ bytes. bytes ++ more) told
 
 -- whether two places are the same
 abbrev pub same_place : DeskPlace → DeskPlace → Bool
 same_place Spoken Spoken = true
-same_place Spoken (Slot m) = false
-same_place (Slot n) Spoken = false
 same_place (Slot n) (Slot m) = nat_eq n m
+same_place _ _ = false
 
 -- the whole piece where the call was done, else a prefix of it
 abbrev pub Part : Bool → List ℕ → List ℕ → Type 0
@@ -110,14 +106,12 @@ Part false part piece = (rest : List ℕ) × (part ++ rest ≡ piece)
 
 -- the bytes that a call may write: the piece or a prefix of it for a put, and none for any other
 abbrev pub Takes : DeskAct → Bool → List ℕ → Type 0
-Takes (Create slot name) done part = part ≡ []
 Takes (Put place piece) done part = Part done part piece
-Takes (Open slot name) done part = part ≡ []
+Takes _ done part = part ≡ []
 
 -- nothing more, where it is told
 abbrev pub with_nothing : Option (List ℕ) → Option (List ℕ)
-with_nothing None = None
-with_nothing (Some bytes) = Some []
+with_nothing told = option_map (λ bytes. []) told
 
 -- what is written at a place after a call that wrote this part
 abbrev pub written_after : DeskAct → Bool → List ℕ → DeskPlace → Option (List ℕ) → Option (List ℕ)
@@ -128,20 +122,17 @@ written_after (Open slot name) done part place bytes = bytes
 -- whether a slot is created after a call
 abbrev pub created_after : DeskAct → Bool → ℕ → Bool → Bool
 created_after (Create slot name) done other was = if done then (if nat_eq slot other then true else was) else was
-created_after (Put to piece) done other was = was
-created_after (Open slot name) done other was = was
+created_after _ done other was = was
 
 -- whether a slot is open after a call
 abbrev pub opened_after : DeskAct → Bool → ℕ → Bool → Bool
-opened_after (Create slot name) done other was = was
-opened_after (Put to piece) done other was = was
 opened_after (Open slot name) done other was = if done then (if nat_eq slot other then true else was) else was
+opened_after _ done other was = was
 
 -- what is still to be read of a slot after a call: all that the name gives where the slot was opened, also anew
 abbrev pub unread_after : (List ℕ → Option (List ℕ)) → DeskAct → Bool → ℕ → Option (List ℕ) → Option (List ℕ)
-unread_after holds (Create slot name) done other bytes = bytes
-unread_after holds (Put to piece) done other bytes = bytes
 unread_after holds (Open slot name) done other bytes = if done then (if nat_eq slot other then holds name else bytes) else bytes
+unread_after holds _ done other bytes = bytes
 
 -- what a call does that answers only whether it was done: it fails only where the count rose
 pub record Acted {D : Type 0} (means : DeskMeaning D) (act : DeskAct) (done : Bool) (old new : D) : Type 0 where

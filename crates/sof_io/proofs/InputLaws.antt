@@ -3,9 +3,11 @@ use Rattle.std.proofs.Common.{◌≡◌, ◌≢◌, ℕ, ◌+◌, ◌-◌, ◌<�
 use Rattle.std.proofs.lemmas.Bool.{cases_Bool, eqb-true, ne_eqb, or_parts}
 use Rattle.std.proofs.lemmas.List.{drop-drop, drop_all}
 use Rattle.sof_base.specs.Ports.{InputView, moved_on}
-use Rattle.sof_io.specs.Bound.{input_slots, has_slot}
+use Rattle.sof_io.specs.Bound.{has_slot}
+use Rattle.sof_io.specs.Takes.{input_slots}
 use Rattle.sof_io.specs.Takes.{after_input, next_bytes, left_at, position_at, bytes_given, taken}
-use Rattle.sof_io.specs.Fills.{with_input, held_at, has_ended, filled_at, ended_at}
+use Rattle.sof_io.specs.Fills.{with_input, filled_at, ended_at}
+use Rattle.sof_io.specs.Takes.{held_at, has_ended}
 use Rattle.sof_io.proofs.Ascending.{slots_with, has_slot-slots_with}
 use Rattle.sof_io.proofs.NextBytes.{length-next_bytes, next_bytes-none, next_bytes-more, next_bytes-at}
 

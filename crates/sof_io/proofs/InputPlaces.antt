@@ -3,9 +3,13 @@ use Rattle.std.proofs.Common.{◌≡◌, ℕ, Bool, false, ◌||◌, cond, eqb, 
 use Rattle.std.proofs.lemmas.Bool.{cases_Bool}
 use Rattle.std.specs.List.{list_any, position, insert}
 use Rattle.sof_base.specs.Ports.{InputView}
-use Rattle.sof_io.specs.Bound.{input_slots, has_slot}
-use Rattle.sof_io.specs.Takes.{new_input, after_input, next_bytes, left_at, bytes_given, taken}
-use Rattle.sof_io.specs.Fills.{with_input, has_ended, fuller_input, filled_at, ended_input, ended_at, is_wanting, wanting}
+use Rattle.sof_io.specs.Bound.{has_slot}
+use Rattle.sof_io.specs.Takes.{input_slots}
+use Rattle.sof_io.specs.Takes.{after_input, next_bytes, left_at, bytes_given, taken}
+use Rattle.sof_io.specs.Fills.{new_input}
+use Rattle.sof_io.specs.Fills.{with_input, filled_at, ended_at, wanting}
+use Rattle.sof_io.specs.Takes.{fuller_input, ended_input, is_wanting}
+use Rattle.sof_io.specs.Takes.{has_ended}
 use Rattle.sof_io.proofs.Places.{place, some_place, first_of, changed, first_of-found, changed-found, first_of-missing, changed-missing}
 use Rattle.sof_io.proofs.NextBytes.{next_bytes-none}
 

@@ -1,9 +1,11 @@
 -- The outputs after a piece was put, a slot was added, or all were drained.
 use Rattle.std.proofs.Common.{◌≡◌, ◌≢◌, ℕ, ◌+◌, ◌-◌, ◌^◌, true, false, ◌||◌, eqb, ltb, if◌then◌else◌, List, [], ◌∷◌, ◌++◌, length, refl, sym, ap, ◌∙◌, inl, inr, arith, length-append, append_assoc}
 use Rattle.std.proofs.lemmas.Bool.{cases_Bool, eqb-true, ne_eqb, or_parts}
-use Rattle.sof_base.specs.Ports.{OutputView, drained}
+use Rattle.sof_base.specs.Ports.{OutputView}
+use Rattle.sof_base.specs.DrainedOutputs.{drained}
 use Rattle.sof_io.specs.Bound.{output_slots, has_slot}
-use Rattle.sof_io.specs.Puts.{new_output, with_slot, bytes_at, room_at, with_piece}
+use Rattle.sof_io.specs.Puts.{bytes_at, room_at, with_piece}
+use Rattle.sof_io.specs.Bound.{new_output, with_slot}
 use Rattle.sof_io.proofs.Ascending.{slots_with, has_slot-slots_with}
 
 -- ---- a piece

@@ -3,9 +3,11 @@ use Rattle.std.proofs.Common.{◌≡◌, ℕ, zero, suc, ◌+◌, ◌-◌, ◌^�
 use Rattle.std.proofs.lemmas.Bool.{cases_Bool}
 use Rattle.std.proofs.lemmas.List.{append-nil, drop_all, take_all}
 use Rattle.std.specs.List.{list_any, position, insert}
-use Rattle.sof_base.specs.Ports.{OutputView, HasRoom, drained}
+use Rattle.sof_base.specs.Ports.{OutputView, HasRoom}
+use Rattle.sof_base.specs.DrainedOutputs.{drained}
 use Rattle.sof_io.specs.Bound.{output_slots, has_slot}
-use Rattle.sof_io.specs.Puts.{new_output, longer_output, with_slot, bytes_at, room_at, with_piece}
+use Rattle.sof_io.specs.Puts.{longer_output, bytes_at, room_at, with_piece}
+use Rattle.sof_io.specs.Bound.{new_output, with_slot}
 use Rattle.sof_io.proofs.Places.{place, place_found, some_place}
 use Rattle.sof_io.proofs.OutputLaws.{with_piece-unknown, bytes_at-unknown, room_at-unknown}
 use Rattle.sof_io.proofs.RoomLaws.{HasRoom-at}

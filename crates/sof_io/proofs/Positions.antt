@@ -3,9 +3,11 @@ use Rattle.std.proofs.Common.{ℕ, zero, suc, eqb, ltb, List, [], ◌∷◌, inl
 use Rattle.std.proofs.lemmas.Bool.{cases_Bool}
 use Rattle.std.specs.Prelude.{All}
 use Rattle.sof_base.specs.Ports.{InputView}
-use Rattle.sof_io.specs.Bound.{HasPosition}
-use Rattle.sof_io.specs.Takes.{new_input, after_input, taken}
-use Rattle.sof_io.specs.Fills.{with_input, fuller_input, filled_at, ended_input, ended_at}
+use Rattle.sof_io.specs.Takes.{HasPosition}
+use Rattle.sof_io.specs.Takes.{after_input, taken}
+use Rattle.sof_io.specs.Fills.{new_input}
+use Rattle.sof_io.specs.Fills.{with_input, filled_at, ended_at}
+use Rattle.sof_io.specs.Takes.{fuller_input, ended_input}
 
 positions-one : (input : InputView) (inputs : List InputView) → HasPosition input → All HasPosition inputs → All HasPosition (input ∷ inputs)
 positions-one input inputs first rest zero d lt = first

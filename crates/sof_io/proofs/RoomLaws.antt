@@ -1,8 +1,10 @@
 -- Room in every output.
 use Rattle.std.proofs.Common.{ℕ, zero, suc, ◌+◌, ◌-◌, ◌^◌, ◌≤◌, ◌<◌, eqb, ltb, List, [], ◌∷◌, length, get_or, inl, inr, arith, length-append}
 use Rattle.std.proofs.lemmas.Bool.{cases_Bool}
-use Rattle.sof_base.specs.Ports.{OutputView, HasRoom, drained}
-use Rattle.sof_io.specs.Puts.{with_slot, room_at, with_piece}
+use Rattle.sof_base.specs.Ports.{OutputView, HasRoom}
+use Rattle.sof_base.specs.DrainedOutputs.{drained}
+use Rattle.sof_io.specs.Puts.{room_at, with_piece}
+use Rattle.sof_io.specs.Bound.{with_slot}
 
 -- room for n bytes is room for fewer
 pub HasRoom-less : (m n : ℕ) (outputs : List OutputView) → m ≤ n → HasRoom n outputs → HasRoom m outputs

@@ -1,11 +1,7 @@
--- Which slots are bound.
-use Rattle.std.specs.Prelude.{ℕ, ◌==◌, ◌≤◌, ◌-◌, ◌^◌, Bool, List, map}
+-- Which slots are bound, and how outputs begin.
+use Rattle.std.specs.Prelude.{ℕ, ◌==◌, Bool, List, map, nat_lt, [], ◌∷◌, if◌then◌else◌}
 use Rattle.std.specs.List.{list_any}
-use Rattle.sof_base.specs.Ports.{InputView, OutputView}
-
--- the slots of the inputs, in their order
-abbrev pub input_slots : List InputView → List ℕ
-input_slots inputs = map (λ (input : InputView). input.slot) inputs
+use Rattle.sof_base.specs.Ports.{OutputView}
 
 -- the slots of the outputs, in their order
 abbrev pub output_slots : List OutputView → List ℕ
@@ -15,6 +11,11 @@ output_slots outputs = map (λ (output : OutputView). output.slot) outputs
 abbrev pub has_slot : ℕ → List ℕ → Bool
 has_slot slot slots = list_any (λ (other : ℕ). other == slot) slots
 
--- the position of an input is at most the greatest usize
-abbrev pub HasPosition : InputView → Type 0
-HasPosition input = input.position ≤ 2 ^ 64 - 1
+-- an output with no bytes
+abbrev pub new_output : ℕ → OutputView
+new_output slot = record { slot = slot; bytes = [] }
+
+-- the outputs with one more slot, put before the first that is above it
+abbrev pub with_slot : ℕ → List OutputView → List OutputView
+with_slot slot [] = new_output slot ∷ []
+with_slot slot (output ∷ outputs) = if nat_lt slot output.slot then new_output slot ∷ output ∷ outputs else output ∷ with_slot slot outputs

@@ -1,20 +1,11 @@
 -- What an output holds, and its room.
-use Rattle.std.specs.Prelude.{ℕ, ◌-◌, ◌^◌, ◌==◌, nat_lt, List, [], ◌∷◌, ◌++◌, length, if◌then◌else◌}
+use Rattle.std.specs.Prelude.{ℕ, ◌-◌, ◌^◌, ◌==◌, List, [], ◌∷◌, ◌++◌, length, if◌then◌else◌}
 use Rattle.sof_base.specs.Ports.{OutputView}
 use Rattle.sof_base.specs.declared.limits.TheConstants.{OUTPUT_BYTES}
-
--- an output with no bytes
-abbrev pub new_output : ℕ → OutputView
-new_output slot = record { slot = slot; bytes = [] }
 
 -- an output with a piece more
 abbrev pub longer_output : List ℕ → OutputView → OutputView
 longer_output piece output = record { slot = output.slot; bytes = output.bytes ++ piece }
-
--- the outputs with one more slot, put before the first that is above it
-abbrev pub with_slot : ℕ → List OutputView → List OutputView
-with_slot slot [] = new_output slot ∷ []
-with_slot slot (output ∷ outputs) = if nat_lt slot output.slot then new_output slot ∷ output ∷ outputs else output ∷ with_slot slot outputs
 
 -- the bytes of a slot; none of an unknown slot
 abbrev pub bytes_at : ℕ → List OutputView → List ℕ

@@ -1,7 +1,8 @@
 // One input.
 ghost use Rattle.std.specs.Prelude.{◌≡◌, ◌+◌, ◌≤◌, length, IfOk};
-ghost use Rattle.sof_io.specs.Takes.{new_input, after_input, next_bytes};
-ghost use Rattle.sof_io.specs.Fills.{fuller_input, ended_input};
+ghost use Rattle.sof_io.specs.Takes.{after_input, next_bytes};
+ghost use Rattle.sof_io.specs.Fills.{new_input};
+ghost use Rattle.sof_io.specs.Takes.{fuller_input, ended_input};
 
 use crate::round::{after, copy_in, copy_out, grow};
 use sof_base::{INPUT_BYTES, NoMemory};

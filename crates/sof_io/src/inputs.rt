@@ -2,10 +2,13 @@
 ghost use Rattle.std.specs.Prelude.{◌≡◌, ◌==◌, ◌+◌, ◌≤◌, [], true, false, length, nat_eq, nat_lt, All, OnOk, OnErr, Ok, position};
 ghost use Rattle.std.specs.List.{IsDistinct};
 ghost use Rattle.std.specs.List.Sorted.{IsStrictlyIncreasing};
-ghost use Rattle.sof_io.specs.Bound.{input_slots, has_slot, HasPosition};
+ghost use Rattle.sof_io.specs.Bound.{has_slot};
+ghost use Rattle.sof_io.specs.Takes.{input_slots, HasPosition};
 ghost use Rattle.sof_io.specs.Takes.{bytes_given, taken};
 ghost use Rattle.sof_io.specs.Fills as fills;
-ghost use Rattle.sof_io.specs.Fills.{with_input, held_at, has_ended, filled_at, ended_at, is_wanting};
+ghost use Rattle.sof_io.specs.Fills.{with_input, filled_at, ended_at};
+ghost use Rattle.sof_io.specs.Takes.{is_wanting};
+ghost use Rattle.sof_io.specs.Takes.{held_at, has_ended};
 
 use crate::input::Input;
 use sof_base::{INPUT_BYTES, NoMemory};
@@ -22,7 +25,7 @@ impl Model for Inputs {
     ghost use Rattle.std.specs.Prelude.{List, All};
     ghost use Rattle.std.specs.List.Sorted.{IsStrictlyIncreasing};
     ghost use Rattle.sof_base.specs.Ports.{InputView};
-    ghost use Rattle.sof_io.specs.Bound.{input_slots, HasPosition};
+    ghost use Rattle.sof_io.specs.Takes.{input_slots, HasPosition};
 
     ghost Value = { List InputView };
 

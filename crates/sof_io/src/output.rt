@@ -1,7 +1,8 @@
 // One output.
 ghost use Rattle.std.specs.Prelude.{◌≡◌, ◌+◌, ◌-◌, ◌*◌, ◌≤◌, ◌++◌, ℕ, length, take, vec_len, vec_capacity, IfOk};
 ghost use Rattle.sof_base.specs.Samples.{width, frame_out};
-ghost use Rattle.sof_io.specs.Puts.{new_output, longer_output};
+ghost use Rattle.sof_io.specs.Puts.{longer_output};
+ghost use Rattle.sof_io.specs.Bound.{new_output};
 
 use crate::samples::write_both;
 use sof_base::{Format, NoMemory, OUTPUT_BYTES, Sample};

@@ -1,10 +1,12 @@
 // All outputs.
 ghost use Rattle.std.specs.Prelude.{◌≡◌, ◌==◌, ◌+◌, ◌*◌, ◌<◌, ◌≤◌, ◌++◌, [], false, length, nat_eq, slice_get, nat_lt, OnOk, OnErr, Ok, Some, position};
 ghost use Rattle.std.specs.List.Sorted.{IsStrictlyIncreasing};
-ghost use Rattle.sof_base.specs.Ports.{HasRoom, drained};
+ghost use Rattle.sof_base.specs.Ports.{HasRoom};
+ghost use Rattle.sof_base.specs.DrainedOutputs.{drained};
 ghost use Rattle.sof_base.specs.Samples.{width, frame_out};
 ghost use Rattle.sof_io.specs.Bound.{output_slots, has_slot};
-ghost use Rattle.sof_io.specs.Puts.{with_slot, bytes_at, room_at, with_piece};
+ghost use Rattle.sof_io.specs.Puts.{bytes_at, room_at, with_piece};
+ghost use Rattle.sof_io.specs.Bound.{with_slot};
 
 use crate::output::Output;
 use sof_base::{Format, NoMemory, Sample};

@@ -7,8 +7,10 @@ use Rattle.stream_law.specs.declared.graph.Comp.{Comp}
 use Rattle.std.specs.Str.{bytes_eq}
 use Rattle.tplg_plan.specs.declared.plans.Plan.{Plan}
 use Rattle.sof_script.specs.declared.script.Binding.{Binding}
-use Rattle.sof_script.specs.Commands.{Bound, bound_of, bounds_of}
-use Rattle.sof_run.specs.Bindings.{is_sought, is_endpoint_bound, is_right, wrong_behind}
+use Rattle.sof_script.specs.Commands.{Bound}
+use Rattle.sof_script.specs.ScriptRead.{bound_of, bounds_of}
+use Rattle.sof_run.specs.Bindings.{is_sought, is_right, wrong_behind}
+use Rattle.sof_run.specs.LineParts.{is_endpoint_bound}
 
 bounds-append : (a b : List Binding) → bounds_of (a ++ b) ≡ bounds_of a ++ bounds_of b
 bounds-append [] b = refl

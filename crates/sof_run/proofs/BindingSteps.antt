@@ -1,13 +1,16 @@
 -- One binding more: it is right, and its slot is not there yet.
 use Rattle.std.proofs.Common.{◌≡◌, ℕ, ◌+◌, ◌<◌, Bool, true, false, List, [], ◌∷◌, ◌++◌, length, take, drop, get_or, None, sym, subst}
 use Rattle.sof_base.specs.Ports.{InputView, OutputView}
-use Rattle.sof_io.specs.Bound.{input_slots, output_slots, has_slot}
-use Rattle.sof_io.specs.Puts.{with_slot}
+use Rattle.sof_io.specs.Bound.{output_slots, has_slot}
+use Rattle.sof_io.specs.Takes.{input_slots}
+use Rattle.sof_io.specs.Bound.{with_slot}
 use Rattle.sof_io.specs.Fills.{with_input}
 use Rattle.tplg_plan.specs.declared.plans.Plan.{Plan}
 use Rattle.sof_script.specs.declared.script.Binding.{Binding}
-use Rattle.sof_script.specs.Commands.{Bound, bound_of, bounds_of}
-use Rattle.sof_run.specs.Bindings.{has_endpoint, is_endpoint_bound, wrong_behind, slot_of}
+use Rattle.sof_script.specs.Commands.{Bound}
+use Rattle.sof_script.specs.ScriptRead.{bound_of, bounds_of}
+use Rattle.sof_run.specs.Bindings.{wrong_behind}
+use Rattle.sof_run.specs.LineParts.{has_endpoint, is_endpoint_bound, slot_of}
 use Rattle.sof_run.proofs.BindingLaws.{front, back}
 use Rattle.sof_run.proofs.Slots.{IsFresh, right_first, fresh_other, fresh_input, fresh_output}
 

@@ -6,6 +6,7 @@ use Rattle.tplg_model.specs.declared.block.Topology.{Topology}
 use Rattle.sof_run.specs.declared.prepare.Halt.{Halt}
 use Rattle.sof_run.specs.declared.prepare.Halt.TheVariants as halt
 use Rattle.sof_run.specs.Todo.{End, Stop, Free, Played, DeskPhase}
+use Rattle.sof_run.specs.TopologyBytes.{AreBytes}
 use Rattle.sof_run.specs.Lines.{halt_line, halt_status}
 use Rattle.sof_run.specs.Play.{lines_todo}
 use Rattle.sof_run.specs.Halts.{HaltsAtCheck}
@@ -33,9 +34,9 @@ module _ {D : Type 0} (means : DeskMeaning D) where
   lines_ended lines false old new phase = phase End
 
   -- the file was loaded
-  module _ (name bytes : List ℕ) (old m new : D) (loaded : Loaded means name 1048576 (Ok bytes) old m) where
+  module _ (name bytes : List ℕ) (old m new : D) (loaded : Loaded means name 1048576 (Ok bytes) old m) (are : AreBytes bytes) where
     after : (status : ℕ) → Played means (Free (checked_todo (checked bytes))) m [] status new → Played means (check name) old [] status new
-    after status played = ask_on means name 1048576 (codes "too long topology\n") (λ bytes. Free (checked_todo (checked bytes))) bytes [] status old m new loaded played
+    after status played = ask_on means name 1048576 (codes "too long topology\n") (λ bytes. Free (checked_todo (checked bytes))) bytes [] status old m new loaded are played
 
     -- its counts were said, or not all of them
     pub counted : (t : Topology) (lines : List (List ℕ)) (done : Bool) → checked bytes ≡ Ok t → lines ≡ counts_of t → DeskPhase means (lines_todo lines) done m new → Played means (check name) old [] (if done then 0 else 3) new

@@ -19,7 +19,7 @@ use Rattle.sof_run.specs.Forms.{todo_for, todo_of}
 use Rattle.sof_run.specs.TopologyBytes.{AreBytes}
 use Rattle.sof_run.specs.Calls.{heard_in}
 use Rattle.sof_run.specs.Checks.{IsWrong, IsRight, saying, CheckVerdict, Spoke, IsFront, WroteText, Checks}
-use Rattle.sof_run.specs.Findings.{TopologyComesTo}
+use Rattle.sof_run.specs.ComeTo.{TopologyComesTo}
 use Rattle.sof_run.proofs.Requests.{check_asked}
 use Rattle.sof_run.proofs.Findings.{checked_found, checked_only}
 use Rattle.sof_run.proofs.Steps.{no_turns}
@@ -118,36 +118,36 @@ module _ (name bytes : List ℕ) where
 
   module _ {D : Type 0} (means : DeskMeaning D) where
     -- the file is told
-    judge : (turns : List Turn) (calls : List DeskCall) (status : ℕ) (d e : D) → means.holds d name ≡ Some bytes → AreBytes bytes → DoneBy (check name) turns calls status → DeskLed means d calls e → CheckVerdict name bytes calls status
-    judge turns [] status d e told are goes led = absurd goes
-    judge turns (Did act done ∷ calls) status d e told are goes led = absurd goes
-    judge turns (Read n size got ∷ calls) status d e told are goes led = absurd goes
-    judge turns (Load n l (Ok got) ∷ calls) status d e told are goes led =
+    judge : (turns : List Turn) (calls : List DeskCall) (status : ℕ) (d e : D) → means.holds d name ≡ Some bytes → DoneBy (check name) turns calls status → DeskLed means d calls e → CheckVerdict name bytes calls status
+    judge turns [] status d e told goes led = absurd goes
+    judge turns (Did act done ∷ calls) status d e told goes led = absurd goes
+    judge turns (Read n size got ∷ calls) status d e told goes led = absurd goes
+    judge turns (Load n l (Ok got) ∷ calls) status d e told goes led =
         let loaded : Loaded means n l (Ok got) d led.0 = led.1 in
         let same : got ≡ bytes = loaded.answers.1 bytes (ap (means.holds d) goes.0 ∙ told) in
         let short : length bytes ≤ 1048576 = subst (λ k. length bytes ≤ k) goes.1 (subst (λ xs. length xs ≤ l) same loaded.answers.0) in
-        free are short (Load n l (Ok got)) (λ i. Load (goes.0 i) (goes.1 i) (Ok (same i))) turns calls status
+        free (subst (λ xs. AreBytes xs) same goes.3) short (Load n l (Ok got)) (λ i. Load (goes.0 i) (goes.1 i) (Ok (same i))) turns calls status
         (subst (λ xs. DoneBy (checked_todo (checked xs)) turns calls status ⊎ Says no_memory_line 7 turns calls status) same goes.2)
-    judge turns (Load n l (Err TooLong) ∷ calls) status d e told are goes led =
+    judge turns (Load n l (Err TooLong) ∷ calls) status d e told goes led =
         let loaded : Loaded means n l (Err TooLong) d led.0 = led.1 in
         long turns calls (Load n l (Err TooLong)) status (λ i. Load (goes.0 i) (goes.1 i) (Err TooLong)) (subst (λ k. k < length bytes) goes.1 (loaded.answers bytes (ap (means.holds d) goes.0 ∙ told))) goes.2
-    judge turns (Load n l (Err OutOfMemory) ∷ calls) status d e told are goes led = wanting turns calls (Load n l (Err OutOfMemory) ∷ calls) status goes.2
-    judge turns (Load n l (Err Failed) ∷ calls) status d e told are goes led = inl (inl goes.2.2)
+    judge turns (Load n l (Err OutOfMemory) ∷ calls) status d e told goes led = wanting turns calls (Load n l (Err OutOfMemory) ∷ calls) status goes.2
+    judge turns (Load n l (Err Failed) ∷ calls) status d e told goes led = inl (inl goes.2.2)
 
     -- the load brought it
-    heard_judge : (turns : List Turn) (calls : List DeskCall) (status : ℕ) (d e : D) → heard_in calls ≡ Ok bytes ∷ [] → AreBytes bytes → DoneBy (check name) turns calls status → DeskLed means d calls e → CheckVerdict name bytes calls status
-    heard_judge turns [] status d e heard are goes led = absurd goes
-    heard_judge turns (Did act done ∷ calls) status d e heard are goes led = absurd goes
-    heard_judge turns (Read n size got ∷ calls) status d e heard are goes led = absurd goes
-    heard_judge turns (Load n l (Ok got) ∷ calls) status d e heard are goes led =
+    heard_judge : (turns : List Turn) (calls : List DeskCall) (status : ℕ) (d e : D) → heard_in calls ≡ Ok bytes ∷ [] → DoneBy (check name) turns calls status → DeskLed means d calls e → CheckVerdict name bytes calls status
+    heard_judge turns [] status d e heard goes led = absurd goes
+    heard_judge turns (Did act done ∷ calls) status d e heard goes led = absurd goes
+    heard_judge turns (Read n size got ∷ calls) status d e heard goes led = absurd goes
+    heard_judge turns (Load n l (Ok got) ∷ calls) status d e heard goes led =
         let loaded : Loaded means n l (Ok got) d led.0 = led.1 in
         let same : got ≡ bytes = cc heard in
         let short : length bytes ≤ 1048576 = subst (λ k. length bytes ≤ k) goes.1 (subst (λ xs. length xs ≤ l) same loaded.answers.0) in
-        free are short (Load n l (Ok got)) (λ i. Load (goes.0 i) (goes.1 i) (Ok (same i))) turns calls status
+        free (subst (λ xs. AreBytes xs) same goes.3) short (Load n l (Ok got)) (λ i. Load (goes.0 i) (goes.1 i) (Ok (same i))) turns calls status
         (subst (λ xs. DoneBy (checked_todo (checked xs)) turns calls status ⊎ Says no_memory_line 7 turns calls status) same goes.2)
-    heard_judge turns (Load n l (Err TooLong) ∷ calls) status d e heard are goes led = absurd (cc heard)
-    heard_judge turns (Load n l (Err OutOfMemory) ∷ calls) status d e heard are goes led = absurd (cc heard)
-    heard_judge turns (Load n l (Err Failed) ∷ calls) status d e heard are goes led = absurd (cc heard)
+    heard_judge turns (Load n l (Err TooLong) ∷ calls) status d e heard goes led = absurd (cc heard)
+    heard_judge turns (Load n l (Err OutOfMemory) ∷ calls) status d e heard goes led = absurd (cc heard)
+    heard_judge turns (Load n l (Err Failed) ∷ calls) status d e heard goes led = absurd (cc heard)
 
 -- ---- what was written
 
@@ -247,7 +247,7 @@ module _ {D P : Type 0} (means : DeskMeaning D) (dsp : Meaning P) (words : List 
   checks =
       record {
         alone = untouched;
-        judged = λ name bytes is told are. judge name bytes means ran.turns ran.played.calls status old new told are (goes_on name is) ran.played.led;
-        heard = λ name bytes is heard are. heard_judge name bytes means ran.turns ran.played.calls status old new heard are (goes_on name is) ran.played.led;
+        judged = λ name bytes is told. judge name bytes means ran.turns ran.played.calls status old new told (goes_on name is) ran.played.led;
+        heard = λ name bytes is heard. heard_judge name bytes means ran.turns ran.played.calls status old new heard (goes_on name is) ran.played.led;
         counted = λ name bytes t is told short right. check_told means name bytes t short (checked_only bytes (Ok t) right) ran.turns ran.played.calls old new status told (goes_on name is) ran.played.led;
       }

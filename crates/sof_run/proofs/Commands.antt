@@ -5,7 +5,8 @@ use Rattle.std.proofs.lemmas.List.{drop_more, drop_all}
 use Rattle.std.proofs.lemmas.Option.{slice_get_within, get_or_from_slice_get, slice_get_cases}
 use Rattle.sof_desk.specs.Desk.{DeskMeaning, Put, Spoken, Acted}
 use Rattle.host_widgets.specs.declared.answers.Answer.{Answer}
-use Rattle.sof_base.specs.Ports.{InputView, OutputView, drained}
+use Rattle.sof_base.specs.Ports.{InputView, OutputView}
+use Rattle.sof_base.specs.DrainedOutputs.{drained}
 use Rattle.sof_io.specs.Bound.{output_slots}
 use Rattle.mbox_link.specs.Calls.{Meaning, World, world}
 use Rattle.mbox_link.specs.Wire.{Wire}
@@ -18,16 +19,18 @@ use Rattle.sof_session.specs.Commands.{Known}
 use Rattle.sof_session.specs.Agreement.{AreAgreed}
 use Rattle.sof_session.specs.Seat.{Seat}
 use Rattle.sof_session.specs.SessionStep.{CommandDone}
-use Rattle.sof_session.specs.Show.{IsLineAt, show_lines, shown_by}
+use Rattle.sof_session.specs.Show.{show_lines, shown_by}
+use Rattle.sof_session.specs.ShownLines.{IsLineAt}
 use Rattle.sof_session.specs.Fills.{input_ends}
 use Rattle.sof_session.specs.Written.{Out, Written, written_in}
 use Rattle.sof_session.proofs.Writings.{empty-outputs}
 use Rattle.sof_session.specs.Lives.{Life, Seated, Turn, Turned, Carry}
 use Rattle.sof_run.specs.Todo as todo
 use Rattle.sof_run.specs.Todo.{Todo, Refill, Played, DeskPhase, LeadsOn, PhaseFails, Phase}
-use Rattle.sof_run.specs.Rounds.{Round, rounds_after, command_rounds, rounds_of}
-use Rattle.sof_run.specs.Lines.{is_show, with_newline, lines_after}
-use Rattle.sof_run.specs.Play.{flush_todo, lines_todo, unit_todo, round_todo, rounds_todo, commands_todo}
+use Rattle.sof_run.specs.Rounds.{Round, command_rounds, rounds_of}
+use Rattle.sof_run.specs.Lines.{with_newline, lines_after}
+use Rattle.sof_run.specs.LineParts.{is_show}
+use Rattle.sof_run.specs.Play.{flush_todo, lines_todo, unit_todo, round_todo, rounds_todo, commands_todo, rounds_after}
 use Rattle.sof_run.proofs.Steps.{do_on, do_off, step_on, beside, beside_failed}
 
 -- what the answer says of the list

@@ -8,6 +8,7 @@ use Rattle.tplg_compile.specs.declared.source_fault.SourceFault.TheVariants.{Syn
 use Rattle.tplg_compile.specs.Results.{FaultIs}
 use Rattle.tplg_compile.specs.InOrder.{compiled_of}
 use Rattle.sof_run.specs.Todo.{Todo, End, Stop, Ask, Do, Free, Played, DeskPhase}
+use Rattle.sof_run.specs.TopologyBytes.{AreBytes}
 use Rattle.sof_run.specs.Play.{lines_todo}
 use Rattle.sof_run.specs.Compiling.{CompileNames, source_line, source_status, wrote_line}
 use Rattle.sof_run.specs.CompileTodo.{file_todo, compiled_todo, compile}
@@ -41,9 +42,9 @@ module _ {D : Type 0} (means : DeskMeaning D) where
   file_ended out bytes false old new phase = phase End
 
   -- the source was loaded
-  module _ (names : CompileNames) (text : List ℕ) (old m new : D) (loaded : Loaded means names.source 1048576 (Ok text) old m) where
+  module _ (names : CompileNames) (text : List ℕ) (old m new : D) (loaded : Loaded means names.source 1048576 (Ok text) old m) (are : AreBytes text) where
     after : (status : ℕ) → Played means (Free (compiled_todo names.out (compiled_of text))) m [] status new → Played means (compile names) old [] status new
-    after status played = ask_on means names.source 1048576 (codes "too long source\n") (λ text. Free (compiled_todo names.out (compiled_of text))) text [] status old m new loaded played
+    after status played = ask_on means names.source 1048576 (codes "too long source\n") (λ text. Free (compiled_todo names.out (compiled_of text))) text [] status old m new loaded are played
 
     -- the file of its topology was made, or not all of it
     pub made : (t : Topology) (bytes : List ℕ) (done : Bool) → compiled_of text ≡ Ok t → bytes ≡ spelling t → DeskPhase means (file_todo names.out bytes) done m new → Played means (compile names) old [] (if done then 0 else 3) new

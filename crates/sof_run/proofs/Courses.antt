@@ -32,9 +32,11 @@ use Rattle.sof_run.specs.Stressing.{stress_lines}
 use Rattle.sof_run.specs.StressTodo.{counted_todo, told_todo, stress}
 use Rattle.sof_run.specs.Requests.{Request, Play, Check, Compile, Stress, request_of}
 use Rattle.sof_run.specs.Forms.{todo_for, todo_of}
-use Rattle.sof_run.specs.Calls.{Item, Calls, Turns, Memory, Course, before_course, saying, last_line, load_course, turning, filling_by, filling, putting, units, bindings, files, playing, counting, making, counting_turns, telling, stressing, session, heard_in, Wants, Made, course_for, IsMade}
+use Rattle.sof_run.specs.Calls.{Item, Calls, Turns, Memory, Course, before_course, saying, last_line, load_course, turning, filling_by, filling, putting, units, bindings, files, playing, counting, making, counting_turns, telling, stressing, heard_in, Wants, Made, course}
+use Rattle.sof_run.specs.ComeTo.{IsMade}
 use Rattle.sof_run.specs.Findings.{FollowsCourse}
 use Rattle.sof_run.proofs.WrittenPieces.{puts, puts_flush}
+use Rattle.sof_run.proofs.LoadedBytes.{heard_behind, loads_bring}
 use Rattle.sof_run.proofs.Findings.{run_of, as_prepared, prepared_same, run_heard, topology_heard, source_heard, findings_of, are_found}
 
 -- ---- what is to do, unrolled
@@ -71,11 +73,6 @@ wanted turns (Did act true ∷ calls) status says = says
 wanted turns (Did act false ∷ calls) status says = says
 
 -- reads, and what comes behind them
-heard_behind : (reads : List (ℕ × List ℕ)) (failed : Option ℕ) (later : List DeskCall) → heard_in (reading reads failed ++ later) ≡ heard_in later
-heard_behind [] None later = refl
-heard_behind [] (Some slot) later = refl
-heard_behind ((slot, bytes) ∷ reads) failed later = heard_behind reads failed later
-
 reads_made : (reads : List (ℕ × List ℕ)) (items : List Item) (end : ℕ) (turns : List Turn) (later : List DeskCall) (status : ℕ) → Made items end turns later status → Made (map Calls (reading reads None) ++ items) end turns (reading reads None ++ later) status
 reads_made [] items end turns later status made = made
 reads_made ((slot, bytes) ∷ reads) items end turns later status made = (refl, reads_made reads items end turns later status made)
@@ -169,6 +166,11 @@ bindings-same : (plan : Plan) (bs : List Bound) (rest : Todo) (heard : List Hear
 bindings-same plan [] rest heard turns = refl
 bindings-same plan (b ∷ bs) rest heard turns = ap (before_course (Calls (Did (binding_act plan b) true) ∷ [])) (bindings-same plan bs rest heard turns)
 
+abbrev session : ℕ → Plan → ReadScript → List Turn → Course
+session heap plan read turns =
+    bindings plan read.bindings
+    (turning (Begin plan heap (bound_inputs plan [] read.bindings) (bound_slots plan read.bindings)) turns (λ out turns. units (rounds_of read.commands) turns))
+
 session-same : (heap : ℕ) (plan : Plan) (read : ReadScript) (heard : List Heard) (turns : List Turn) → unrolled (ready_todo heap plan read) heard turns ≡ session heap plan read turns
 session-same heap plan read heard turns =
     let inputs = bound_inputs plan [] read.bindings in
@@ -213,7 +215,7 @@ stressing-same room sent seed heard turns =
     counted-same (dai_slot (stream_count seed)) (stress_turns seed) no_counts (told_todo sent) (telling sent) heard turns
     (λ counts turns. lines-same (stress_lines (record counts { messages = sent })) heard turns)))
 
-request-same : (room sent : ℕ) (r : Option Request) (heard : List Heard) (turns : List Turn) → unrolled (todo_for room sent r) heard turns ≡ course_for room sent r (findings_of heard) heard turns
+request-same : (room sent : ℕ) (r : Option Request) (heard : List Heard) (turns : List Turn) → unrolled (todo_for room sent r) heard turns ≡ course room sent r (findings_of heard) heard turns
 request-same room sent (Some (Play form)) heard turns = playing-same form heard turns
 request-same room sent (Some (Check name)) heard turns =
     loading-same name 1048576 (codes "too long topology\n") heard _ _ (λ bytes later is.
@@ -229,6 +231,6 @@ pub follows : (room sent : ℕ) (words : List (List ℕ)) (turns : List Turn) (c
 follows room sent words turns calls status goes =
     record {
       found = findings_of (heard_in calls);
-      are = are_found (heard_in calls);
+      are = are_found (heard_in calls) (loads_bring (todo_of room sent words) turns calls status goes);
       made = subst (λ (c : Course). IsMade c turns calls status) (request-same room sent (request_of room words) (heard_in calls) turns) (made (todo_of room sent words) turns calls status goes);
     }

@@ -16,9 +16,10 @@ use Rattle.host_widgets.specs.declared.kept.Record.{Record}
 use Rattle.host_widgets.specs.Kept.{controls_of}
 use Rattle.host_widgets.proofs.NamedIds.{few-widgets}
 use Rattle.sof_session.specs.Show as show
+use Rattle.sof_session.specs.ShownLines as shown_lines
 
 -- a line that is there has a number below theirs
-pub line_within : (lines : List (List ℕ)) (k : ℕ) (line : List ℕ) → show.IsLineAt lines k true line → k < length lines
+pub line_within : (lines : List (List ℕ)) (k : ℕ) (line : List ℕ) → shown_lines.IsLineAt lines k true line → k < length lines
 line_within lines k line is = by_line (slice_get lines k) refl is
   where
     by_line : (o : Option (List ℕ)) → slice_get lines k ≡ o → MatchOption o (true ≡ false) (λ text. (true ≡ true) × (line ≡ text)) → k < length lines

@@ -3,7 +3,7 @@ use Rattle.std.proofs.Common.{◌≡◌, refl, ap, ℕ, ◌<◌, ◌≤◌, arit
 use Rattle.sof_script.specs.declared.script.Command.{Command}
 use Rattle.sof_script.specs.declared.script.Command.TheVariants as commands
 use Rattle.sof_session.specs.CommandRanges.{most_sent}
-use Rattle.sof_run.specs.Rounds.{earlier}
+use Rattle.sof_script.specs.Ticks.{earlier}
 
 -- a command of more than one unit is ticks
 pub tick_before : (command : Command) (n : ℕ) → n < earlier command → (ticks : ℕ) × (command ≡ commands.Tick ticks)

@@ -1,6 +1,7 @@
 -- What files come to: it is found step by step, it is what is said of their bytes, and nothing else is.
 use Rattle.std.proofs.Common.{◌≡◌, ℕ, ◌<◌, ◌≤◌, nat_lt, Bool, true, false, List, [], ◌∷◌, Option, Some, None, Result, Ok, Err, refl, sym, ◌∙◌, ap, subst, arith}
 use Rattle.std.proofs.lemmas.Bool.Decides.{nat_tests}
+use Rattle.std.specs.List.{AllByRecursion}
 use Rattle.sof_desk.specs.Desk.{Heard}
 use Rattle.tplg_model.specs.declared.fault.TplgFault.{TplgFault}
 use Rattle.tplg_model.specs.declared.block.Topology.{Topology}
@@ -19,11 +20,12 @@ use Rattle.sof_script.specs.declared.reading.ScriptFault.TheVariants as scripts
 use Rattle.sof_script.specs.Commands.{Read, script_of}
 use Rattle.sof_run.specs.declared.prepare.Halt.{Halt}
 use Rattle.sof_run.specs.declared.prepare.Halt.TheVariants as halts
-use Rattle.sof_run.specs.TopologyBytes.{AreBytes, IsFile, IsBroken}
+use Rattle.sof_run.specs.TopologyBytes.{AreBytes, BringsBytes, IsFile, IsBroken}
 use Rattle.sof_run.specs.Bindings.{wrong_binding}
 use Rattle.sof_run.specs.Verdicts.{ticks_of, IsScript}
 use Rattle.sof_run.specs.Calls.{Findings}
-use Rattle.sof_run.specs.Findings.{FilesComeTo, TopologyComesTo, SourceComesTo, AreFindings}
+use Rattle.sof_run.specs.ComeTo.{FilesComeTo, TopologyComesTo, SourceComesTo}
+use Rattle.sof_run.specs.Findings.{AreFindings}
 use Rattle.sof_run.specs.Prepared.{Prepared, Ready, Halted, prepared, prepared_script, prepared_ticks, prepared_topology, prepared_rules, prepared_bindings, checked, checked_file, checked_rules}
 use Rattle.sof_run.proofs.ScriptReads.{never_wanting}
 
@@ -207,10 +209,16 @@ source_heard (Ok text ∷ heard) = compiled_of text
 abbrev pub findings_of : List Heard → Findings
 findings_of heard = record { run = run_heard heard; topology = topology_heard heard; source = source_heard heard }
 
-pub are_found : (heard : List Heard) → AreFindings heard (findings_of heard)
-are_found heard =
+-- the first load brought bytes
+first_bytes : (bytes : List ℕ) (heard later : List Heard) → heard ≡ Ok bytes ∷ later → AllByRecursion BringsBytes heard → AreBytes bytes
+first_bytes bytes heard later is brings =
+    let all : AllByRecursion BringsBytes (Ok bytes ∷ later) = subst (λ (hs : List Heard). AllByRecursion BringsBytes hs) is brings in
+    all.0
+
+pub are_found : (heard : List Heard) → AllByRecursion BringsBytes heard → AreFindings heard (findings_of heard)
+are_found heard brings =
     record {
-      run = λ topology script is bytes. subst (λ r. FilesComeTo topology script r) (sym (ap run_heard is)) (files_found topology script bytes);
-      topology = λ bytes is are. subst (λ r. TopologyComesTo bytes r) (sym (ap topology_heard is)) (checked_found bytes are);
+      run = λ topology script is. subst (λ r. FilesComeTo topology script r) (sym (ap run_heard is)) (files_found topology script (first_bytes topology heard (Ok script ∷ []) is brings));
+      topology = λ bytes is. subst (λ r. TopologyComesTo bytes r) (sym (ap topology_heard is)) (checked_found bytes (first_bytes bytes heard [] is brings));
       source = λ text is. subst (λ r. SourceComesTo text r) (sym (ap source_heard is)) (compiled_found text);
     }

@@ -1,14 +1,17 @@
 -- All that `run` ensures, from what it did.
-use Rattle.std.proofs.Common.{◌≡◌, ◌⊎◌, inl, inr, ℕ, List, Option, Some, None, Ok, refl, sym, ap, ◌∙◌, subst, arith, codes}
+use Rattle.std.proofs.Common.{◌≡◌, ◌⊎◌, inl, inr, ℕ, List, length, map, take, Option, Some, None, Ok, refl, sym, ap, ◌∙◌, subst, arith, codes}
+use Rattle.std.specs.List.{AllByRecursion}
 use Rattle.sof_desk.specs.Desk.{DeskMeaning, DeskCall, CountRose}
 use Rattle.mbox_link.specs.Calls.{Meaning}
 use Rattle.tplg_model.specs.declared.block.Topology.{Topology}
 use Rattle.tplg_graph.specs.PlanOf.{plan_of}
 use Rattle.sof_script.specs.Commands.{Read}
+use Rattle.sof_session.specs.Written.{Leg}
+use Rattle.sof_session.specs.RunOver.{RunOver}
 use Rattle.sof_session.specs.Lives.{Bare, Turn, Turns}
 use Rattle.sof_run.specs.Todo.{Todo, Says, DoneBy}
 use Rattle.sof_run.specs.Throughout.{Throughout}
-use Rattle.sof_run.specs.Rounds.{rounds_of}
+use Rattle.sof_run.specs.Rounds.{Round, rounds_of}
 use Rattle.sof_run.specs.Prepared.{Ready, prepared}
 use Rattle.sof_run.specs.Play.{play}
 use Rattle.sof_run.specs.CheckTodo.{check}
@@ -19,10 +22,12 @@ use Rattle.sof_run.specs.Forms.{todo_for, todo_of}
 use Rattle.sof_run.specs.Ends.{IsEarly, Worded}
 use Rattle.sof_run.specs.Verdicts.{MakeRun, Judged}
 use Rattle.sof_run.specs.Plays.{Plays, Unbegun, PlaysWhole, ground_in}
-use Rattle.sof_run.specs.HeardRuns.{PlaysHeard, PlaysWhatIsHeard}
+use Rattle.sof_run.specs.HeardRuns.{heard_ground, PlaysWhatIsHeard}
 use Rattle.sof_run.specs.Todo.{Gave}
 use Rattle.sof_run.specs.Run.{Left}
 use Rattle.sof_run.specs.Findings.{FollowsCourse}
+use Rattle.sof_run.specs.TopologyBytes.{BringsBytes}
+use Rattle.sof_run.specs.Calls.{heard_in}
 use Rattle.sof_run.proofs.Requests.{play_asked, nothing_asked, formless_asked}
 use Rattle.sof_run.proofs.SaidLines.{said}
 use Rattle.sof_run.proofs.Judging.{judge}
@@ -30,6 +35,7 @@ use Rattle.sof_run.proofs.PlanWords.{sound_plan}
 use Rattle.sof_run.proofs.ScriptRanges.{script_sound}
 use Rattle.sof_run.proofs.OpenedFiles.{Next}
 use Rattle.sof_run.proofs.Findings.{as_prepared, prepared_same, files_only}
+use Rattle.sof_run.proofs.LoadedBytes.{loads_bring}
 use Rattle.sof_run.proofs.Courses.{follows}
 use Rattle.sof_run.proofs.PlayRuns.{play_goes, plays, before_begun}
 use Rattle.sof_run.proofs.HeardRuns.{play_heard, legs, over_is}
@@ -103,6 +109,9 @@ module _ {D P : Type 0} (means : DeskMeaning D) (dsp : Meaning P) (words : List 
   pub course_made : FollowsCourse (dsp.most p) sent words gave.ran.turns gave.ran.played.calls status
   course_made = follows (dsp.most p) sent words gave.ran.turns gave.ran.played.calls status goes
 
+  pub bytes_loaded : AllByRecursion BringsBytes (heard_in gave.ran.played.calls)
+  bytes_loaded = loads_bring todo gave.ran.turns gave.ran.played.calls status goes
+
   pub count_rose : status ≡ 3 → CountRose (means.faults old) (means.faults new)
   count_rose three = three_rose means todo gave.ran.turns gave.ran.played.calls status old new goes other gave.ran.played.led three
 
@@ -121,8 +130,8 @@ module _ {D P : Type 0} (means : DeskMeaning D) (dsp : Meaning P) (words : List 
   words_end = worded (dsp.most p) sent words gave.ran.turns gave.ran.played.calls status goes
 
   pub judged : Judged means (dsp.most p) words old gave.ran.played.calls status
-  judged form topology script is_form is_topology is_script bytes =
-      judge topology script means form gave.ran.turns gave.ran.played.calls status old new is_topology is_script bytes
+  judged form topology script is_form is_topology is_script =
+      judge topology script means form gave.ran.turns gave.ran.played.calls status old new is_topology is_script
       (subst (λ r. DoneBy (todo_for (dsp.most p) sent r) gave.ran.turns gave.ran.played.calls status) (play_asked (dsp.most p) words form is_form) goes) gave.ran.played.led
 
   pub plays_whole : dsp.on p ≡ None → PlaysWhole means dsp words old new status p gave.last gave.ran.turns
@@ -148,10 +157,10 @@ module _ {D P : Type 0} (means : DeskMeaning D) (dsp : Meaning P) (words : List 
       let sound = script_sound a.script a.read (omega (arith, a.fit.1)) a.make_run.lines.0 in
       let same : todo ≡ play a.form = ap (todo_for (dsp.most p) sent) (play_asked (dsp.most p) words a.form a.is_form) in
       let done : DoneBy (play a.form) turns gave.ran.played.calls status = subst (λ x. DoneBy x turns gave.ran.played.calls status) same goes in
-      (elim (play_heard a.form a.topology a.script plan a.read ready turns status gave.ran.played.calls a.heard done) as (λ w. PlaysHeard dsp (dsp.most p) words gave.ran.played.calls a turns p gave.last ⊎ (((status ≡ 3) ⊎ (status ≡ 7)) × (gave.last ≡ Bare p))) [
-        | inl b ↦ inl record {
-          legs = legs a.form a.topology a.script plan a.read ready turns status dsp p gave.last gave.ran.turned off whole a.make_run.right sound.few b;
-          over = over_is a.form a.topology a.script plan a.read ready turns status dsp p gave.last gave.ran.turned off whole a.make_run.right sound.few b;
-        }
+      (elim (play_heard a.form a.topology a.script plan a.read ready turns status gave.ran.played.calls a.heard done) as (λ w. ((legs : List Leg) × RunOver dsp (heard_ground a turns) (take (length legs) (map (λ (round : Round). round.numbered.command) (rounds_of a.read.commands))) legs p turns gave.last) ⊎ (((status ≡ 3) ⊎ (status ≡ 7)) × (gave.last ≡ Bare p))) [
+        | inl b ↦ inl (
+          legs a.form a.topology a.script plan a.read ready turns status dsp p gave.last gave.ran.turned off whole a.make_run.right sound.few b,
+          over_is a.form a.topology a.script plan a.read ready turns status dsp p gave.last gave.ran.turned off whole a.make_run.right sound.few b,
+        )
         | inr ended ↦ inr (ended.1, subst (λ ts. Turns dsp (Bare p) ts gave.last) ended.0 gave.ran.turned)
       ])

@@ -8,7 +8,9 @@ use Rattle.sof_session.specs.CommandRanges.{most_sent}
 use Rattle.sof_session.specs.Written.{Ground}
 use Rattle.sof_session.proofs.FewOrders.{few-order}
 use Rattle.sof_session.proofs.RunLegs.{HasFew, messages}
-use Rattle.sof_run.specs.Rounds.{Round, earlier, rounds_after, rounds_of}
+use Rattle.sof_script.specs.Ticks.{earlier}
+use Rattle.sof_run.specs.Rounds.{Round, rounds_of}
+use Rattle.sof_run.specs.Play.{rounds_after}
 use Rattle.sof_run.proofs.WrittenPieces.{commands_of}
 use Rattle.sof_run.proofs.FewMessages.{none_before, at_most}
 

@@ -2,7 +2,6 @@
 use Rattle.std.proofs.Common.{◌≡◌, ◌⊎◌, inl, inr, ℕ, ◌<◌, ◌^◌, Bool, true, false, ltb, if◌then◌else◌, List, [], ◌∷◌, ◌++◌, map, take, length, Option, Some, None, Result, Ok, Err, MatchOption, refl, sym, ◌∙◌, ap, subst, codes, arith}
 use Rattle.std.proofs.lemmas.Bool.{cases_Bool}
 use Rattle.sof_base.specs.Ports.{InputView}
-use Rattle.sof_io.specs.Bound.{output_slots}
 use Rattle.sof_io.specs.Fills.{with_input}
 use Rattle.sof_desk.specs.declared.calls.LoadFault.TheVariants.{Failed, TooLong, OutOfMemory}
 use Rattle.sof_desk.specs.Desk.{DeskAct, DeskCall, Load, Did, Read as ReadCall, Heard}
@@ -11,13 +10,14 @@ use Rattle.tplg_plan.specs.declared.plans.Plan.{Plan}
 use Rattle.tplg_plan.specs.Sound.{IsSound}
 use Rattle.sof_script.specs.Commands.{Bound, Read}
 use Rattle.sof_script.specs.declared.script.Command.{Command}
-use Rattle.sof_session.specs.Fills.{AreNew, bytes_read}
+use Rattle.sof_session.specs.Fills.{bytes_read}
+use Rattle.sof_session.specs.NewInputs.{AreNew}
 use Rattle.sof_session.specs.Written.{Written, Out, Ground, Leg}
 use Rattle.sof_session.specs.Lives.{Life, Bare, Task, Begin, Fill, Carry, Turn, Turns, reads_by, reads_in, carried_outs}
 use Rattle.sof_session.specs.RunOver.{RunOver}
 use Rattle.sof_session.proofs.FilledRuns.{AreFilled, RunsFilled, runs-filled}
 use Rattle.sof_run.specs.Words.{Form}
-use Rattle.sof_run.specs.Todo.{Todo, End, Ask, Do, Step, Refill, Free, DoneBy, FillTurn, Says, Over}
+use Rattle.sof_run.specs.Todo.{Todo, End, Ask, Do, Free, DoneBy, Says, Over}
 use Rattle.sof_run.specs.Bindings.{wrong_binding, bound_slot, binding_act, bound_inputs, bound_slots}
 use Rattle.sof_run.specs.Rounds.{Round, rounds_of}
 use Rattle.sof_run.specs.Lines.{no_memory_line, lines_after}

@@ -1,5 +1,6 @@
 -- The status by the bytes of the files.
-use Rattle.std.proofs.Common.{◌≡◌, ◌⊎◌, inl, inr, ℕ, ◌<◌, ◌≤◌, true, false, List, [], ◌∷◌, length, Some, Result, Ok, Err, ◌∙◌, ap, subst, codes}
+use Rattle.std.proofs.Common.{◌≡◌, ◌⊎◌, inl, inr, ℕ, ◌<◌, ◌≤◌, true, false, List, [], ◌∷◌, length, Some, None, Result, Ok, Err, ◌∙◌, ap, subst, codes}
+use Rattle.std.specs.List.{last_or}
 use Rattle.sof_desk.specs.declared.calls.LoadFault.TheVariants.{Failed, TooLong, OutOfMemory}
 use Rattle.sof_desk.specs.Desk.{DeskMeaning, Put, Spoken, DeskCall, Load, Did, Read as ReadCall, DeskLed, Loaded}
 use Rattle.tplg_model.specs.declared.block.Topology.{Topology}
@@ -12,15 +13,16 @@ use Rattle.sof_run.specs.Todo.{Todo, Ask, Free, Says, DoneBy}
 use Rattle.sof_run.specs.Lines.{no_memory_line, halt_line, halt_status}
 use Rattle.sof_run.specs.Prepared.{prepared}
 use Rattle.sof_run.specs.Play.{prepared_todo, play}
-use Rattle.sof_run.specs.TopologyBytes.{AreBytes, IsLong}
-use Rattle.sof_run.specs.Verdicts.{Fit, MakeRun, IsHalt, last_call, Verdict}
-use Rattle.sof_run.specs.Findings.{FilesComeTo}
+use Rattle.sof_run.specs.TopologyBytes.{AreBytes}
+use Rattle.sof_run.specs.ComeTo.{IsLong}
+use Rattle.sof_run.specs.Verdicts.{Fit, MakeRun, IsHalt, Verdict}
+use Rattle.sof_run.specs.ComeTo.{FilesComeTo}
 use Rattle.sof_run.proofs.Statuses.{IsLate}
 use Rattle.sof_run.proofs.Throughout.{ready_ends}
 use Rattle.sof_run.proofs.Findings.{run_of, as_prepared, prepared_same, files_found}
 
 -- a line that was said, with its status, or that was not
-said : (line : List ℕ) (n : ℕ) (turns : List Turn) (calls : List DeskCall) (status : ℕ) → Says line n turns calls status → (status ≡ 3) ⊎ ((status ≡ n) × (last_call calls ≡ Some (Did (Put Spoken line) true)))
+said : (line : List ℕ) (n : ℕ) (turns : List Turn) (calls : List DeskCall) (status : ℕ) → Says line n turns calls status → (status ≡ 3) ⊎ ((status ≡ n) × (last_or None calls ≡ Some (Did (Put Spoken line) true)))
 said line n turns [] status says = absurd says
 said line n turns (Load name limit heard ∷ calls) status says = absurd says
 said line n turns (ReadCall slot size got ∷ calls) status says = absurd says
@@ -28,7 +30,7 @@ said line n turns (Did act true ∷ []) status says = inr (says.3, ap (λ a. Som
 said line n turns (Did act true ∷ call ∷ calls) status says = absurd (cc says.2)
 said line n turns (Did act false ∷ calls) status says = inl says.3
 
-last_more : (call other : DeskCall) (calls : List DeskCall) → last_call calls ≡ Some other → last_call (call ∷ calls) ≡ Some other
+last_more : (call other : DeskCall) (calls : List DeskCall) → last_or None calls ≡ Some other → last_or None (call ∷ calls) ≡ Some other
 last_more call other [] is = absurd (cc is)
 last_more call other (first ∷ calls) is = is
 
@@ -43,14 +45,14 @@ module _ (topology script : List ℕ) where
   wanting : (turns : List Turn) (calls : List DeskCall) (status : ℕ) → Says no_memory_line 7 turns calls status → Verdict topology script calls status
   wanting turns calls status says = want (said no_memory_line 7 turns calls status says)
     where
-      want : (status ≡ 3) ⊎ ((status ≡ 7) × (last_call calls ≡ Some (Did (Put Spoken no_memory_line) true))) → Verdict topology script calls status
+      want : (status ≡ 3) ⊎ ((status ≡ 7) × (last_or None calls ≡ Some (Did (Put Spoken no_memory_line) true))) → Verdict topology script calls status
       want (inl three) = inl (inl three)
       want (inr seven) = inl (inr seven.0)
 
   long : (line : List ℕ) (turns : List Turn) (calls : List DeskCall) (status : ℕ) → Says line 5 turns calls status → IsLong topology ⊎ IsLong script → Verdict topology script calls status
   long line turns calls status says is = want (said line 5 turns calls status says)
     where
-      want : (status ≡ 3) ⊎ ((status ≡ 5) × (last_call calls ≡ Some (Did (Put Spoken line) true))) → Verdict topology script calls status
+      want : (status ≡ 3) ⊎ ((status ≡ 5) × (last_or None calls ≡ Some (Did (Put Spoken line) true))) → Verdict topology script calls status
       want (inl three) = inl (inl three)
       want (inr five) = inr (inl (five.0, is))
 
@@ -59,7 +61,7 @@ module _ (topology script : List ℕ) where
     stops : (why : Halt) (turns : List Turn) (calls : List DeskCall) (status : ℕ) → IsHalt topology script why → Says (halt_line why) (halt_status why) turns calls status → Verdict topology script calls status
     stops why turns calls status is says = want (said (halt_line why) (halt_status why) turns calls status says)
       where
-        want : (status ≡ 3) ⊎ ((status ≡ halt_status why) × (last_call calls ≡ Some (Did (Put Spoken (halt_line why)) true))) → Verdict topology script calls status
+        want : (status ≡ 3) ⊎ ((status ≡ halt_status why) × (last_or None calls ≡ Some (Did (Put Spoken (halt_line why)) true))) → Verdict topology script calls status
         want (inl three) = inl (inl three)
         want (inr done) = inr (inr (inl (why, done.0, fit, is, done.1)))
 
@@ -82,7 +84,7 @@ module _ (topology script : List ℕ) where
     -- a load of a file that is told
     module _ (name line bytes : List ℕ) (next : List ℕ → Todo) (too_long : IsLong bytes → IsLong topology ⊎ IsLong script) where
       asked : (turns : List Turn) (calls : List DeskCall) (status : ℕ) (d e : D) → means.holds d name ≡ Some bytes → DoneBy (Ask name 1048576 line next) turns calls status → DeskLed means d calls e
-          → (length bytes ≤ 1048576 → (later : List DeskCall) (m : D) → ((other : List ℕ) → means.holds m other ≡ means.holds d other) → DoneBy (next bytes) turns later status → DeskLed means m later e → Verdict topology script later status)
+          → (length bytes ≤ 1048576 → AreBytes bytes → (later : List DeskCall) (m : D) → ((other : List ℕ) → means.holds m other ≡ means.holds d other) → DoneBy (next bytes) turns later status → DeskLed means m later e → Verdict topology script later status)
           → Verdict topology script calls status
       asked turns [] status d e told goes led rest = absurd goes
       asked turns (Did act done ∷ calls) status d e told goes led rest = absurd goes
@@ -91,7 +93,7 @@ module _ (topology script : List ℕ) where
           let loaded : Loaded means n l (Ok got) d led.0 = led.1 in
           let same : got ≡ bytes = loaded.answers.1 bytes (ap (means.holds d) goes.0 ∙ told) in
           let short : length bytes ≤ 1048576 = subst (λ k. length bytes ≤ k) goes.1 (subst (λ xs. length xs ≤ l) same loaded.answers.0) in
-          more (Load n l (Ok got)) calls status (rest short calls led.0 loaded.kept.holds (subst (λ xs. DoneBy (next xs) turns calls status) same goes.2) led.2)
+          more (Load n l (Ok got)) calls status (rest short (subst (λ xs. AreBytes xs) same goes.3) calls led.0 loaded.kept.holds (subst (λ xs. DoneBy (next xs) turns calls status) same goes.2) led.2)
       asked turns (Load n l (Err TooLong) ∷ calls) status d e told goes led rest =
           let loaded : Loaded means n l (Err TooLong) d led.0 = led.1 in
           more (Load n l (Err TooLong)) calls status (long line turns calls status goes.2 (too_long (subst (λ k. k < length bytes) goes.1 (loaded.answers bytes (ap (means.holds d) goes.0 ∙ told)))))
@@ -99,8 +101,8 @@ module _ (topology script : List ℕ) where
       asked turns (Load n l (Err Failed) ∷ calls) status d e told goes led rest = inl (inl goes.2.2)
 
     -- both files are told
-    pub judge : (form : Form) (turns : List Turn) (calls : List DeskCall) (status : ℕ) (d e : D) → means.holds d form.topology ≡ Some topology → means.holds d form.script ≡ Some script → AreBytes topology → DoneBy (play form) turns calls status → DeskLed means d calls e → Verdict topology script calls status
-    judge form turns calls status d e first second bytes goes led =
-        asked form.topology (codes "too long topology\n") topology (λ xs. Ask form.script 1048576 (codes "too long script\n") (λ ys. Free (prepared_todo form.heap (prepared xs ys)))) (λ is. inl is) turns calls status d e first goes led (λ short later m held goes led.
-        asked form.script (codes "too long script\n") script (λ ys. Free (prepared_todo form.heap (prepared topology ys))) (λ is. inr is) turns later status m e (held form.script ∙ second) goes led (λ shorter last n kept goes led.
+    pub judge : (form : Form) (turns : List Turn) (calls : List DeskCall) (status : ℕ) (d e : D) → means.holds d form.topology ≡ Some topology → means.holds d form.script ≡ Some script → DoneBy (play form) turns calls status → DeskLed means d calls e → Verdict topology script calls status
+    judge form turns calls status d e first second goes led =
+        asked form.topology (codes "too long topology\n") topology (λ xs. Ask form.script 1048576 (codes "too long script\n") (λ ys. Free (prepared_todo form.heap (prepared xs ys)))) (λ is. inl is) turns calls status d e first goes led (λ short bytes later m held goes led.
+        asked form.script (codes "too long script\n") script (λ ys. Free (prepared_todo form.heap (prepared topology ys))) (λ is. inr is) turns later status m e (held form.script ∙ second) goes led (λ shorter others last n kept goes led.
         free (short, shorter) bytes form.heap turns last status goes))

@@ -33,6 +33,7 @@ pub mod CarriedUnits
 pub mod OpenedFiles
 pub mod Grounds
 pub mod PlayRuns
+pub mod LoadedBytes
 pub mod Courses
 pub mod StressPhases
 pub mod StressVerdicts

@@ -1,5 +1,5 @@
 -- Two plays of the same words that end with status 0 wrote the same.
-use Rattle.std.proofs.Common.{◌≡◌, ◌⊎◌, inl, inr, ℕ, suc, List, [], ◌∷◌, ◌++◌, map, take, length, Option, refl, sym, ap, ◌∙◌, subst, arith}
+use Rattle.std.proofs.Common.{◌≡◌, ◌⊎◌, inl, inr, ℕ, List, [], ◌∷◌, ◌++◌, map, take, length, refl, sym, ap, ◌∙◌, subst, arith}
 use Rattle.sof_desk.specs.Desk.{DeskMeaning, DeskPlace, with_more}
 use Rattle.mbox_link.specs.declared.fates.Fate.TheVariants.{Pass}
 use Rattle.mbox_link.specs.Calls.{Meaning}
@@ -13,8 +13,7 @@ use Rattle.sof_session.proofs.OneRun.{one-run}
 use Rattle.sof_session.proofs.RankedRuns.{empty-ranks}
 use Rattle.sof_run.specs.Rounds.{Round, rounds_of}
 use Rattle.sof_run.specs.Pieces.{Piece, pieces_of, AreWritten, opened, bytes_of_pieces}
-use Rattle.sof_run.specs.Plays.{ToPlay, Plays, Unbegun, ground_in}
-use Rattle.sof_run.specs.Run.{Whole}
+use Rattle.sof_run.specs.Plays.{Plays, Unbegun, ground_in}
 use Rattle.sof_run.specs.PlayLaws.{PlaysAreOne}
 use Rattle.sof_run.proofs.PlanWords.{sound_plan}
 

@@ -4,8 +4,9 @@ use Rattle.std.proofs.lemmas.List.{append-nil}
 use Rattle.std.proofs.lemmas.Bool.{cases_Bool}
 use Rattle.std.specs.List.{AllByRecursion}
 use Rattle.sof_base.specs.Ports.{InputView, OutputView}
-use Rattle.sof_io.specs.Bound.{has_slot, input_slots, output_slots}
-use Rattle.sof_io.specs.Puts.{with_slot}
+use Rattle.sof_io.specs.Bound.{has_slot, output_slots}
+use Rattle.sof_io.specs.Takes.{input_slots}
+use Rattle.sof_io.specs.Bound.{with_slot}
 use Rattle.sof_io.specs.Fills.{with_input}
 use Rattle.sof_io.proofs.InputLaws.{has_slot-with_input}
 use Rattle.sof_io.proofs.OutputLaws.{has_slot-with_slot}
@@ -14,13 +15,14 @@ use Rattle.sof_desk.specs.Desk.{DeskMeaning, DeskPlace, Slot, Spoken, DeskAct, C
 use Rattle.tplg_plan.specs.declared.plans.Plan.{Plan}
 use Rattle.sof_script.specs.Commands.{Bound}
 use Rattle.stream_law.specs.Table.{list_of}
-use Rattle.sof_session.specs.Fills.{AreNew}
+use Rattle.sof_session.specs.NewInputs.{AreNew}
 use Rattle.sof_session.specs.Lives.{Turn}
 use Rattle.sof_run.specs.Lines.{no_memory_line}
 use Rattle.sof_run.specs.Todo.{Todo, Ask, Do, Free, Says, DoneBy}
 use Rattle.sof_run.specs.Bindings.{bound_slot, bound_inputs, bound_files, bound_outputs}
 use Rattle.sof_run.specs.Play.{bindings_todo}
-use Rattle.sof_run.specs.Pieces.{opened, IsKeptOrOpened, WroteNone}
+use Rattle.sof_run.specs.Pieces.{opened, WroteNone}
+use Rattle.sof_run.specs.LineParts.{IsKeptOrOpened}
 use Rattle.sof_run.specs.Plays.{IsGiven}
 use Rattle.sof_run.specs.Ends.{IsOpening}
 use Rattle.sof_run.proofs.WrittenPieces.{more_none, put_part}

@@ -3,13 +3,15 @@ use Rattle.std.proofs.Common.{◌≡◌, ℕ, ◌+◌, ◌<◌, Bool, true, fals
 use Rattle.std.proofs.lemmas.Bool.{cases_Bool, eq-eqb}
 use Rattle.std.specs.List.{AllByRecursion}
 use Rattle.sof_base.specs.Ports.{InputView, OutputView}
-use Rattle.sof_io.specs.Bound.{input_slots, output_slots}
-use Rattle.sof_io.specs.Puts.{with_slot}
+use Rattle.sof_io.specs.Bound.{output_slots}
+use Rattle.sof_io.specs.Takes.{input_slots}
+use Rattle.sof_io.specs.Bound.{with_slot}
 use Rattle.sof_io.specs.Fills.{with_input}
 use Rattle.sof_desk.specs.Desk.{DeskMeaning, Create, Open, Acted}
 use Rattle.tplg_plan.specs.declared.plans.Plan.{Plan}
 use Rattle.sof_script.specs.declared.script.Binding.{Binding}
-use Rattle.sof_script.specs.Commands.{Bound, bound_of, bounds_of}
+use Rattle.sof_script.specs.Commands.{Bound}
+use Rattle.sof_script.specs.ScriptRead.{bound_of, bounds_of}
 use Rattle.sof_session.specs.Lives.{Turn}
 use Rattle.sof_run.specs.Todo.{Todo, Do, Played, DeskPhase}
 use Rattle.sof_run.specs.Bindings.{bound_slot, binding_act, bound_inputs, bound_outputs}

@@ -1,9 +1,8 @@
 -- All of `play`, over files that make a run: it plays the written run, or ended before it was begun.
-use Rattle.std.proofs.Common.{◌≡◌, ◌⊎◌, inl, ℕ, ◌<◌, ◌≤◌, ◌^◌, true, false, List, [], ◌∷◌, ◌++◌, map, take, length, Some, None, refl, sym, ◌∙◌, ap, subst, codes, arith}
+use Rattle.std.proofs.Common.{◌≡◌, ◌⊎◌, inl, ℕ, ◌<◌, ◌≤◌, ◌^◌, List, [], ◌∷◌, ◌++◌, map, take, length, Some, None, refl, sym, ◌∙◌, ap, subst, codes, arith}
 use Rattle.std.specs.List.{AllByRecursion}
 use Rattle.std.proofs.lemmas.List.{append-nil}
 use Rattle.sof_base.specs.Ports.{InputView}
-use Rattle.sof_io.specs.Bound.{has_slot}
 use Rattle.stream_law.specs.Table.{list_of}
 use Rattle.sof_desk.specs.Desk.{DeskMeaning, DeskCall, DeskLed, with_more}
 use Rattle.mbox_link.specs.Calls.{Meaning}
@@ -12,7 +11,8 @@ use Rattle.tplg_plan.specs.Sound.{IsSound}
 use Rattle.sof_script.specs.Commands.{Read}
 use Rattle.sof_script.specs.declared.script.Command.{Command}
 use Rattle.sof_session.specs.Seat.{Seat, new_seat}
-use Rattle.sof_session.specs.Fills.{AreNew, AreWhole, bytes_read}
+use Rattle.sof_session.specs.Fills.{AreWhole, bytes_read}
+use Rattle.sof_session.specs.NewInputs.{AreNew}
 use Rattle.sof_session.specs.Written.{Out, Ground, Leg, IsRun, first_at}
 use Rattle.sof_session.specs.Lives.{Life, Bare, Seated, Task, Begin, Turn, Turned, Turns, inputs_of, reads_by, reads_in, carried_outs}
 use Rattle.sof_session.specs.RunOver.{RunOver}

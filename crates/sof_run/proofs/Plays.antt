@@ -13,6 +13,7 @@ use Rattle.sof_run.specs.declared.prepare.Halt.{Halt}
 use Rattle.sof_run.specs.declared.prepare.Halt.TheVariants as halt
 use Rattle.sof_run.specs.Words.{Form}
 use Rattle.sof_run.specs.Todo.{Todo, End, Stop, Ask, Free, Played, RanOn, DeskPhase, Phase}
+use Rattle.sof_run.specs.TopologyBytes.{AreBytes}
 use Rattle.sof_run.specs.Bindings.{bound_inputs, bound_slots}
 use Rattle.sof_run.specs.Lines.{halt_line, halt_status}
 use Rattle.sof_run.specs.Prepared.{Prepared, Ready, Halted, prepared}
@@ -47,29 +48,29 @@ module _ {D P : Type 0} (means : DeskMeaning D) (dsp : Meaning P) where
   ended old p = alone means dsp End old old p 0 record { calls = []; led = refl; goes = (refl, refl, refl) }
 
   -- both files were loaded
-  module _ (form : Form) (topology script : List ℕ) (old m n new : D) (p q : Life P) (status : ℕ) (first : Loaded means form.topology 1048576 (Ok topology) old m) (second : Loaded means form.script 1048576 (Ok script) m n) where
+  module _ (form : Form) (topology script : List ℕ) (old m n new : D) (p q : Life P) (status : ℕ) (first : Loaded means form.topology 1048576 (Ok topology) old m) (second : Loaded means form.script 1048576 (Ok script) m n) (are : AreBytes topology) (others : AreBytes script) where
     loaded : RanOn means dsp (Free (prepared_todo form.heap (prepared topology script))) n p status new q → RanOn means dsp (play form) old p status new q
     loaded ran =
         let asks = λ (bytes : List ℕ). Free (prepared_todo form.heap (prepared topology bytes)) in
         let after = λ (bytes : List ℕ). Ask form.script 1048576 (codes "too long script\n") (λ script. Free (prepared_todo form.heap (prepared bytes script))) in
-        over (play form) (after topology) old m new p q status (λ turns played. ask_on means form.topology 1048576 (codes "too long topology\n") after topology turns status old m new first played)
-        (over (after topology) (asks script) m n new p q status (λ turns played. ask_on means form.script 1048576 (codes "too long script\n") asks script turns status m n new second played) ran)
+        over (play form) (after topology) old m new p q status (λ turns played. ask_on means form.topology 1048576 (codes "too long topology\n") after topology turns status old m new first are played)
+        (over (after topology) (asks script) m n new p q status (λ turns played. ask_on means form.script 1048576 (codes "too long script\n") asks script turns status m n new second others played) ran)
 
     -- they make a run
     pub ready_on : (plan : Plan) (read : Read) → prepared topology script ≡ Ready plan read → RanOn means dsp (Free (ready_todo form.heap plan read)) n p status new q → RanOn means dsp (play form) old p status new q
     ready_on plan read is ran = loaded (subst (λ files. RanOn means dsp (Free (prepared_todo form.heap files)) n p status new q) (sym is) ran)
 
   -- they make none
-  pub halted_on : (form : Form) (topology script : List ℕ) (old m n new : D) (p : Life P) (status : ℕ) (h : Halt) → Loaded means form.topology 1048576 (Ok topology) old m → Loaded means form.script 1048576 (Ok script) m n → Halts h (prepared topology script) → Played means (halt_todo means h) n [] status new → RanOn means dsp (play form) old p status new p
-  halted_on form topology script old m n new p status h first second is played =
-      loaded form topology script old m n new p p status first second (alone means dsp (Free (prepared_todo form.heap (prepared topology script))) n new p status (halted_todo means form.heap (prepared topology script) h status n new is played))
+  pub halted_on : (form : Form) (topology script : List ℕ) (old m n new : D) (p : Life P) (status : ℕ) (h : Halt) → Loaded means form.topology 1048576 (Ok topology) old m → Loaded means form.script 1048576 (Ok script) m n → AreBytes topology → AreBytes script → Halts h (prepared topology script) → Played means (halt_todo means h) n [] status new → RanOn means dsp (play form) old p status new p
+  halted_on form topology script old m n new p status h first second are others is played =
+      loaded form topology script old m n new p p status first second are others (alone means dsp (Free (prepared_todo form.heap (prepared topology script))) n new p status (halted_todo means form.heap (prepared topology script) h status n new is played))
 
   -- the second file was not loaded
-  pub second_missing : (form : Form) (topology : List ℕ) (old m new : D) (p : Life P) (status : ℕ) → Loaded means form.topology 1048576 (Ok topology) old m → ((next : List ℕ → Todo) → Played means (Ask form.script 1048576 (codes "too long script\n") next) m [] status new) → RanOn means dsp (play form) old p status new p
-  second_missing form topology old m new p status first missing =
+  pub second_missing : (form : Form) (topology : List ℕ) (old m new : D) (p : Life P) (status : ℕ) → Loaded means form.topology 1048576 (Ok topology) old m → AreBytes topology → ((next : List ℕ → Todo) → Played means (Ask form.script 1048576 (codes "too long script\n") next) m [] status new) → RanOn means dsp (play form) old p status new p
+  second_missing form topology old m new p status first are missing =
       let after = λ (bytes : List ℕ). Ask form.script 1048576 (codes "too long script\n") (λ script. Free (prepared_todo form.heap (prepared bytes script))) in
       alone means dsp (play form) old new p status
-      (ask_on means form.topology 1048576 (codes "too long topology\n") after topology [] status old m new first (missing (λ script. Free (prepared_todo form.heap (prepared topology script)))))
+      (ask_on means form.topology 1048576 (codes "too long topology\n") after topology [] status old m new first are (missing (λ script. Free (prepared_todo form.heap (prepared topology script)))))
 
   -- the commands, done or cut off
   pub session_done : (commands : List Numbered) (done : Bool) (old new : D) (p q : Life P) → Phase means dsp (commands_todo commands) done old p new q → RanOn means dsp (commands_todo commands End) old p (if done then 0 else 3) new q

@@ -3,7 +3,8 @@ use Rattle.std.proofs.Common.{◌≡◌, ℕ, zero, suc, ◌<◌, ◌≤◌, tak
 use Rattle.std.proofs.lemmas.Bool.{cases_Bool, eqb-true}
 use Rattle.std.proofs.lemmas.List.{append-nil}
 use Rattle.sof_base.specs.Ports.{InputView}
-use Rattle.sof_io.specs.Bound.{input_slots, has_slot}
+use Rattle.sof_io.specs.Bound.{has_slot}
+use Rattle.sof_io.specs.Takes.{input_slots}
 use Rattle.sof_io.specs.Fills.{filled_at}
 use Rattle.sof_io.proofs.InputLaws.{slots-filled_at, slots-ended_at}
 use Rattle.sof_desk.specs.Desk.{DeskMeaning, DeskPlace, Put, DeskCall, DeskLed, Acted, WasRead}

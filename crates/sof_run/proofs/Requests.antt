@@ -5,7 +5,8 @@ use Rattle.std.specs.Option.{option_or}
 use Rattle.std.specs.Str.{bytes_eq}
 use Rattle.std.proofs.lemmas.Bool.Decides.{nat_tests}
 use Rattle.std.proofs.lemmas.Slice.Eq.{bytes_eq-Decides}
-use Rattle.sof_run.specs.Words.{Form, form, at_most, decimal_number, is_file_name, form_with, play_of}
+use Rattle.sof_run.specs.Words.{Form, at_most, decimal_number, is_file_name, form_with, play_of}
+use Rattle.sof_run.specs.LineParts.{form}
 use Rattle.sof_run.specs.Checking.{check_of}
 use Rattle.sof_run.specs.Compiling.{CompileNames, compile_of}
 use Rattle.sof_run.specs.Stressing.{at_least_one, stress_of}

@@ -1,7 +1,8 @@
 -- The numbers of a script's commands are in their ranges, and there are at most as many commands as bytes.
 use Rattle.std.proofs.Common.{◌≡◌, refl, sym, subst, ℕ, zero, suc, ◌+◌, ◌≤◌, ◌<◌, ◌^◌, ℤ, pos, negsuc, Bool, true, false, cond, ◌&&◌, List, [], ◌∷◌, length, Option, Some, None, Result, Ok, Err, arith}
-use Rattle.std.specs.Prelude.{IfOk, nat_le, nat_eq, ◌-ℤ◌}
+use Rattle.std.specs.Prelude.{IfOk, nat_le, nat_eq, ◌-ℤ◌, codes}
 use Rattle.std.specs.List.{list_all}
+use Rattle.std.specs.Str.{bytes_eq}
 use Rattle.std.proofs.Math.IntN.{+ℤ_idl}
 use Rattle.std.proofs.lemmas.Bool.{and_parts, and_from, leb-true, lt-ltb, false≢true}
 use Rattle.sof_base.specs.declared.format.Format.{Format}
@@ -12,12 +13,10 @@ use Rattle.sof_script.specs.declared.fault_causes.Cause.TheVariants as causes
 use Rattle.sof_script.specs.declared.items.Item.{Item}
 use Rattle.sof_script.specs.declared.items.Item.TheVariants.{Nothing, Bind, Do}
 use Rattle.sof_script.specs.declared.reading.ScriptFault.{ScriptFault}
-use Rattle.sof_script.specs.declared.words.Word.{Word}
-use Rattle.sof_script.specs.declared.words.Word.TheVariants as words
-use Rattle.sof_script.specs.Splitting.{before_line, with_byte, lines_of, without_return, is_skipped, all_plain, tokens_of}
+use Rattle.sof_script.specs.Splitting.{before_line, lines_of, without_return, is_skipped, all_plain, tokens_of}
+use Rattle.sof_script.specs.TokenStarts.{with_byte}
 use Rattle.sof_script.specs.ValueForms.{name_value, file_value, format_value, hex_value, in_range, decimal_value, number_value, negative, error_value}
-use Rattle.sof_script.specs.Words.{word_named}
-use Rattle.sof_script.specs.Commands.{◌⊛◌, any_number, message_number, number_values, one_name, one_number, alone, bound, params_item, values_item, hex_item, error_item, lag_item, said_by, behind_word, item_of, line_item, Read, with_item, lines_read, script_of}
+use Rattle.sof_script.specs.Commands.{◌⊛◌, any_number, message_number, number_values, one_name, one_number, alone, bound, params_item, values_item, hex_item, error_item, lag_item, said_by, item_of, line_item, Read, with_item, lines_read, script_of}
 use Rattle.sof_session.specs.CommandRanges.{is_ahead, is_lag, is_refusal, is_in_range}
 use Rattle.sof_run.specs.Halts.{IsInRange}
 
@@ -152,39 +151,37 @@ lag_fine (message ∷ ticks ∷ []) =
     (in_between 1 16 (decimal_value ticks))
 lag_fine (message ∷ ticks ∷ other ∷ args) = tt
 
-said_fine : (word : Word) (args : List (List ℕ)) → Fine (said_by word args)
-said_fine words.In args = bound_fine true args
-said_fine words.Out args = bound_fine false args
-said_fine words.Load args = alone_fine commands.Load args refl
-said_fine words.Unload args = alone_fine commands.Unload args refl
-said_fine words.Suspend args = alone_fine commands.Suspend args refl
-said_fine words.Resume args = alone_fine commands.Resume args refl
-said_fine words.Show args = alone_fine commands.Show args refl
-said_fine words.Open args = let make : List ℕ → Item = λ n. Do (commands.Open n) in always make (one_name args) (λ n. refl)
-said_fine words.Start args = let make : List ℕ → Item = λ n. Do (commands.Start n) in always make (one_name args) (λ n. refl)
-said_fine words.Stop args = let make : List ℕ → Item = λ n. Do (commands.Stop n) in always make (one_name args) (λ n. refl)
-said_fine words.Pause args = let make : List ℕ → Item = λ n. Do (commands.Pause n) in always make (one_name args) (λ n. refl)
-said_fine words.Release args = let make : List ℕ → Item = λ n. Do (commands.Release n) in always make (one_name args) (λ n. refl)
-said_fine words.Close args = let make : List ℕ → Item = λ n. Do (commands.Close n) in always make (one_name args) (λ n. refl)
-said_fine words.Get args = let make : List ℕ → Item = λ n. Do (commands.Get n) in always make (one_name args) (λ n. refl)
-said_fine words.Read args = let make : List ℕ → Item = λ n. Do (commands.Read n) in always make (one_name args) (λ n. refl)
-said_fine words.Params args = params_fine args
-said_fine words.Set args = values_fine args
-said_fine words.Bytes args = hex_fine args
-said_fine words.Tick args = let make : ℕ → Item = λ n. Do (commands.Tick n) in always make (one_number 60000 args) (λ n. refl)
-said_fine words.Refuse args = refuse_fine args
-said_fine words.Drop args = let make : ℕ → Item = λ n. Do (commands.Drop n) in applied (Between 1 100000) Ranged (Ok make) (one_number 100000 args) (λ n is. is) (one_between 100000 args)
-said_fine words.Lose args = let make : ℕ → Item = λ n. Do (commands.Lose n) in applied (Between 1 100000) Ranged (Ok make) (one_number 100000 args) (λ n is. is) (one_between 100000 args)
-said_fine words.Lag args = lag_fine args
-
-behind_fine : (word : Option Word) (args : List (List ℕ)) → Fine (behind_word word args)
-behind_fine None args = tt
-behind_fine (Some word) args = said_fine word args
+said_fine : (word : List ℕ) (args : List (List ℕ)) → Fine (said_by word args)
+said_fine word args =
+    fine_if (bytes_eq word (codes "in")) _ _ (bound_fine true args)
+    (fine_if (bytes_eq word (codes "out")) _ _ (bound_fine false args)
+    (fine_if (bytes_eq word (codes "load")) _ _ (alone_fine commands.Load args refl)
+    (fine_if (bytes_eq word (codes "unload")) _ _ (alone_fine commands.Unload args refl)
+    (fine_if (bytes_eq word (codes "suspend")) _ _ (alone_fine commands.Suspend args refl)
+    (fine_if (bytes_eq word (codes "resume")) _ _ (alone_fine commands.Resume args refl)
+    (fine_if (bytes_eq word (codes "show")) _ _ (alone_fine commands.Show args refl)
+    (fine_if (bytes_eq word (codes "open")) _ _ (let make : List ℕ → Item = λ n. Do (commands.Open n) in always make (one_name args) (λ n. refl))
+    (fine_if (bytes_eq word (codes "start")) _ _ (let make : List ℕ → Item = λ n. Do (commands.Start n) in always make (one_name args) (λ n. refl))
+    (fine_if (bytes_eq word (codes "stop")) _ _ (let make : List ℕ → Item = λ n. Do (commands.Stop n) in always make (one_name args) (λ n. refl))
+    (fine_if (bytes_eq word (codes "pause")) _ _ (let make : List ℕ → Item = λ n. Do (commands.Pause n) in always make (one_name args) (λ n. refl))
+    (fine_if (bytes_eq word (codes "release")) _ _ (let make : List ℕ → Item = λ n. Do (commands.Release n) in always make (one_name args) (λ n. refl))
+    (fine_if (bytes_eq word (codes "close")) _ _ (let make : List ℕ → Item = λ n. Do (commands.Close n) in always make (one_name args) (λ n. refl))
+    (fine_if (bytes_eq word (codes "get")) _ _ (let make : List ℕ → Item = λ n. Do (commands.Get n) in always make (one_name args) (λ n. refl))
+    (fine_if (bytes_eq word (codes "read")) _ _ (let make : List ℕ → Item = λ n. Do (commands.Read n) in always make (one_name args) (λ n. refl))
+    (fine_if (bytes_eq word (codes "params")) _ _ (params_fine args)
+    (fine_if (bytes_eq word (codes "set")) _ _ (values_fine args)
+    (fine_if (bytes_eq word (codes "bytes")) _ _ (hex_fine args)
+    (fine_if (bytes_eq word (codes "tick")) _ _ (let make : ℕ → Item = λ n. Do (commands.Tick n) in always make (one_number 60000 args) (λ n. refl))
+    (fine_if (bytes_eq word (codes "refuse")) _ _ (refuse_fine args)
+    (fine_if (bytes_eq word (codes "drop")) _ _ (let make : ℕ → Item = λ n. Do (commands.Drop n) in applied (Between 1 100000) Ranged (Ok make) (one_number 100000 args) (λ n is. is) (one_between 100000 args))
+    (fine_if (bytes_eq word (codes "lose")) _ _ (let make : ℕ → Item = λ n. Do (commands.Lose n) in applied (Between 1 100000) Ranged (Ok make) (one_number 100000 args) (λ n is. is) (one_between 100000 args))
+    (fine_if (bytes_eq word (codes "lag")) _ _ (lag_fine args)
+    tt))))))))))))))))))))))
 
 item_fine : (tokens : Option (List (List ℕ))) → Fine (item_of tokens)
 item_fine None = tt
 item_fine (Some []) = tt
-item_fine (Some (first ∷ args)) = behind_fine (word_named first) args
+item_fine (Some (word ∷ args)) = said_fine word args
 
 line_fine : (line : List ℕ) → Fine (line_item line)
 line_fine line =

@@ -8,8 +8,9 @@ use Rattle.std.specs.List.Sorted.{IsStrictlyIncreasing}
 use Rattle.std.specs.Option.{option_map_or}
 use Rattle.std.specs.Str.{bytes_eq}
 use Rattle.sof_base.specs.Ports.{InputView, OutputView}
-use Rattle.sof_io.specs.Bound.{input_slots, output_slots, has_slot}
-use Rattle.sof_io.specs.Puts.{with_slot}
+use Rattle.sof_io.specs.Bound.{output_slots, has_slot}
+use Rattle.sof_io.specs.Takes.{input_slots}
+use Rattle.sof_io.specs.Bound.{with_slot}
 use Rattle.sof_io.specs.Fills.{with_input}
 use Rattle.sof_io.proofs.Ascending.{ascending_more, ascending_none, ascending_distinct}
 use Rattle.sof_io.proofs.InputLaws.{slots-with_input, has_slot-with_input}
@@ -17,7 +18,8 @@ use Rattle.sof_io.proofs.OutputLaws.{has_slot-with_slot}
 use Rattle.stream_law.specs.declared.graph.Comp.{Comp}
 use Rattle.tplg_plan.specs.declared.plans.Plan.{Plan}
 use Rattle.sof_script.specs.Commands.{Bound}
-use Rattle.sof_run.specs.Bindings.{is_endpoint_kind, has_widget_name, is_sought, has_endpoint, is_endpoint_bound, is_right, wrong_behind, slot_of, bound_inputs}
+use Rattle.sof_run.specs.Bindings.{is_endpoint_kind, is_sought, is_right, wrong_behind, bound_inputs}
+use Rattle.sof_run.specs.LineParts.{has_widget_name, has_endpoint, is_endpoint_bound, slot_of}
 
 -- what passes a test is found
 found_one : (f : Comp → Bool) (cs : List Comp) → list_any f cs ≡ true → (c : Comp) × (find f cs ≡ Some c) × (f c ≡ true)

@@ -5,6 +5,7 @@ use Rattle.sof_desk.specs.Desk.{DeskMeaning, DeskAct, Put, Spoken, DeskCall, Loa
 use Rattle.mbox_link.specs.Calls.{Meaning}
 use Rattle.sof_session.specs.Written.{Out}
 use Rattle.sof_session.specs.Lives.{Life, Turn, Turned}
+use Rattle.sof_run.specs.TopologyBytes.{AreBytes}
 use Rattle.sof_run.specs.Lines.{no_memory_line}
 use Rattle.sof_run.specs.Todo.{Todo, Stop, Ask, Do, Step, Free, Says, Played, RanOn, DeskPhase, LeadsOn, PhaseFails}
 
@@ -29,9 +30,9 @@ module _ {D : Type 0} (means : DeskMeaning D) where
       record { calls = Did act false ∷ []; led = (new, acted, refl); goes = (refl, (refl, refl, refl)) }
 
   module _ (name : List ℕ) (limit : ℕ) (line : List ℕ) (next : List ℕ → Todo) where
-    pub ask_on : (bytes : List ℕ) (turns : List Turn) (status : ℕ) (old m new : D) → Loaded means name limit (Ok bytes) old m → Played means (next bytes) m turns status new → Played means (Ask name limit line next) old turns status new
-    ask_on bytes turns status old m new loaded played =
-        record { calls = Load name limit (Ok bytes) ∷ played.calls; led = (m, loaded, played.led); goes = (refl, refl, played.goes) }
+    pub ask_on : (bytes : List ℕ) (turns : List Turn) (status : ℕ) (old m new : D) → Loaded means name limit (Ok bytes) old m → AreBytes bytes → Played means (next bytes) m turns status new → Played means (Ask name limit line next) old turns status new
+    ask_on bytes turns status old m new loaded are played =
+        record { calls = Load name limit (Ok bytes) ∷ played.calls; led = (m, loaded, played.led); goes = (refl, refl, played.goes, are) }
 
     pub ask_long : (status : ℕ) (old m new : D) → Loaded means name limit (Err TooLong) old m → Played means (Stop line 5) m [] status new → Played means (Ask name limit line next) old [] status new
     ask_long status old m new loaded played =

@@ -1,5 +1,5 @@
 -- What holds throughout what `run` has to do.
-use Rattle.std.proofs.Common.{◌≡◌, ◌⊎◌, ℕ, Bool, true, false, List, [], ◌∷◌, Option, Some, None, Result, Ok, Err, inl, inr, refl}
+use Rattle.std.proofs.Common.{◌≡◌, ◌⊎◌, ℕ, List, [], ◌∷◌, Option, Some, None, Result, Ok, Err, inl, inr, refl}
 use Rattle.sof_base.specs.Ports.{InputView}
 use Rattle.sof_desk.specs.Desk.{DeskCall}
 use Rattle.tplg_model.specs.declared.fault.TplgFault.{TplgFault}
@@ -19,7 +19,7 @@ use Rattle.sof_run.specs.declared.prepare.Halt.TheVariants as halt
 use Rattle.sof_run.specs.Words.{Form}
 use Rattle.sof_run.specs.Bindings.{bound_inputs, bound_slots}
 use Rattle.sof_run.specs.Rounds.{Round, rounds_of}
-use Rattle.sof_run.specs.Todo.{Todo, End, Free, DoneBy}
+use Rattle.sof_run.specs.Todo.{Todo, End, DoneBy}
 use Rattle.sof_run.specs.Lines.{lines_after, halt_status}
 use Rattle.sof_run.specs.Prepared.{Prepared, Ready, Halted, prepared, checked_rules, checked_file, checked}
 use Rattle.sof_run.specs.Play.{prepared_todo, ready_todo, flush_todo, lines_todo, rounds_todo, session_todo, bindings_todo, play}

@@ -3,11 +3,14 @@ use Rattle.std.proofs.Common.{◌≡◌, ◌≢◌, ℕ, zero, suc, Bool, true, 
 use Rattle.std.proofs.lemmas.Bool.{cases_Bool, eq-eqb, eqb-true, ne_eqb}
 use Rattle.std.proofs.lemmas.List.{take-append-drop}
 use Rattle.sof_base.specs.Ports.{InputView}
-use Rattle.sof_io.specs.Bound.{input_slots, has_slot}
-use Rattle.sof_io.specs.Fills.{is_wanting, wanting, filled_at, ended_at}
+use Rattle.sof_io.specs.Bound.{has_slot}
+use Rattle.sof_io.specs.Takes.{input_slots}
+use Rattle.sof_io.specs.Fills.{wanting, filled_at, ended_at}
+use Rattle.sof_io.specs.Takes.{is_wanting}
 use Rattle.stream_law.specs.Table.{list_of}
 use Rattle.sof_desk.specs.Desk.{DeskMeaning, DeskPlace, DeskCall, DeskLed, FrontOf, WasRead}
-use Rattle.sof_session.specs.Fills.{FilledBy, AreNew, next_read, after_read, bytes_read, input_ends, may_grow}
+use Rattle.sof_session.specs.Fills.{FilledBy, next_read, after_read, bytes_read, input_ends, may_grow}
+use Rattle.sof_session.specs.NewInputs.{AreNew}
 use Rattle.sof_run.specs.Calls.{reading}
 use Rattle.sof_run.proofs.Refills.{slots-after_read}
 

@@ -5,8 +5,11 @@ use Rattle.std.proofs.lemmas.Bool.Decides.{nat_tests}
 use Rattle.std.proofs.lemmas.List.{length-append}
 use Rattle.std.specs.List.{AllByRecursion, IsDistinct}
 use Rattle.sof_base.specs.Ports.{InputView}
-use Rattle.sof_io.specs.Bound.{input_slots, has_slot}
-use Rattle.sof_io.specs.Fills.{is_wanting, wanting, held_at, has_ended, filled_at, ended_at}
+use Rattle.sof_io.specs.Bound.{has_slot}
+use Rattle.sof_io.specs.Takes.{input_slots}
+use Rattle.sof_io.specs.Fills.{wanting, filled_at, ended_at}
+use Rattle.sof_io.specs.Takes.{is_wanting}
+use Rattle.sof_io.specs.Takes.{held_at, has_ended}
 use Rattle.sof_session.specs.Fills.{next_read, after_read}
 
 -- the slot is there, more bytes of it may come, and it holds fewer than a level

@@ -9,7 +9,8 @@ use Rattle.sof_run.specs.Todo.{Todo, Do, DoneBy}
 use Rattle.sof_run.specs.Rounds.{Round}
 use Rattle.sof_run.specs.Lines.{with_newline}
 use Rattle.sof_run.specs.Play.{flush_todo, lines_todo}
-use Rattle.sof_run.specs.Pieces.{Piece, slot_pieces, line_pieces, bytes_of_pieces, BreaksOff}
+use Rattle.sof_run.specs.Pieces.{Piece, bytes_of_pieces, BreaksOff}
+use Rattle.sof_run.specs.LineParts.{slot_pieces, line_pieces}
 
 pub more_none : (o : Option (List ℕ)) → o ≡ with_more o []
 more_none None = refl

@@ -9,7 +9,7 @@ use Rattle.stream_law.specs.declared.graph.Kind.{Kind}
 use Rattle.stream_law.specs.declared.graph.Kind.TheVariants.{HostPlay, HostCapture, DaiPlay, DaiCapture}
 use Rattle.tplg_plan.specs.declared.plans.Plan.{Plan}
 use Rattle.sof_io.specs.Bound.{output_slots}
-use Rattle.sof_io.specs.Puts.{with_slot}
+use Rattle.sof_io.specs.Bound.{with_slot}
 use Rattle.sof_io.specs.Fills.{with_input}
 use Rattle.sof_desk.specs.Desk.{DeskAct, Create, Open}
 use Rattle.sof_script.specs.Commands.{Bound}
@@ -20,30 +20,17 @@ use Rattle.sof_script.specs.Commands.{Bound}
 abbrev pub is_endpoint_kind : Bool → Kind → Bool
 is_endpoint_kind true HostPlay = true
 is_endpoint_kind true (DaiCapture format) = true
-is_endpoint_kind true kind = false
 is_endpoint_kind false HostCapture = true
 is_endpoint_kind false (DaiPlay format) = true
-is_endpoint_kind false kind = false
+is_endpoint_kind _ _ = false
 
--- the widget of this id has this name
-abbrev pub has_widget_name : Plan → List ℕ → ℕ → Bool
-has_widget_name plan name id = option_map_or (λ other. bytes_eq name other) (slice_get plan.names id) false
-
--- a component is the endpoint of this direction and this name
+-- a component is the endpoint of this direction, and its widget has this name
 abbrev pub is_sought : Plan → Bool → List ℕ → Comp → Bool
-is_sought plan input name c = is_endpoint_kind input c.kind && has_widget_name plan name c.id
+is_sought plan input name c = is_endpoint_kind input c.kind && option_map_or (λ other. bytes_eq name other) (slice_get plan.names c.id) false
 
--- an endpoint of this direction has this name
-abbrev pub has_endpoint : Plan → Bool → List ℕ → Bool
-has_endpoint plan input name = list_any (is_sought plan input name) plan.graph.comps
-
--- some of these binds this endpoint
-abbrev pub is_endpoint_bound : List Bound → List ℕ → Bool
-is_endpoint_bound bindings endpoint = list_any (λ b. bytes_eq endpoint b.endpoint) bindings
-
--- a binding's name is an endpoint of its direction, which none of the earlier ones binds
+-- a binding's name is an endpoint of its direction, and none of the earlier ones binds this name
 abbrev pub is_right : Plan → List Bound → Bound → Bool
-is_right plan earlier b = has_endpoint plan b.input b.endpoint && not (is_endpoint_bound earlier b.endpoint)
+is_right plan earlier b = list_any (is_sought plan b.input b.endpoint) plan.graph.comps && not (list_any (λ e. bytes_eq b.endpoint e.endpoint) earlier)
 
 -- the line of the first that is wrong, behind earlier ones
 abbrev pub wrong_behind : Plan → List Bound → List Bound → Option ℕ
@@ -56,13 +43,9 @@ wrong_binding plan bindings = wrong_behind plan [] bindings
 
 -- ---- what they bind
 
--- the slot of an endpoint is the id of its component
-abbrev pub slot_of : Plan → Bool → List ℕ → ℕ
-slot_of plan input name = option_map_or (λ c. c.id) (find (is_sought plan input name) plan.graph.comps) 0
-
--- the slot of a binding
+-- the slot of a binding: the id of its endpoint's component
 abbrev pub bound_slot : Plan → Bound → ℕ
-bound_slot plan b = slot_of plan b.input b.endpoint
+bound_slot plan b = option_map_or (λ c. c.id) (find (is_sought plan b.input b.endpoint) plan.graph.comps) 0
 
 -- the file of a binding is opened to be read, or created to be written
 abbrev pub binding_act : Plan → Bound → DeskAct

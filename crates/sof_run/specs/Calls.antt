@@ -25,7 +25,7 @@ use Rattle.sof_stress.specs.CommandTurns.{CommandTurn, turn_counted, no_counts}
 use Rattle.sof_stress.specs.StressRun.{stress_begins, stress_turns}
 use Rattle.sof_run.specs.Compiling.{CompileNames, source_line, source_status, wrote_line}
 use Rattle.sof_run.specs.Stressing.{stress_lines}
-use Rattle.sof_run.specs.Requests.{Request, Play, Check, Compile, Stress, request_of}
+use Rattle.sof_run.specs.Requests.{Request, Play, Check, Compile, Stress}
 
 -- ---- what the loaded bytes come to
 
@@ -61,11 +61,10 @@ last_line line status = record { items = saying line ∷ []; status = status }
 
 -- a load, by what it answered first of all that loads answered: the bytes, behind which it goes on, or why there are none
 abbrev pub load_course : List ℕ → ℕ → List ℕ → List Heard → (List Heard → Course) → Course
-load_course name limit line [] next = record { items = Calls (Load name limit (Err Failed)) ∷ []; status = 3 }
 load_course name limit line (Ok bytes ∷ heard) next = before_course (Calls (Load name limit (Ok bytes)) ∷ []) (next heard)
 load_course name limit line (Err TooLong ∷ heard) next = before_course (Calls (Load name limit (Err TooLong)) ∷ []) (last_line line 5)
 load_course name limit line (Err OutOfMemory ∷ heard) next = before_course (Calls (Load name limit (Err OutOfMemory)) ∷ []) (last_line no_memory_line 7)
-load_course name limit line (Err Failed ∷ heard) next = record { items = Calls (Load name limit (Err Failed)) ∷ []; status = 3 }
+load_course name limit line _ next = record { items = Calls (Load name limit (Err Failed)) ∷ []; status = 3 }
 
 -- a turn, and what comes next by what it came to and by the turns behind it
 abbrev pub turning : Task → List Turn → (Out → List Turn → Course) → Course
@@ -101,17 +100,14 @@ units (round ∷ rounds) turns =
 
 -- the bindings in their order
 abbrev pub bindings : Plan → List Bound → Course → Course
-bindings plan [] next = next
-bindings plan (b ∷ bs) next = before_course (Calls (Did (binding_act plan b) true) ∷ []) (bindings plan bs next)
+bindings plan bs next = before_course (map (λ b. Calls (Did (binding_act plan b) true)) bs) next
 
 -- and then a session over what they bind
-abbrev pub session : ℕ → Plan → ReadScript → List Turn → Course
-session heap plan read turns =
+abbrev pub files : ℕ → Result (Topology × ReadScript) Halt → List Turn → Course
+files heap (Ok (t, read)) turns =
+    let plan = plan_of t in
     bindings plan read.bindings
     (turning (Begin plan heap (bound_inputs plan [] read.bindings) (bound_slots plan read.bindings)) turns (λ out turns. units (rounds_of read.commands) turns))
-
-abbrev pub files : ℕ → Result (Topology × ReadScript) Halt → List Turn → Course
-files heap (Ok (t, read)) turns = session heap (plan_of t) read turns
 files heap (Err why) turns = last_line (halt_line why) (halt_status why)
 
 abbrev pub playing : Form → Result (Topology × ReadScript) Halt → List Heard → List Turn → Course
@@ -153,17 +149,13 @@ stressing room sent seed turns =
 
 -- ---- all words
 
--- the course where this is asked for, or nothing is
-abbrev pub course_for : ℕ → ℕ → Option Request → Findings → List Heard → List Turn → Course
-course_for room sent (Some (Play form)) found heard turns = playing form found.run heard turns
-course_for room sent (Some (Check name)) found heard turns = checking name found.topology heard
-course_for room sent (Some (Compile names)) found heard turns = compiling names found.source heard
-course_for room sent (Some (Stress seed)) found heard turns = stressing room sent seed turns
-course_for room sent None found heard turns = last_line (codes "words\n") 1
-
--- the course of these words, over a device of this room; a stress has sent so many messages at its end
-abbrev pub course : ℕ → ℕ → List (List ℕ) → Findings → List Heard → List Turn → Course
-course room sent words found heard turns = course_for room sent (request_of room words) found heard turns
+-- the course where this is asked for, or nothing is, over a device of this room; a stress has sent so many messages at its end
+abbrev pub course : ℕ → ℕ → Option Request → Findings → List Heard → List Turn → Course
+course room sent (Some (Play form)) found heard turns = playing form found.run heard turns
+course room sent (Some (Check name)) found heard turns = checking name found.topology heard
+course room sent (Some (Compile names)) found heard turns = compiling names found.source heard
+course room sent (Some (Stress seed)) found heard turns = stressing room sent seed turns
+course room sent None found heard turns = last_line (codes "words\n") 1
 
 -- ---- what was made of it
 
@@ -171,15 +163,12 @@ course room sent words found heard turns = course_for room sent (request_of room
 abbrev pub heard_in : List DeskCall → List Heard
 heard_in [] = []
 heard_in (Load name limit heard ∷ calls) = heard ∷ heard_in calls
-heard_in (Did act done ∷ calls) = heard_in calls
-heard_in (Read slot size got ∷ calls) = heard_in calls
+heard_in (_ ∷ calls) = heard_in calls
 
 -- memory is wanting: the line is said, and no more is done
 abbrev pub Wants : List Turn → List DeskCall → ℕ → Type 0
-Wants turns [] status = ⊥
-Wants turns (Load name limit heard ∷ calls) status = ⊥
-Wants turns (Read slot size got ∷ calls) status = ⊥
 Wants turns (Did act done ∷ calls) status = (act ≡ Put Spoken no_memory_line) × (turns ≡ []) × (calls ≡ []) × (status ≡ (if done then 7 else 3))
+Wants turns _ status = ⊥
 
 -- These turns and calls were made, in this order and no others: all of it; or its front up to a call that failed, after which the
 -- status is 3; or its front up to a place where memory was wanting.
@@ -189,12 +178,7 @@ Made (Memory ∷ items) end turns calls status = Made items end turns calls stat
 Made (Turns task ∷ items) end [] calls status = ⊥
 Made (Turns task ∷ items) end (turn ∷ turns) calls status = (turn.task ≡ task) × Made items end turns calls status
 Made (Calls call ∷ items) end turns [] status = ⊥
-Made (Calls (Load name limit heard) ∷ items) end turns (made ∷ calls) status = (made ≡ Load name limit heard) × Made items end turns calls status
-Made (Calls (Read slot size got) ∷ items) end turns (made ∷ calls) status = (made ≡ Read slot size got) × Made items end turns calls status
 Made (Calls (Did act done) ∷ items) end turns (made ∷ calls) status =
     ((made ≡ Did act true) × Made items end turns calls status)
     ⊎ ((made ≡ Did act false) × (turns ≡ []) × (calls ≡ []) × (status ≡ 3))
-
--- a course was made, or a front of it
-abbrev pub IsMade : Course → List Turn → List DeskCall → ℕ → Type 0
-IsMade c turns calls status = Made c.items c.status turns calls status
+Made (Calls call ∷ items) end turns (made ∷ calls) status = (made ≡ call) × Made items end turns calls status

@@ -2,7 +2,6 @@
 use Rattle.std.specs.Prelude.{ℕ, ◌&&◌, List, [], ◌∷◌, ◌++◌, length, Option, Some, None, codes, decimal, if◌then◌else◌}
 use Rattle.std.specs.Str.{bytes_eq}
 use Rattle.tplg_model.specs.declared.block.Topology.{Topology}
-use Rattle.tplg_plan.specs.declared.plans.Plan.{Plan}
 use Rattle.tplg_graph.specs.TopologyNeed.{need_of}
 use Rattle.tplg_graph.specs.PlanOf.{plan_of}
 use Rattle.sof_run.specs.Words.{is_file_name}
@@ -12,9 +11,7 @@ use Rattle.sof_run.specs.Words.{is_file_name}
 -- `check TOPOLOGY`: the name of its file
 abbrev pub check_of : List (List ℕ) → Option (List ℕ)
 check_of (verb ∷ topology ∷ []) = if bytes_eq verb (codes "check") && is_file_name topology then Some topology else None
-check_of [] = None
-check_of (verb ∷ []) = None
-check_of (verb ∷ topology ∷ more ∷ words) = None
+check_of _ = None
 
 -- ---- what is said
 
@@ -22,18 +19,15 @@ check_of (verb ∷ topology ∷ more ∷ words) = None
 abbrev pub count_line : List ℕ → ℕ → List ℕ
 count_line word n = word ++ decimal n
 
--- what a plan has of each, and how many bytes of heap are needed; its joins are the real routes
-abbrev pub counts_on : Plan → ℕ → List (List ℕ)
-counts_on plan need =
+-- the lines of a topology: what its plan has of each, and how many bytes of heap are needed; the plan's joins are the real routes
+abbrev pub counts_of : Topology → List (List ℕ)
+counts_of t =
+    let plan = plan_of t in
     count_line (codes "pipelines ") (length plan.graph.pipes)
     ∷ count_line (codes "components ") (length plan.graph.comps)
     ∷ count_line (codes "buffers ") (length plan.graph.edges)
     ∷ count_line (codes "routes ") (length plan.graph.joins)
     ∷ count_line (codes "streams ") (length plan.streams)
     ∷ count_line (codes "controls ") (length plan.controls)
-    ∷ count_line (codes "need ") need
+    ∷ count_line (codes "need ") (need_of t)
     ∷ []
-
--- the lines of a topology
-abbrev pub counts_of : Topology → List (List ℕ)
-counts_of t = counts_on (plan_of t) (need_of t)

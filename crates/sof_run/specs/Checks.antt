@@ -1,5 +1,5 @@
 -- What `check` does, by the bytes of its file.
-use Rattle.std.specs.Prelude.{◌≡◌, ◌⊎◌, ℕ, ◌≤◌, true, List, [], ◌∷◌, ◌++◌, length, map, Some, Ok, Err, codes, if◌then◌else◌}
+use Rattle.std.specs.Prelude.{◌≡◌, ◌⊎◌, ℕ, ◌≤◌, true, List, [], ◌∷◌, ◌++◌, length, map, Some, Ok, Err, codes, if◌then◌else◌, ◌<◌}
 use Rattle.std.specs.List.{concat}
 use Rattle.sof_desk.specs.declared.calls.LoadFault.TheVariants.{TooLong}
 use Rattle.sof_desk.specs.Desk.{DeskMeaning, DeskPlace, Put, Spoken, DeskCall, Load, Did, same_place, with_more}
@@ -9,7 +9,7 @@ use Rattle.tplg_rules.specs.WellFormed.{IsWellFormed, Breaks}
 use Rattle.sof_run.specs.declared.prepare.Halt.{Halt}
 use Rattle.sof_run.specs.declared.prepare.Halt.TheVariants as halts
 use Rattle.sof_run.specs.Lines.{no_memory_line, with_newline, halt_line}
-use Rattle.sof_run.specs.TopologyBytes.{AreBytes, IsLong, IsFile, IsBroken}
+use Rattle.sof_run.specs.TopologyBytes.{IsFile, IsBroken}
 use Rattle.sof_run.specs.Checking.{check_of, counts_of}
 use Rattle.sof_run.specs.Calls.{heard_in}
 
@@ -38,7 +38,7 @@ telling name bytes lines = Load name 1048576 (Ok bytes) ∷ map saying lines
 abbrev pub CheckVerdict : List ℕ → List ℕ → List DeskCall → ℕ → Type 0
 CheckVerdict name bytes calls status =
     ((status ≡ 3) ⊎ (status ≡ 7))
-    ⊎ (((status ≡ 5) × IsLong bytes × (calls ≡ Load name 1048576 (Err TooLong) ∷ saying (codes "too long topology\n") ∷ []))
+    ⊎ (((status ≡ 5) × (1048576 < length bytes) × (calls ≡ Load name 1048576 (Err TooLong) ∷ saying (codes "too long topology\n") ∷ []))
     ⊎ (((why : Halt) × (status ≡ 2) × (length bytes ≤ 1048576) × IsWrong bytes why × (calls ≡ telling name bytes (halt_line why ∷ [])))
     ⊎ ((status ≡ 0) × (length bytes ≤ 1048576) × ((t : Topology) × IsRight bytes t × (calls ≡ telling name bytes (map with_newline (counts_of t)))))))
 
@@ -66,9 +66,9 @@ pub record Checks {D P : Type 0} (means : DeskMeaning D) (words : List (List ℕ
   -- the device is not touched
   pub alone : (name : List ℕ) → check_of words ≡ Some name → q ≡ p
   -- where the desk tells the file, the status is by its bytes
-  pub judged : (name bytes : List ℕ) → check_of words ≡ Some name → means.holds old name ≡ Some bytes → AreBytes bytes → CheckVerdict name bytes calls status
+  pub judged : (name bytes : List ℕ) → check_of words ≡ Some name → means.holds old name ≡ Some bytes → CheckVerdict name bytes calls status
   -- whatever the desk tells, it is by the bytes that the load brought
-  pub heard : (name bytes : List ℕ) → check_of words ≡ Some name → heard_in calls ≡ Ok bytes ∷ [] → AreBytes bytes → CheckVerdict name bytes calls status
+  pub heard : (name bytes : List ℕ) → check_of words ≡ Some name → heard_in calls ≡ Ok bytes ∷ [] → CheckVerdict name bytes calls status
   -- of a right topology the counts were said, and nothing else was written
   pub counted : (name bytes : List ℕ) (t : Topology) → check_of words ≡ Some name → means.holds old name ≡ Some bytes → length bytes ≤ 1048576 → IsRight bytes t
       → WroteText means (concat (map with_newline (counts_of t))) old new status

@@ -1,5 +1,5 @@
 -- What `compile` has to do, by the bytes of the source that its words name.
-use Rattle.std.specs.Prelude.{◌≡◌, ℕ, List, [], ◌∷◌, Result, Ok, Err, codes}
+use Rattle.std.specs.Prelude.{◌≡◌, ℕ, List, [], ◌∷◌, Some, Result, Ok, Err, codes}
 use Rattle.sof_desk.specs.Desk.{DeskMeaning, Create, Put, Slot}
 use Rattle.tplg_model.specs.declared.block.Topology.{Topology}
 use Rattle.tplg_model.specs.File.{IsTopology, spelling}
@@ -7,8 +7,12 @@ use Rattle.tplg_compile.specs.declared.source_fault.SourceFault.{SourceFault}
 use Rattle.tplg_compile.specs.InOrder.{compiled_of}
 use Rattle.sof_run.specs.Todo.{Todo, End, Stop, Ask, Do, Free}
 use Rattle.sof_run.specs.Play.{lines_todo}
-use Rattle.sof_run.specs.Compiling.{CompileNames, source_line, source_status, wrote_line}
-use Rattle.sof_run.specs.Compiles.{Sourced}
+use Rattle.sof_run.specs.Compiling.{CompileNames, compile_of, source_line, source_status, wrote_line}
+
+-- where the desk tells the source that the words of `compile` name
+pub record Sourced {D : Type 0} (means : DeskMeaning D) (words : List (List ℕ)) (old : D) (names : CompileNames) (text : List ℕ) : Type 0 where
+  pub named : compile_of words ≡ Some names
+  pub told : means.holds old names.source ≡ Some text
 
 -- the file is created in slot 0, all its bytes are appended at once, and their number is said
 abbrev pub file_todo : List ℕ → List ℕ → Todo → Todo

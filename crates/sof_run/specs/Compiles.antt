@@ -1,5 +1,5 @@
 -- What `compile` does, by the bytes of its source.
-use Rattle.std.specs.Prelude.{◌≡◌, ◌⊎◌, ℕ, ◌≤◌, true, List, [], ◌∷◌, length, nat_eq, Option, Some, Ok, Err, codes, if◌then◌else◌}
+use Rattle.std.specs.Prelude.{◌≡◌, ◌⊎◌, ℕ, ◌≤◌, true, List, [], ◌∷◌, length, nat_eq, Option, Some, Ok, Err, codes, if◌then◌else◌, ◌<◌}
 use Rattle.sof_desk.specs.declared.calls.LoadFault.TheVariants.{TooLong}
 use Rattle.sof_desk.specs.Desk.{DeskMeaning, DeskPlace, Slot, Spoken, Create, Put, DeskCall, Load, Did, with_more, with_nothing}
 use Rattle.tplg_model.specs.declared.block.Topology.{Topology}
@@ -7,7 +7,7 @@ use Rattle.tplg_model.specs.File.{spelling}
 use Rattle.tplg_compile.specs.declared.source_fault.SourceFault.{SourceFault}
 use Rattle.tplg_compile.specs.Compiled.{IsCompiled, IsCompileFault}
 use Rattle.sof_run.specs.Lines.{no_memory_line, with_newline}
-use Rattle.sof_run.specs.TopologyBytes.{IsLong, IsFile}
+use Rattle.sof_run.specs.TopologyBytes.{IsFile}
 use Rattle.sof_run.specs.Checks.{saying, Spoke, IsFront}
 use Rattle.sof_run.specs.Calls.{heard_in}
 use Rattle.sof_run.specs.Compiling.{CompileNames, compile_of, source_line, wrote_line}
@@ -22,7 +22,7 @@ making out bytes = Did (Create 0 out) true ∷ Did (Put (Slot 0) bytes) true ∷
 abbrev pub CompileVerdict : CompileNames → List ℕ → List DeskCall → ℕ → Type 0
 CompileVerdict names text calls status =
     ((status ≡ 3) ⊎ (status ≡ 7))
-    ⊎ (((status ≡ 5) × IsLong text × (calls ≡ Load names.source 1048576 (Err TooLong) ∷ saying (codes "too long source\n") ∷ []))
+    ⊎ (((status ≡ 5) × (1048576 < length text) × (calls ≡ Load names.source 1048576 (Err TooLong) ∷ saying (codes "too long source\n") ∷ []))
     ⊎ (((fault : SourceFault) × (status ≡ 4) × (length text ≤ 1048576) × IsCompileFault text fault
     × (calls ≡ Load names.source 1048576 (Ok text) ∷ saying (source_line fault) ∷ []))
     ⊎ ((status ≡ 0) × (length text ≤ 1048576) × ((t : Topology) × IsCompiled text t × (calls ≡ Load names.source 1048576 (Ok text) ∷ making names.out (spelling t))))))
@@ -49,24 +49,19 @@ WroteFile means bytes line old new status =
     ⊎ (((status ≡ 7) × Spoke means no_memory_line old new)
     ⊎ ((status ≡ 3) × ((part : List ℕ) × IsFront part no_memory_line × Spoke means part old new)))))
 
--- where the desk tells the source that the words of `compile` name
-pub record Sourced {D : Type 0} (means : DeskMeaning D) (words : List (List ℕ)) (old : D) (names : CompileNames) (text : List ℕ) : Type 0 where
-  pub named : compile_of words ≡ Some names
-  pub told : means.holds old names.source ≡ Some text
-
 -- ---- all
 
 -- Where the words are those of `compile`.
 pub record Compiles {D P : Type 0} (means : DeskMeaning D) (words : List (List ℕ)) (old : D) (p : P) (calls : List DeskCall) (status : ℕ) (new : D) (q : P) : Type 0 where
   -- the device is not touched
   pub alone : (names : CompileNames) → compile_of words ≡ Some names → q ≡ p
-  -- the status is by the source's bytes
-  pub judged : (names : CompileNames) (text : List ℕ) → Sourced means words old names text → CompileVerdict names text calls status
+  -- where the desk tells the source that the words name, the status is by its bytes
+  pub judged : (names : CompileNames) (text : List ℕ) → compile_of words ≡ Some names → means.holds old names.source ≡ Some text → CompileVerdict names text calls status
   -- whatever the desk tells, it is by the bytes that the load brought
   pub heard : (names : CompileNames) (text : List ℕ) → compile_of words ≡ Some names → heard_in calls ≡ Ok text ∷ [] → CompileVerdict names text calls status
   -- of a source within its limit the file of its topology was made, or a front of it, and nothing else was written
-  pub wrote : (names : CompileNames) (text : List ℕ) (t : Topology) → Sourced means words old names text → length text ≤ 1048576 → IsCompiled text t
+  pub wrote : (names : CompileNames) (text : List ℕ) (t : Topology) → compile_of words ≡ Some names → means.holds old names.source ≡ Some text → length text ≤ 1048576 → IsCompiled text t
       → WroteFile means (spelling t) (with_newline (wrote_line (spelling t))) old new status
   -- what was made reads back as the topology
-  pub reads_back : (names : CompileNames) (text : List ℕ) (t : Topology) → Sourced means words old names text → IsCompiled text t → status ≡ 0
+  pub reads_back : (names : CompileNames) (text : List ℕ) (t : Topology) → compile_of words ≡ Some names → means.holds old names.source ≡ Some text → IsCompiled text t → status ≡ 0
       → IsFile (spelling t) t

@@ -16,18 +16,11 @@ pub record CompileNames : Type 0 where
   pub source : List ℕ
   pub out : List ℕ
 
--- these names
-abbrev pub names : List ℕ → List ℕ → CompileNames
-names source out = record { source = source; out = out }
-
 -- `compile SOURCE OUT`
 abbrev pub compile_of : List (List ℕ) → Option CompileNames
 compile_of (verb ∷ source ∷ out ∷ []) =
-    if bytes_eq verb (codes "compile") && (is_file_name source && is_file_name out) then Some (names source out) else None
-compile_of [] = None
-compile_of (verb ∷ []) = None
-compile_of (verb ∷ source ∷ []) = None
-compile_of (verb ∷ source ∷ out ∷ more ∷ words) = None
+    if bytes_eq verb (codes "compile") && (is_file_name source && is_file_name out) then Some (record { source = source; out = out }) else None
+compile_of _ = None
 
 -- ---- what is said
 

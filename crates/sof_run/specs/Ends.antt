@@ -1,6 +1,6 @@
 -- How a run ends, whatever its words.
 use Rattle.std.specs.Prelude.{◌≡◌, ◌⊎◌, ℕ, List, [], ◌∷◌, None}
-use Rattle.sof_desk.specs.Desk.{DeskAct, Create, Put, Open, DeskCall, Load, Did, Read}
+use Rattle.sof_desk.specs.Desk.{DeskAct, Put, DeskCall, Load, Did, Read}
 use Rattle.sof_run.specs.Words.{play_of}
 use Rattle.sof_run.specs.Checking.{check_of}
 use Rattle.sof_run.specs.Compiling.{compile_of}
@@ -10,9 +10,8 @@ use Rattle.sof_run.specs.Stressing.{stress_of}
 
 -- a file is created, or opened
 abbrev pub IsOpening : DeskAct → Type 0
-IsOpening (Create slot name) = Unit {0}
 IsOpening (Put place piece) = ⊥
-IsOpening (Open slot name) = Unit {0}
+IsOpening _ = Unit {0}
 
 -- the calls were loads, creates and opens alone
 abbrev pub AreOpening : List DeskCall → Type 0

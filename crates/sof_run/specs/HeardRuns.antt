@@ -1,5 +1,5 @@
 -- The run that is played of files whose bytes the desk need not tell: over the bytes that its loads and reads brought.
-use Rattle.std.specs.Prelude.{◌≡◌, ◌⊎◌, ℕ, List, [], ◌∷◌, length, map, take, Option, Some, Ok}
+use Rattle.std.specs.Prelude.{◌≡◌, ◌⊎◌, ℕ, List, [], ◌∷◌, length, map, take, Some, Ok}
 use Rattle.sof_desk.specs.Desk.{DeskCall}
 use Rattle.mbox_link.specs.Calls.{Meaning}
 use Rattle.tplg_model.specs.declared.block.Topology.{Topology}
@@ -36,12 +36,10 @@ heard_ground b turns = record {
   slots = bound_slots (plan_of b.t) b.read.bindings;
 }
 
--- the turns made the written run of the commands that they carried out
-pub record PlaysHeard {P : Type 0} (dsp : Meaning P) (room : ℕ) (words : List (List ℕ)) (calls : List DeskCall) (b : Brought room words calls) (turns : List Turn) (p : P) (last : Life P) : Type 0 where
-  pub legs : List Leg
-  pub over : RunOver dsp (heard_ground b turns) (take (length legs) (map (λ round. round.numbered.command) (rounds_of b.read.commands))) legs p turns last
-
--- it was played; or the desk failed, or memory was wanting, before a session was begun, and the device is as it was handed in
+-- The turns made the written run of the commands that they carried out; or the desk failed, or memory was wanting, before a session was
+-- begun, and the device is as it was handed in.
 abbrev pub PlaysWhatIsHeard : {P : Type 0} → Meaning P → List (List ℕ) → List DeskCall → List Turn → ℕ → P → Life P → Type 0
 PlaysWhatIsHeard dsp words calls turns status p last =
-    (b : Brought (dsp.most p) words calls) → PlaysHeard dsp (dsp.most p) words calls b turns p last ⊎ (((status ≡ 3) ⊎ (status ≡ 7)) × (last ≡ Bare p))
+    (b : Brought (dsp.most p) words calls)
+    → ((legs : List Leg) × RunOver dsp (heard_ground b turns) (take (length legs) (map (λ round. round.numbered.command) (rounds_of b.read.commands))) legs p turns last)
+    ⊎ (((status ≡ 3) ⊎ (status ≡ 7)) × (last ≡ Bare p))

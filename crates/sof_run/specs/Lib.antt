@@ -4,6 +4,7 @@ pub mod Checking
 pub mod Compiling
 pub mod Stressing
 pub mod Requests
+pub mod ReadRequests
 pub mod TopologyBytes
 pub mod Bindings
 pub mod Rounds
@@ -22,6 +23,8 @@ pub mod Run
 pub mod PlayLaws
 -- What functions within the crate say: what is still to do, and what was done of it.
 pub mod Todo
+pub mod LineParts
+pub mod ComeTo
 pub mod Play
 pub mod CheckTodo
 pub mod CompileTodo

@@ -1,9 +1,7 @@
 -- What is said: the lines of faults, halts, commands and units.
-use Rattle.std.specs.Prelude.{ℕ, Bool, true, false, if◌then◌else◌, List, [], ◌∷◌, ◌++◌, codes, decimal}
+use Rattle.std.specs.Prelude.{ℕ, if◌then◌else◌, List, [], ◌∷◌, ◌++◌, codes, decimal}
 use Rattle.tplg_model.specs.declared.fault.TplgFault.{TplgFault}
 use Rattle.tplg_model.specs.declared.fault.TplgFault.TheVariants.{Magic, Abi, HeaderSize, Truncated, Payload, Name, ControlKind, Tokens, OutOfMemory}
-use Rattle.sof_script.specs.declared.script.Command.{Command}
-use Rattle.sof_script.specs.declared.script.Command.TheVariants.{Show}
 use Rattle.sof_script.specs.Causes.{cause_words}
 use Rattle.sof_script.specs.Text.{answer_line}
 use Rattle.sof_session.specs.Written.{Out}
@@ -31,45 +29,27 @@ topology_fault_words (ControlKind at found) = codes "control " ++ decimal at ++ 
 topology_fault_words (Tokens at) = codes "tokens " ++ decimal at
 topology_fault_words OutOfMemory = []
 
--- the line of a fault
-abbrev pub fault_line : TplgFault → List ℕ
-fault_line fault = with_newline (codes "topology " ++ topology_fault_words fault)
-
--- the line of a rule of a topology that fails, with its least item
-abbrev pub rule_line : ℕ → ℕ → List ℕ
-rule_line rule item = with_newline (codes "topology rule " ++ decimal rule ++ codes " " ++ decimal item)
-
 -- the line of a script's line at fault
 abbrev pub script_line : ℕ → List ℕ → List ℕ
 script_line line cause = with_newline (codes "script " ++ decimal line ++ codes " " ++ cause)
 
--- what is said where the files make no run
+-- what is said where the files make no run; a rule that fails is told with its least item
 abbrev pub halt_line : Halt → List ℕ
 halt_line (halts.Script line cause) = script_line line (cause_words cause)
 halt_line (halts.Ticks sum) = with_newline (codes "ticks " ++ decimal sum)
-halt_line (halts.Broken fault) = fault_line fault
-halt_line (halts.Rule rule item) = rule_line rule item
+halt_line (halts.Broken fault) = with_newline (codes "topology " ++ topology_fault_words fault)
+halt_line (halts.Rule rule item) = with_newline (codes "topology rule " ++ decimal rule ++ codes " " ++ decimal item)
 halt_line (halts.Binding line) = script_line line (codes "binding")
 halt_line halts.OutOfMemory = no_memory_line
 
 -- and the status
 abbrev pub halt_status : Halt → ℕ
-halt_status (halts.Script line cause) = 4
 halt_status (halts.Ticks sum) = 8
 halt_status (halts.Broken fault) = 2
 halt_status (halts.Rule rule item) = 2
-halt_status (halts.Binding line) = 4
 halt_status halts.OutOfMemory = 7
+halt_status _ = 4
 
--- whether a command shows how everything stands
-abbrev pub is_show : Command → Bool
-is_show Show = true
-is_show command = false
-
--- the lines of a command: its answer, and what it shows
-abbrev pub spoken : ℕ → Out → List (List ℕ)
-spoken number out = answer_line number out.answer ∷ out.shown
-
--- the lines of a unit: those of its command, where it is the last of it
+-- the lines of a unit: the answer of its command and what it shows, where it is the last of it
 abbrev pub lines_after : Round → Out → List (List ℕ)
-lines_after round out = if round.last then spoken round.numbered.line out else []
+lines_after round out = if round.last then answer_line round.numbered.line out.answer ∷ out.shown else []

@@ -2,7 +2,8 @@
 use Rattle.std.specs.Prelude.{◌≡◌, ℕ, true, List}
 use Rattle.std.specs.List.{AllByRecursion}
 use Rattle.sof_base.specs.Ports.{InputView, OutputView}
-use Rattle.sof_io.specs.Bound.{input_slots, output_slots}
+use Rattle.sof_io.specs.Bound.{output_slots}
+use Rattle.sof_io.specs.Takes.{input_slots}
 use Rattle.sof_desk.specs.Desk.{DeskMeaning}
 
 -- the files of these slots are open to be read

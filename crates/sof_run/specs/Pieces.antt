@@ -2,7 +2,7 @@
 use Rattle.std.specs.Prelude.{◌≡◌, ◌⊎◌, ℕ, List, [], ◌∷◌, ◌++◌, map, Option, if◌then◌else◌}
 use Rattle.sof_desk.specs.Desk.{DeskMeaning, DeskPlace, Slot, Spoken, same_place, with_more, with_nothing}
 use Rattle.sof_io.specs.Bound.{has_slot}
-use Rattle.sof_session.specs.Written.{Written, Out}
+use Rattle.sof_session.specs.Written.{Out}
 use Rattle.sof_run.specs.Rounds.{Round}
 use Rattle.sof_run.specs.Lines.{no_memory_line, with_newline, lines_after}
 
@@ -10,25 +10,17 @@ use Rattle.sof_run.specs.Lines.{no_memory_line, with_newline, lines_after}
 abbrev pub Piece : Type 0
 Piece = DeskPlace × List ℕ
 
--- what was written to an output is one piece
-abbrev pub slot_pieces : List Written → List Piece
-slot_pieces written = map (λ w. (Slot w.0, w.1)) written
-
--- each line is one piece
-abbrev pub line_pieces : List (List ℕ) → List Piece
-line_pieces lines = map (λ line. (Spoken, with_newline line)) lines
-
--- a unit's: the bytes of its outputs, by ascending slot, and then its lines, where it is the last of its command
+-- a unit's, one for each output and line: the bytes of its outputs, by ascending slot, and then its lines, where it is the last of its
+-- command
 abbrev pub pieces_of : Round → Out → List Piece
-pieces_of round out = slot_pieces out.written ++ line_pieces (lines_after round out)
+pieces_of round out = map (λ w. (Slot w.0, w.1)) out.written ++ map (λ line. (Spoken, with_newline line)) (lines_after round out)
 
 -- of some pieces a front was written, the last one perhaps in part
 abbrev pub BreaksOff : List Piece → List Piece → Type 0
-BreaksOff [] pieces = ⊥
-BreaksOff (part ∷ parts) [] = ⊥
 BreaksOff (part ∷ parts) (piece ∷ pieces) =
     ((part.0 ≡ piece.0) × ((rest : List ℕ) × (part.1 ++ rest ≡ piece.1)) × (parts ≡ []))
     ⊎ ((part ≡ piece) × BreaksOff parts pieces)
+BreaksOff _ _ = ⊥
 
 -- Units, by what each came to: the pieces of each were written in their order, and the status is 0 after the last; or the desk
 -- failed at a piece of the last that was made, or at a read before the next, and the status is 3.
@@ -56,13 +48,10 @@ opened slots (Slot slot) bytes = if has_slot slot slots then with_nothing bytes 
 abbrev pub WroteBehind : {D : Type 0} → DeskMeaning D → List ℕ → List Piece → D → D → Type 0
 WroteBehind means slots made old new = (place : DeskPlace) → means.wrote new place ≡ with_more (opened slots place (means.wrote old place)) (bytes_of_pieces place made)
 
--- a place is as it was, or as it is once these slots' files are created
-abbrev pub IsKeptOrOpened : List ℕ → DeskPlace → Option (List ℕ) → Option (List ℕ) → Type 0
-IsKeptOrOpened slots place old new = (new ≡ old) ⊎ (new ≡ opened slots place old)
-
--- nothing was said but the line for want of memory, or a front of it, or no byte; and nothing was appended
+-- nothing was said but the line for want of memory, or a front of it, or no byte; and nothing was appended: a slot is as it was, or as it
+-- is once its file is created
 pub record WroteNone {D : Type 0} (means : DeskMeaning D) (slots : List ℕ) (old new : D) : Type 0 where
   pub part : List ℕ
   pub front : (rest : List ℕ) × (part ++ rest ≡ no_memory_line)
   pub said : means.wrote new Spoken ≡ with_more (means.wrote old Spoken) part
-  pub outputs : (slot : ℕ) → IsKeptOrOpened slots (Slot slot) (means.wrote old (Slot slot)) (means.wrote new (Slot slot))
+  pub outputs : (slot : ℕ) → let was = means.wrote old (Slot slot) in (means.wrote new (Slot slot) ≡ was) ⊎ (means.wrote new (Slot slot) ≡ opened slots (Slot slot) was)

@@ -5,6 +5,7 @@ use Rattle.sof_desk.specs.Desk.{Put, Slot, Spoken}
 use Rattle.tplg_plan.specs.declared.plans.Plan.{Plan}
 use Rattle.sof_script.specs.declared.script.Numbered.{Numbered}
 use Rattle.sof_script.specs.Commands.{Bound, Read}
+use Rattle.sof_script.specs.Ticks.{rounds_with}
 use Rattle.sof_session.specs.Written.{Written}
 use Rattle.sof_session.specs.Lives.{Begin, Carry}
 use Rattle.sof_run.specs.Bindings.{binding_act, bound_inputs, bound_slots}
@@ -38,6 +39,10 @@ round_todo round rest = Refill (unit_todo round rest)
 abbrev pub rounds_todo : List Round → Todo → Todo
 rounds_todo [] rest = rest
 rounds_todo (round ∷ rounds) rest = round_todo round (rounds_todo rounds rest)
+
+-- so many rounds before the last of a command, and the last
+abbrev pub rounds_after : ℕ → Numbered → List Round
+rounds_after n numbered = rounds_with (λ last. record { numbered = numbered; last = last }) n
 
 -- each command in turn, unit by unit
 abbrev pub commands_todo : List Numbered → Todo → Todo

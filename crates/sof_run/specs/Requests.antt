@@ -1,11 +1,9 @@
 -- What the words of a command line ask for.
 use Rattle.std.specs.Prelude.{ℕ, List, Option, option_map}
 use Rattle.std.specs.Option.{option_or}
-use Rattle.sof_run.specs.declared.words.Request.{Request as ReadRequest}
-use Rattle.sof_run.specs.declared.words.Request.TheVariants as requests
-use Rattle.sof_run.specs.Words.{Form, form, play_of}
+use Rattle.sof_run.specs.Words.{Form, play_of}
 use Rattle.sof_run.specs.Checking.{check_of}
-use Rattle.sof_run.specs.Compiling.{CompileNames, names, compile_of}
+use Rattle.sof_run.specs.Compiling.{CompileNames, compile_of}
 use Rattle.sof_run.specs.Stressing.{stress_of}
 
 -- what is asked for: `play` by its form, `check` by the name of its file, `compile` by the names of its files, or `stress` by its
@@ -23,10 +21,3 @@ request_of room words =
     (option_or (option_map Check (check_of words))
     (option_or (option_map Compile (compile_of words))
     (option_map Stress (stress_of words))))
-
--- what the code reads off the words
-abbrev pub request : ReadRequest → Request
-request (requests.Play f) = Play (form f.heap f.topology.now f.script.now)
-request (requests.Check name) = Check name.now
-request (requests.Compile n) = Compile (names n.source.now n.out.now)
-request (requests.Stress seed) = Stress seed

@@ -1,9 +1,12 @@
 -- What `run` does, by its words: over every desk and every device.
 use Rattle.std.specs.Prelude.{◌≡◌, ℕ, List}
+use Rattle.std.specs.List.{AllByRecursion}
 use Rattle.sof_desk.specs.Desk.{DeskMeaning, DeskCall, DeskLed, CountRose}
 use Rattle.mbox_link.specs.Calls.{Meaning}
 use Rattle.sof_session.specs.Lives.{Life, Bare, Turn, Turns, device_of, Exit}
 use Rattle.sof_stress.specs.StressRun.{sent_in}
+use Rattle.sof_run.specs.TopologyBytes.{BringsBytes}
+use Rattle.sof_run.specs.Calls.{heard_in}
 use Rattle.sof_run.specs.Findings.{FollowsCourse}
 use Rattle.sof_run.specs.Ends.{AreOpening, IsEarly, Worded}
 use Rattle.sof_run.specs.Verdicts.{Judged}
@@ -14,12 +17,13 @@ use Rattle.sof_run.specs.Compiles.{Compiles}
 use Rattle.sof_run.specs.Stresses.{StressesWhole}
 
 -- The turns on the device, each a session's step, and the calls on the desk: those that the words ask for, in their order and no
--- others. Status 3 comes only where the desk's count rose.
+-- others. What a load brought is bytes. Status 3 comes only where the desk's count rose.
 pub record Called {D P : Type 0} (means : DeskMeaning D) (dsp : Meaning P) (words : List (List ℕ)) (old : D) (p : P) (status : ℕ) (new : D) (last : Life P) : Type 0 where
   pub turns : List Turn
   pub turned : Turns dsp (Bare p) turns last
   pub calls : List DeskCall
   pub led : DeskLed means old calls new
+  pub bytes : AllByRecursion BringsBytes (heard_in calls)
   pub follows : FollowsCourse (dsp.most p) (sent_in last) words turns calls status
   pub failed : status ≡ 3 → CountRose (means.faults old) (means.faults new)
 

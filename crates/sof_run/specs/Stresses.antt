@@ -6,7 +6,8 @@ use Rattle.mbox_link.specs.Calls.{Meaning}
 use Rattle.sof_session.specs.Written.{Ground, Leg, first_at, end_of}
 use Rattle.sof_session.specs.Lives.{Life, Turn}
 use Rattle.sof_session.specs.RunOver.{RunOver}
-use Rattle.sof_stress.specs.StressRun.{commands_of, stress_counts, stress_ground, stress_turns}
+use Rattle.sof_stress.specs.CommandTurns.{CommandTurn}
+use Rattle.sof_stress.specs.StressRun.{stress_counts, stress_ground, stress_turns}
 use Rattle.sof_run.specs.Lines.{with_newline}
 use Rattle.sof_run.specs.Checks.{Spoke, IsFront}
 use Rattle.sof_run.specs.Plays.{Unbegun}
@@ -21,7 +22,7 @@ stress_text seed g legs =
 -- status 3, and nothing else was written.
 pub record StressRan {D P : Type 0} (means : DeskMeaning D) (dsp : Meaning P) (g : Ground) (seed : ℕ) (old new : D) (status : ℕ) (p : P) (last : Life P) (turns : List Turn) : Type 0 where
   pub legs : List Leg
-  pub over : RunOver dsp g (commands_of (stress_turns seed)) legs p turns last
+  pub over : RunOver dsp g (map (λ (turn : CommandTurn). turn.command) (stress_turns seed)) legs p turns last
   pub part : List ℕ
   pub spoke : Spoke means part old new
   pub is : ((status ≡ 0) × (part ≡ stress_text seed g legs)) ⊎ ((status ≡ 3) × IsFront part (stress_text seed g legs))

@@ -15,9 +15,7 @@ at_least_one (Some n) = if nat_le 1 n then Some n else None
 -- `stress N`, of a number from 1 to 1000
 abbrev pub stress_of : List (List ℕ) → Option ℕ
 stress_of (verb ∷ number ∷ []) = if bytes_eq verb (codes "stress") then at_least_one (at_most 1000 (decimal_number number)) else None
-stress_of [] = None
-stress_of (verb ∷ []) = None
-stress_of (verb ∷ number ∷ more ∷ words) = None
+stress_of _ = None
 
 -- ---- what is said
 

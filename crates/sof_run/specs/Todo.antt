@@ -5,6 +5,7 @@ use Rattle.sof_desk.specs.Desk.{DeskMeaning, DeskAct, Put, Spoken, DeskCall, Loa
 use Rattle.mbox_link.specs.Calls.{Meaning}
 use Rattle.sof_session.specs.Written.{Out}
 use Rattle.sof_session.specs.Lives.{Life, Bare, Task, Fill, Turn, Turns, device_of, Exit}
+use Rattle.sof_run.specs.TopologyBytes.{AreBytes}
 use Rattle.sof_run.specs.Lines.{no_memory_line}
 use Rattle.sof_run.specs.Calls.{reading}
 
@@ -45,7 +46,7 @@ pub record FillTurn (turn : Turn) (calls : List DeskCall) : Type 0 where
   pub task : turn.task ≡ Fill reads failed
   pub calls_are : calls ≡ reading reads failed ++ later
 
--- Doing it makes these turns and these calls, in this order and no others, and ends with this status.
+-- Doing it makes these turns and these calls, in this order and no others, and ends with this status. What a load brings is bytes.
 abbrev pub DoneBy : Todo → List Turn → List DeskCall → ℕ → Type 0
 DoneBy End turns calls status = Over 0 turns calls status
 DoneBy (Stop line n) turns calls status = Says line n turns calls status
@@ -53,7 +54,7 @@ DoneBy (Ask name limit line next) turns [] status = ⊥
 DoneBy (Ask name limit line next) turns (Did act done ∷ calls) status = ⊥
 DoneBy (Ask name limit line next) turns (Read slot size got ∷ calls) status = ⊥
 DoneBy (Ask name limit line next) turns (Load n l (Ok bytes) ∷ calls) status =
-    (n ≡ name) × (l ≡ limit) × DoneBy (next bytes) turns calls status
+    (n ≡ name) × (l ≡ limit) × DoneBy (next bytes) turns calls status × AreBytes bytes
 DoneBy (Ask name limit line next) turns (Load n l (Err TooLong) ∷ calls) status =
     (n ≡ name) × (l ≡ limit) × Says line 5 turns calls status
 DoneBy (Ask name limit line next) turns (Load n l (Err OutOfMemory) ∷ calls) status =

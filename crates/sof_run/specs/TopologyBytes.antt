@@ -1,5 +1,6 @@
--- What the bytes of a topology file are.
-use Rattle.std.specs.Prelude.{ℕ, ◌<◌, List, length, get_or}
+-- What the bytes of a loaded file are, and those of a topology file.
+use Rattle.std.specs.Prelude.{ℕ, ◌<◌, List, get_or, Ok, Err}
+use Rattle.sof_desk.specs.Desk.{Heard}
 use Rattle.tplg_model.specs.declared.block.Topology.{Topology}
 use Rattle.tplg_model.specs.File.{IsTopology, IsFileOf}
 
@@ -7,9 +8,10 @@ use Rattle.tplg_model.specs.File.{IsTopology, IsFileOf}
 abbrev pub AreBytes : List ℕ → Type 0
 AreBytes bytes = (i : ℕ) → get_or bytes i 0 < 256
 
--- a topology or a script has more bytes than its limit
-abbrev pub IsLong : List ℕ → Type 0
-IsLong bytes = 1048576 < length bytes
+-- what a load brought is bytes; one that failed brought nothing
+abbrev pub BringsBytes : Heard → Type 0
+BringsBytes (Ok bytes) = AreBytes bytes
+BringsBytes (Err fault) = Unit {0}
 
 -- the bytes are the file of this topology
 abbrev pub IsFile : List ℕ → Topology → Type 0

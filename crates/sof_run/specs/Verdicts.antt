@@ -1,6 +1,6 @@
 -- The status of `play` by the bytes of its files.
-use Rattle.std.specs.Prelude.{◌≡◌, ◌⊎◌, ℕ, ◌<◌, ◌≤◌, List, [], ◌∷◌, length, Option, Some, None, Ok, Err, true}
-use Rattle.std.specs.List.{sum_by}
+use Rattle.std.specs.Prelude.{◌≡◌, ◌⊎◌, ℕ, ◌<◌, ◌≤◌, List, length, Some, None, Ok, Err, true}
+use Rattle.std.specs.List.{sum_by, last_or}
 use Rattle.sof_desk.specs.Desk.{DeskMeaning, Put, Spoken, DeskCall, Did}
 use Rattle.tplg_model.specs.declared.block.Topology.{Topology}
 use Rattle.tplg_model.specs.File.{IsFileFault}
@@ -9,11 +9,11 @@ use Rattle.tplg_graph.specs.PlanOf.{plan_of}
 use Rattle.sof_script.specs.declared.reading.ScriptFault.TheVariants.{Line}
 use Rattle.sof_script.specs.declared.script.Numbered.{Numbered}
 use Rattle.sof_script.specs.Commands.{Read, script_of}
-use Rattle.sof_script.specs.Ticks.{line_ticks}
+use Rattle.sof_script.specs.Ticks.{command_ticks}
 use Rattle.sof_run.specs.declared.prepare.Halt.{Halt}
 use Rattle.sof_run.specs.declared.prepare.Halt.TheVariants as halts
 use Rattle.sof_run.specs.Words.{Form, play_of}
-use Rattle.sof_run.specs.TopologyBytes.{AreBytes, IsLong, IsFile, IsBroken}
+use Rattle.sof_run.specs.TopologyBytes.{IsFile, IsBroken}
 use Rattle.sof_run.specs.Bindings.{wrong_binding}
 use Rattle.sof_run.specs.Lines.{halt_line, halt_status}
 
@@ -23,7 +23,7 @@ Fit topology script = (length topology ≤ 1048576) × (length script ≤ 104857
 
 -- the sum of a script's ticks and lags
 abbrev pub ticks_of : List Numbered → ℕ
-ticks_of commands = sum_by line_ticks commands
+ticks_of commands = sum_by (λ (n : Numbered). command_ticks n.command) commands
 
 -- the script has no line at fault and not too many ticks
 abbrev pub IsScript : List ℕ → Read → Type 0
@@ -49,23 +49,17 @@ IsHalt topology script (halts.Binding line) =
     × IsScript script read × IsFile topology t × IsWellFormed t × (wrong_binding (plan_of t) read.bindings ≡ Some line)
 IsHalt topology script halts.OutOfMemory = ⊥
 
--- the last of the calls
-abbrev pub last_call : List DeskCall → Option DeskCall
-last_call [] = None
-last_call (call ∷ []) = Some call
-last_call (call ∷ other ∷ calls) = last_call (other ∷ calls)
-
 -- The status by the bytes of the files, whose cases exclude each other: a desk that failed or want of memory; 5 where topology
 -- or script is too long; 4, 8 or 2 where they make no run, and then the line for it was said; 0 where they make one.
 abbrev pub Verdict : List ℕ → List ℕ → List DeskCall → ℕ → Type 0
 Verdict topology script calls status =
     ((status ≡ 3) ⊎ (status ≡ 7))
-    ⊎ (((status ≡ 5) × (IsLong topology ⊎ IsLong script))
-    ⊎ (((why : Halt) × (status ≡ halt_status why) × Fit topology script × IsHalt topology script why × (last_call calls ≡ Some (Did (Put Spoken (halt_line why)) true)))
+    ⊎ (((status ≡ 5) × ((1048576 < length topology) ⊎ (1048576 < length script)))
+    ⊎ (((why : Halt) × (status ≡ halt_status why) × Fit topology script × IsHalt topology script why × (last_or None calls ≡ Some (Did (Put Spoken (halt_line why)) true)))
     ⊎ ((status ≡ 0) × Fit topology script × ((t : Topology) × ((read : Read) × MakeRun topology script t read)))))
 
 -- where the desk tells topology and script, the status is by the files' bytes
 abbrev pub Judged : {D : Type 0} → DeskMeaning D → ℕ → List (List ℕ) → D → List DeskCall → ℕ → Type 0
 Judged means room words old calls status =
-    (form : Form) (topology script : List ℕ) → play_of room words ≡ Some form → means.holds old form.topology ≡ Some topology → means.holds old form.script ≡ Some script → AreBytes topology
+    (form : Form) (topology script : List ℕ) → play_of room words ≡ Some form → means.holds old form.topology ≡ Some topology → means.holds old form.script ≡ Some script
     → Verdict topology script calls status

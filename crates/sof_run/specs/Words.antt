@@ -8,10 +8,6 @@ pub record Form : Type 0 where
   pub topology : List ℕ
   pub script : List ℕ
 
--- a form of these parts
-abbrev pub form : ℕ → List ℕ → List ℕ → Form
-form heap topology script = record { heap = heap; topology = topology; script = script }
-
 -- decimal digits, from the first, after a value
 abbrev pub digits_value : ℕ → List ℕ → Option ℕ
 digits_value value [] = Some value
@@ -36,14 +32,10 @@ is_file_name name = nat_le 1 (length name) && nat_le (length name) 255
 -- the form with this heap and these names, where all three are right
 abbrev pub form_with : Option ℕ → List ℕ → List ℕ → Option Form
 form_with None topology script = None
-form_with (Some heap) topology script = if is_file_name topology && is_file_name script then Some (form heap topology script) else None
+form_with (Some heap) topology script = if is_file_name topology && is_file_name script then Some (record { heap = heap; topology = topology; script = script }) else None
 
 -- `play HEAP TOPOLOGY SCRIPT`, over a device of this room
 abbrev pub play_of : ℕ → List (List ℕ) → Option Form
 play_of room (verb ∷ heap ∷ topology ∷ script ∷ []) =
     if bytes_eq verb (codes "play") then form_with (at_most room (decimal_number heap)) topology script else None
-play_of room [] = None
-play_of room (verb ∷ []) = None
-play_of room (verb ∷ heap ∷ []) = None
-play_of room (verb ∷ heap ∷ topology ∷ []) = None
-play_of room (verb ∷ heap ∷ topology ∷ script ∷ more ∷ words) = None
+play_of room _ = None

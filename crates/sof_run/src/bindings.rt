@@ -2,8 +2,9 @@
 ghost use Rattle.std.specs.Prelude.{◌≡◌, ◌&&◌, length};
 ghost use Rattle.std.specs.List.{list_any};
 ghost use Rattle.std.specs.Str.{bytes_eq};
-ghost use Rattle.sof_script.specs.Commands.{bound_of, bounds_of};
+ghost use Rattle.sof_script.specs.ScriptRead.{bound_of, bounds_of};
 ghost use Rattle.sof_run.specs.Bindings as right;
+ghost use Rattle.sof_run.specs.LineParts as line_parts;
 
 use sof_base::Name44;
 use sof_script::Binding;
@@ -23,7 +24,7 @@ fn is_endpoint(input: bool, kind: Kind) -> bool
 
 // Whether the widget of an id has this name.
 fn is_named(plan: &Plan, name: &Name44, id: u32) -> bool
-    ensures { result ≡ right.has_widget_name plan.now name.now id }
+    ensures { result ≡ line_parts.has_widget_name plan.now name.now id }
 {
     match plan.names.items().get(id as usize) {
         Some(other) => name.as_bytes() == other.as_bytes(),
@@ -40,7 +41,7 @@ fn is_sought(plan: &Plan, input: bool, name: &Name44, comp: &Comp) -> bool
 
 // Whether an endpoint of this direction has this name.
 fn has_endpoint(plan: &Plan, input: bool, name: &Name44) -> bool
-    ensures { result ≡ right.has_endpoint plan.now input name.now }
+    ensures { result ≡ line_parts.has_endpoint plan.now input name.now }
 {
     plan.graph
         .comps
@@ -72,7 +73,7 @@ fn is_right(plan: &Plan, earlier: &[Binding], binding: &Binding) -> bool
 
 /// The id of the component of the endpoint of this direction and this name; 0 where there is no such endpoint.
 pub fn slot_of(plan: &Plan, input: bool, name: &Name44) -> u32
-    ensures { result ≡ right.slot_of plan.now input name.now }
+    ensures { result ≡ line_parts.slot_of plan.now input name.now }
 {
     for comp in plan.graph.comps.items() {
         if is_sought(plan, input, name, comp) {

@@ -1,7 +1,7 @@
 // The commands, one by one.
 ghost use Rattle.std.specs.Prelude.{◌≡◌, ◌+◌, ◌<◌, ◌≤◌, ◌^◌, ◌∷◌, ℕ, length, true, false};
 ghost use Rattle.std.specs.List.{list_all};
-ghost use Rattle.sof_base.specs.Ports.{drained};
+ghost use Rattle.sof_base.specs.DrainedOutputs.{drained};
 ghost use Rattle.sof_io.specs.Bound.{output_slots};
 ghost use Rattle.tplg_plan.specs.Sound.{IsSound};
 ghost use Rattle.sof_script.specs.Text.{answer_line};
@@ -11,8 +11,10 @@ ghost use Rattle.sof_session.specs.Show.{show_lines, shown_by};
 ghost use Rattle.sof_session.specs.CommandRanges.{is_in_range, most_sent};
 ghost use Rattle.sof_session.specs.Lives.{Seated};
 ghost use Rattle.sof_run.specs.Todo.{DeskPhase, Phase};
-ghost use Rattle.sof_run.specs.Rounds.{earlier as units_before, command_rounds};
-ghost use Rattle.sof_run.specs.Lines.{is_show, with_newline};
+ghost use Rattle.sof_script.specs.Ticks.{earlier as units_before};
+ghost use Rattle.sof_run.specs.Rounds.{command_rounds};
+ghost use Rattle.sof_run.specs.LineParts.{is_show};
+ghost use Rattle.sof_run.specs.Lines.{with_newline};
 ghost use Rattle.sof_run.specs.Play.{lines_todo, unit_todo, rounds_todo, commands_todo};
 ghost use Rattle.sof_run.specs.Opening.{HaveFiles, SameFiles};
 

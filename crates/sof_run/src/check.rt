@@ -7,7 +7,8 @@ ghost use Rattle.sof_run.specs.Lines.{with_newline};
 ghost use Rattle.sof_run.specs.Play.{lines_todo};
 ghost use Rattle.sof_run.specs.Halts.{HaltsAtCheck};
 ghost use Rattle.sof_run.specs.Prepared as law;
-ghost use Rattle.sof_run.specs.Checking.{count_line, counts_of, counts_on};
+ghost use Rattle.sof_run.specs.Checking.{count_line, counts_of};
+ghost use Rattle.sof_run.specs.LineParts.{counts_on};
 ghost use Rattle.sof_run.specs.CheckTodo.{check};
 
 use crate::files::{LIMIT, fetch, status_of, stop_for};

@@ -5,7 +5,8 @@ ghost use Rattle.tplg_model.specs.File.{IsTopology, spelling};
 ghost use Rattle.tplg_compile.specs.Results.{FaultIs};
 ghost use Rattle.tplg_compile.specs.InOrder.{compiled_of};
 ghost use Rattle.sof_run.specs.Todo.{DeskPhase, Played, Stop};
-ghost use Rattle.sof_run.specs.Compiling.{names as names_of, source_line, source_status};
+ghost use Rattle.sof_run.specs.Compiling.{source_line, source_status};
+ghost use Rattle.sof_run.specs.LineParts.{names as names_of};
 ghost use Rattle.sof_run.specs.CompileTodo.{compile as compile_todo, file_todo};
 
 use crate::check::say_count;

@@ -4,6 +4,7 @@ ghost use Rattle.sof_desk.specs.Desk.{Loaded};
 ghost use Rattle.sof_io.specs.Bound.{output_slots};
 ghost use Rattle.sof_session.specs.Written.{with_bytes, written_in};
 ghost use Rattle.sof_run.specs.Todo.{Todo, Stop, Ask, Played, DeskPhase};
+ghost use Rattle.sof_run.specs.TopologyBytes.{AreBytes};
 ghost use Rattle.sof_run.specs.Lines.{halt_line, halt_status};
 ghost use Rattle.sof_run.specs.Play.{flush_todo};
 ghost use Rattle.sof_run.specs.Opening.{AreCreated, SameFiles};
@@ -25,6 +26,11 @@ pub fn stop<D: Desk>(desk: &mut D, line: &[u8], status: u8) -> u8
     if desk.say(line).is_ok() { status } else { 3 }
 }
 
+// What a slice of `u8`s holds is bytes. Nothing runs here.
+fn are_bytes(bytes: &[u8])
+    ensures { AreBytes bytes.now }
+{}
+
 /// A file's bytes, at most `limit`; or the status, once the line for it was said. `long` is said of a file that is too long.
 pub fn fetch<D: Desk>(
     alloc: Global,
@@ -34,11 +40,14 @@ pub fn fetch<D: Desk>(
     long: &[u8],
 ) -> Result<Vec<u8>, u8>
     ensures { MatchResult result
-        (λ bytes. Loaded D.means name.now limit (Ok bytes.items) desk.old desk.new)
+        (λ bytes. Loaded D.means name.now limit (Ok bytes.items) desk.old desk.new × AreBytes bytes.items)
         (λ status. (next : List ℕ → Todo) → Played D.means (Ask name.now limit long.now next) desk.old [] status desk.new) }
 {
     match desk.load(alloc, name, limit) {
-        Ok(bytes) => Ok(bytes),
+        Ok(bytes) => {
+            are_bytes(&bytes);
+            Ok(bytes)
+        }
         Err(LoadFault::Failed) => Err(3),
         Err(LoadFault::TooLong) => Err(stop(desk, long, 5)),
         Err(LoadFault::OutOfMemory) => Err(stop(desk, b"no memory\n", 7)),

@@ -1,7 +1,8 @@
 // The lines that are said where files make no run, and where a source is refused.
 ghost use Rattle.std.specs.Prelude.{◌≡◌, ◌+◌, ◌≤◌, ◌++◌, [], ◌∷◌, length, decimal};
 ghost use Rattle.sof_run.specs.Compiling.{list_word as word_of, source_line};
-ghost use Rattle.sof_run.specs.Lines.{topology_fault_words, fault_line, script_line, halt_line, halt_status, with_newline};
+ghost use Rattle.sof_run.specs.LineParts.{fault_line};
+ghost use Rattle.sof_run.specs.Lines.{topology_fault_words, script_line, halt_line, halt_status, with_newline};
 
 use crate::prepare::Halt;
 use itoa::Buffer;

@@ -1,8 +1,8 @@
 // What a script binds: the places of its inputs and outputs, and then their files.
 ghost use Rattle.std.specs.Prelude.{◌≡◌, [], true, false, None, OnOk};
-ghost use Rattle.sof_base.specs.Ports.{drained};
+ghost use Rattle.sof_base.specs.DrainedOutputs.{drained};
 ghost use Rattle.sof_desk.specs.Desk.{Acted};
-ghost use Rattle.sof_script.specs.Commands.{bound_of, bounds_of};
+ghost use Rattle.sof_script.specs.ScriptRead.{bound_of, bounds_of};
 ghost use Rattle.sof_run.specs.Bindings.{wrong_binding, binding_act, bound_inputs, bound_outputs};
 ghost use Rattle.sof_run.specs.Todo.{DeskPhase};
 ghost use Rattle.sof_run.specs.Play.{bindings_todo};

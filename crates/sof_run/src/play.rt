@@ -1,8 +1,8 @@
 // The top call.
 ghost use Rattle.std.specs.Prelude.{◌≡◌, ◌≤◌, [], map, None, string_bytes};
 ghost use Rattle.sof_run.specs.Todo.{Todo, Free, Gave};
-ghost use Rattle.sof_run.specs.Words.{form as form_of};
-ghost use Rattle.sof_script.specs.Commands.{script_read};
+ghost use Rattle.sof_run.specs.LineParts.{form as form_of};
+ghost use Rattle.sof_script.specs.ScriptRead.{script_read};
 ghost use Rattle.sof_run.specs.Halts.{IsCarriable, IsInRange};
 ghost use Rattle.sof_run.specs.Play.{play, ready_todo};
 ghost use Rattle.sof_run.specs.CompileTodo.{MakesTopology};

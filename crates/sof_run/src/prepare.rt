@@ -8,7 +8,7 @@ ghost use Rattle.tplg_plan.specs.HeapNeed.{IsSmall, need_on};
 ghost use Rattle.tplg_plan.specs.Sound.{IsSound};
 ghost use Rattle.tplg_graph.specs.TopologyNeed.{need_of};
 ghost use Rattle.tplg_graph.specs.PlanOf.{plan_of};
-ghost use Rattle.sof_script.specs.Commands.{script_read};
+ghost use Rattle.sof_script.specs.ScriptRead.{script_read};
 ghost use Rattle.sof_run.specs.Bindings.{wrong_binding as wrong_of};
 ghost use Rattle.sof_run.specs.Prepared.{Ready as IsReady, prepared, prepared_bindings, prepared_rules, prepared_script};
 ghost use Rattle.sof_run.specs.Halts.{Halts, HaltsFor, HaltsAtTopology, HaltsAtRules, IsCarriable};

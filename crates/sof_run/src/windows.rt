@@ -1,6 +1,6 @@
 // The windows of the inputs, which are filled from their files.
 ghost use Rattle.std.specs.Prelude.{◌≡◌};
-ghost use Rattle.sof_io.specs.Bound.{input_slots};
+ghost use Rattle.sof_io.specs.Takes.{input_slots};
 ghost use Rattle.sof_run.specs.Opening.{AreOpened, SameFiles};
 ghost use Rattle.sof_run.specs.Refills.{Refilled};
 

@@ -1,11 +1,13 @@
 // The form of the words.
 ghost use Rattle.std.specs.Prelude.{◌≡◌, ◌≤◌, map, MatchOption, IfSome, codes, string_bytes};
 ghost use Rattle.std.specs.Str.{bytes_eq};
-ghost use Rattle.sof_run.specs.Words.{play_of, form, decimal_number, at_most, is_file_name};
+ghost use Rattle.sof_run.specs.Words.{play_of, decimal_number, at_most, is_file_name};
+ghost use Rattle.sof_run.specs.LineParts.{form, names};
 ghost use Rattle.sof_run.specs.Checking.{check_of};
-ghost use Rattle.sof_run.specs.Compiling.{compile_of, names};
+ghost use Rattle.sof_run.specs.Compiling.{compile_of};
 ghost use Rattle.sof_run.specs.Stressing.{stress_of};
-ghost use Rattle.sof_run.specs.Requests.{request, request_of};
+ghost use Rattle.sof_run.specs.Requests.{request_of};
+ghost use Rattle.sof_run.specs.ReadRequests.{request};
 
 /// What `play` is given: the heap in bytes, and the names of its two files.
 #[derive(Clone, Copy, Debug)]

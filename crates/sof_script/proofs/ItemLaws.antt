@@ -14,7 +14,8 @@ use Rattle.sof_script.specs.declared.fault_causes.Cause.TheVariants as causes
 use Rattle.sof_script.specs.declared.items.Item.{Item}
 use Rattle.sof_script.specs.declared.items.Item.TheVariants.{Bind, Do}
 use Rattle.std.proofs.lemmas.List.{drop_more, drop_all, length-append}
-use Rattle.sof_script.specs.Splitting.{texts, all_plain}
+use Rattle.sof_script.specs.Splitting.{all_plain}
+use Rattle.sof_script.specs.TokenStarts.{texts}
 use Rattle.sof_script.specs.Causes.{cause_number}
 use Rattle.sof_script.specs.ValueForms.{decimal_value, in_range, negative, number_value, error_value, format_value, name_value, file_value}
 use Rattle.sof_script.specs.Commands.{alone, one_name, one_number, bound, params_item, values_item, hex_item, error_item, lag_item, number_values, any_number, ◌⊛◌}

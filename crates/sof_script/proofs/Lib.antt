@@ -3,6 +3,7 @@ pub mod TokenLaws
 pub mod LineTokenLaws
 pub mod ValueLaws
 pub mod ItemLaws
+pub mod WordLaws
 pub mod ScriptLaws
 pub mod TextLaws
 pub mod FaultLaws

@@ -2,7 +2,8 @@
 use Rattle.std.proofs.Common.{◌≡◌, ◌≢◌, ◌⊎◌, inl, inr, ℕ, suc, ◌+◌, ◌-◌, ◌<◌, ◌≤◌, true, false, nat_eq, List, [], ◌∷◌, ◌++◌, length, take, drop, get_or, refl, sym, ap, ◌∙◌, arith, append-nil}
 use Rattle.std.proofs.lemmas.List.{take_more, drop_more, drop_all, take_all}
 use Rattle.std.proofs.lemmas.Grind.{common_steps}
-use Rattle.sof_script.specs.Splitting.{before_line, with_byte, lines_of, without_return, is_blank, is_plain_byte, all_plain, is_skipped, tokens_from, tokens_of, byte_kind, Blank, StartsToken}
+use Rattle.sof_script.specs.Splitting.{before_line, lines_of, without_return, is_blank, is_plain_byte, all_plain, is_skipped, tokens_from, tokens_of, byte_kind, Blank}
+use Rattle.sof_script.specs.TokenStarts.{StartsToken, with_byte}
 
 -- ---- lines
 

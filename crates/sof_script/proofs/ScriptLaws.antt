@@ -10,7 +10,8 @@ use Rattle.sof_script.specs.declared.reading.ScriptFault.{ScriptFault}
 use Rattle.sof_script.specs.declared.reading.ScriptFault.TheVariants.{Line}
 use Rattle.sof_script.specs.Splitting.{lines_of, without_return}
 use Rattle.sof_script.specs.Causes.{cause_number}
-use Rattle.sof_script.specs.Commands.{Bound, Read, bound_of, bounds_of, script_read, with_item, behind, line_item, lines_read, script_of}
+use Rattle.sof_script.specs.Commands.{Bound, Read, with_item, line_item, lines_read, script_of}
+use Rattle.sof_script.specs.ScriptRead.{bound_of, bounds_of, script_read, behind}
 
 pub on_ok : {A E : Type 0} (r : Result A E) (P Q : Type 0) → (P → Q) → OnOk r P → OnOk r Q
 on_ok (Ok a) P Q f p = f p

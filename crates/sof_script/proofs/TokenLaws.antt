@@ -3,7 +3,8 @@ use Rattle.std.proofs.Common.{◌≡◌, ◌≢◌, ◌⊎◌, inl, inr, ℕ, �
 use Rattle.std.proofs.lemmas.List.{take_more, drop_more, drop_all}
 use Rattle.std.proofs.lemmas.Grind.{common_steps}
 use Rattle.std.specs.Borrow.{Bor}
-use Rattle.sof_script.specs.Splitting.{is_blank, tokens_from, tokens_of, byte_kind, Kind, Blank, Quote, Other, TokenPlace, Inside, Quoted, Behind, first_token, onto_first, StartsToken, IsBare}
+use Rattle.sof_script.specs.Splitting.{is_blank, tokens_from, tokens_of, byte_kind, Kind, Blank, Quote, Other, TokenPlace, Inside, Quoted, Behind, first_token, onto_first}
+use Rattle.sof_script.specs.TokenStarts.{StartsToken, IsBare}
 
 -- bytes in front of the first of tokens
 abbrev pub onto : List ℕ → Option (List (List ℕ)) → Option (List (List ℕ))

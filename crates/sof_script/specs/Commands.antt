@@ -1,22 +1,18 @@
 -- The bindings and the commands that the lines of a script are.
-use Rattle.std.specs.Prelude.{ℕ, ◌+◌, Bool, true, false, nat_le, if◌then◌else◌, List, [], ◌∷◌, ◌++◌, length, Option, Some, None, Result, Ok, Err, string_bytes}
+use Rattle.std.specs.Prelude.{ℕ, ◌+◌, Bool, true, false, nat_le, if◌then◌else◌, List, [], ◌∷◌, length, codes, Option, Some, None, Result, Ok, Err}
+use Rattle.std.specs.Str.{bytes_eq}
 use Rattle.sof_script.specs.declared.script.Command.{Command}
 use Rattle.sof_script.specs.declared.script.Command.TheVariants as command
 use Rattle.sof_script.specs.declared.script.Numbered.{Numbered}
-use Rattle.sof_script.specs.declared.script.Binding.{Binding}
-use Rattle.sof_script.specs.declared.script.Script.{Script}
 use Rattle.sof_script.specs.declared.items.Item.{Item}
 use Rattle.sof_script.specs.declared.items.Item.TheVariants.{Nothing, Bind, Do}
 use Rattle.sof_script.specs.declared.reading.ScriptFault.{ScriptFault}
 use Rattle.sof_script.specs.declared.reading.ScriptFault.TheVariants.{Line}
 use Rattle.sof_script.specs.declared.fault_causes.Cause.{Cause}
 use Rattle.sof_script.specs.declared.fault_causes.Cause.TheVariants as causes
-use Rattle.sof_script.specs.declared.words.Word.{Word}
-use Rattle.sof_script.specs.declared.words.Word.TheVariants as word
 use Rattle.sof_script.specs.Splitting.{lines_of, without_return, is_skipped, all_plain, tokens_of}
 use Rattle.sof_script.specs.Causes.{cause_number, least_cause}
 use Rattle.sof_script.specs.ValueForms.{number_value, error_value, format_value, hex_value, name_value, file_value}
-use Rattle.sof_script.specs.Words.{word_named}
 
 -- ---- one line
 
@@ -91,42 +87,39 @@ abbrev pub lag_item : List (List ℕ) → Result Item Cause
 lag_item (message ∷ ticks ∷ []) = Ok (λ k n. Do (command.Lag k n)) ⊛ message_number message ⊛ number_value 1 16 ticks
 lag_item _ = Err causes.Count
 
--- what a word and the tokens behind it say
-abbrev pub said_by : Word → List (List ℕ) → Result Item Cause
-said_by word.In args = bound true args
-said_by word.Out args = bound false args
-said_by word.Load args = alone command.Load args
-said_by word.Unload args = alone command.Unload args
-said_by word.Suspend args = alone command.Suspend args
-said_by word.Resume args = alone command.Resume args
-said_by word.Show args = alone command.Show args
-said_by word.Open args = Ok (λ n. Do (command.Open n)) ⊛ one_name args
-said_by word.Start args = Ok (λ n. Do (command.Start n)) ⊛ one_name args
-said_by word.Stop args = Ok (λ n. Do (command.Stop n)) ⊛ one_name args
-said_by word.Pause args = Ok (λ n. Do (command.Pause n)) ⊛ one_name args
-said_by word.Release args = Ok (λ n. Do (command.Release n)) ⊛ one_name args
-said_by word.Close args = Ok (λ n. Do (command.Close n)) ⊛ one_name args
-said_by word.Get args = Ok (λ n. Do (command.Get n)) ⊛ one_name args
-said_by word.Read args = Ok (λ n. Do (command.Read n)) ⊛ one_name args
-said_by word.Params args = params_item args
-said_by word.Set args = values_item args
-said_by word.Bytes args = hex_item args
-said_by word.Tick args = Ok (λ n. Do (command.Tick n)) ⊛ one_number 60000 args
-said_by word.Refuse args = error_item args
-said_by word.Drop args = Ok (λ n. Do (command.Drop n)) ⊛ one_number 100000 args
-said_by word.Lose args = Ok (λ n. Do (command.Lose n)) ⊛ one_number 100000 args
-said_by word.Lag args = lag_item args
-
--- the tokens behind a first token, which is a word or not
-abbrev pub behind_word : Option Word → List (List ℕ) → Result Item Cause
-behind_word None args = Err causes.Word
-behind_word (Some w) args = said_by w args
+-- what a first token and the tokens behind it say; a first token that is none of these words is a fault
+abbrev pub said_by : List ℕ → List (List ℕ) → Result Item Cause
+said_by word args =
+    if bytes_eq word (codes "in") then bound true args
+    else if bytes_eq word (codes "out") then bound false args
+    else if bytes_eq word (codes "load") then alone command.Load args
+    else if bytes_eq word (codes "unload") then alone command.Unload args
+    else if bytes_eq word (codes "suspend") then alone command.Suspend args
+    else if bytes_eq word (codes "resume") then alone command.Resume args
+    else if bytes_eq word (codes "show") then alone command.Show args
+    else if bytes_eq word (codes "open") then Ok (λ n. Do (command.Open n)) ⊛ one_name args
+    else if bytes_eq word (codes "start") then Ok (λ n. Do (command.Start n)) ⊛ one_name args
+    else if bytes_eq word (codes "stop") then Ok (λ n. Do (command.Stop n)) ⊛ one_name args
+    else if bytes_eq word (codes "pause") then Ok (λ n. Do (command.Pause n)) ⊛ one_name args
+    else if bytes_eq word (codes "release") then Ok (λ n. Do (command.Release n)) ⊛ one_name args
+    else if bytes_eq word (codes "close") then Ok (λ n. Do (command.Close n)) ⊛ one_name args
+    else if bytes_eq word (codes "get") then Ok (λ n. Do (command.Get n)) ⊛ one_name args
+    else if bytes_eq word (codes "read") then Ok (λ n. Do (command.Read n)) ⊛ one_name args
+    else if bytes_eq word (codes "params") then params_item args
+    else if bytes_eq word (codes "set") then values_item args
+    else if bytes_eq word (codes "bytes") then hex_item args
+    else if bytes_eq word (codes "tick") then Ok (λ n. Do (command.Tick n)) ⊛ one_number 60000 args
+    else if bytes_eq word (codes "refuse") then error_item args
+    else if bytes_eq word (codes "drop") then Ok (λ n. Do (command.Drop n)) ⊛ one_number 100000 args
+    else if bytes_eq word (codes "lose") then Ok (λ n. Do (command.Lose n)) ⊛ one_number 100000 args
+    else if bytes_eq word (codes "lag") then lag_item args
+    else Err causes.Word
 
 -- tokens; none where the quotes of the line are broken
 abbrev pub item_of : Option (List (List ℕ)) → Result Item Cause
 item_of None = Err causes.Quote
 item_of (Some []) = Ok Nothing
-item_of (Some (first ∷ args)) = behind_word (word_named first) args
+item_of (Some (word ∷ args)) = said_by word args
 
 -- what a line is, or its least cause
 abbrev pub line_item : List ℕ → Result Item Cause
@@ -163,24 +156,3 @@ lines_read number (line ∷ lines) = with_item number (line_item (without_return
 -- the script of bytes, or its first line at fault with the number of the least cause there
 abbrev pub script_of : List ℕ → Result Read ScriptFault
 script_of bytes = lines_read 1 (lines_of bytes)
-
--- a script as it is told here
-abbrev pub bound_of : Binding → Bound
-bound_of b = record { line = b.line; input = b.input; endpoint = b.endpoint; file = string_bytes b.file }
-
-abbrev pub bounds_of : List Binding → List Bound
-bounds_of [] = []
-bounds_of (b ∷ bindings) = bound_of b ∷ bounds_of bindings
-
-abbrev pub script_read : Script → Read
-script_read script = record { bindings = bounds_of script.bindings; commands = script.commands }
-
--- commands with the numbers of their lines, from a number on
-abbrev pub numbered_from : ℕ → List Command → List Numbered
-numbered_from line [] = []
-numbered_from line (c ∷ commands) = record { line = line; command = c } ∷ numbered_from (line + 1) commands
-
--- what was read, before what lines behind it are
-abbrev pub behind : Read → Result Read ScriptFault → Result Read ScriptFault
-behind read (Err fault) = Err fault
-behind read (Ok rest) = Ok (record { bindings = read.bindings ++ rest.bindings; commands = read.commands ++ rest.commands })

@@ -1,8 +1,10 @@
 pub mod Splitting
+pub mod TokenStarts
 pub mod Causes
 pub mod ValueForms
-pub mod Words
 pub mod Commands
+pub mod Words
+pub mod ScriptRead
 pub mod Faults
 pub mod Ticks
 pub mod Text

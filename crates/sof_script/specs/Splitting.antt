@@ -1,6 +1,5 @@
 -- The lines of bytes and the tokens of a line.
-use Rattle.std.specs.Prelude.{◌≡◌, ℕ, Bool, true, false, ◌||◌, ◌&&◌, nat_eq, nat_le, if◌then◌else◌, List, [], ◌∷◌, Option, Some, None}
-use Rattle.std.specs.Borrow.{Bor}
+use Rattle.std.specs.Prelude.{ℕ, Bool, true, ◌||◌, ◌&&◌, nat_eq, nat_le, if◌then◌else◌, List, [], ◌∷◌, Option, Some, None, option_map}
 
 -- ---- lines
 
@@ -9,14 +8,10 @@ abbrev pub before_line : ℕ → List (List ℕ) → List (List ℕ)
 before_line b [] = (b ∷ []) ∷ []
 before_line b (line ∷ rest) = (b ∷ line) ∷ rest
 
--- a byte and the lines behind it: a newline (10) ends an empty line, another byte belongs to the first line
-abbrev pub with_byte : ℕ → List (List ℕ) → List (List ℕ)
-with_byte b rest = if nat_eq b 10 then [] ∷ rest else before_line b rest
-
--- lines: each ends with its newline, which the last may lack
+-- lines: each ends with its newline (10), which the last may lack; another byte belongs to the first line
 unfoldable pub lines_of : List ℕ → List (List ℕ)
 lines_of [] = []
-lines_of (b ∷ bytes) = with_byte b (lines_of bytes)
+lines_of (b ∷ bytes) = if nat_eq b 10 then [] ∷ lines_of bytes else before_line b (lines_of bytes)
 
 -- a line without the one carriage return (13) that it may end with
 unfoldable pub without_return : List ℕ → List ℕ
@@ -62,8 +57,7 @@ pub data TokenPlace : Type 0 where
 
 -- a token before others; none where those are none
 abbrev pub first_token : List ℕ → Option (List (List ℕ)) → Option (List (List ℕ))
-first_token token None = None
-first_token token (Some tokens) = Some (token ∷ tokens)
+first_token token tokens = option_map (λ rest. token ∷ rest) tokens
 
 -- bytes in front of the first of tokens
 abbrev pub onto_first : ℕ → Option (List (List ℕ)) → Option (List (List ℕ))
@@ -71,48 +65,24 @@ onto_first b None = None
 onto_first b (Some []) = Some ((b ∷ []) ∷ [])
 onto_first b (Some (token ∷ tokens)) = Some ((b ∷ token) ∷ tokens)
 
+-- the tokens from a byte on that stands at a place, by those from the place that the byte leads to
+abbrev pub tokens_by : TokenPlace → Kind → ℕ → (TokenPlace → Option (List (List ℕ))) → Option (List (List ℕ))
+tokens_by Between Blank b from = from Between
+tokens_by Between Quote b from = from Quoted
+tokens_by Inside Blank b from = first_token [] (from Between)
+tokens_by Quoted Quote b from = from Behind
+tokens_by Quoted _ b from = onto_first b (from Quoted)
+tokens_by Behind Blank b from = first_token [] (from Between)
+tokens_by Behind _ b from = None
+tokens_by _ _ b from = onto_first b (from Inside)
+
 -- the tokens from a place on, the first of which may have begun; none where a quote is not closed, or no blank follows it
 unfoldable pub tokens_from : TokenPlace → List ℕ → Option (List (List ℕ))
 tokens_from Between [] = Some []
-tokens_from Inside [] = Some ([] ∷ [])
 tokens_from Quoted [] = None
-tokens_from Behind [] = Some ([] ∷ [])
-tokens_from Between (b ∷ bytes) = elim (byte_kind b) [
-  | Blank ↦ tokens_from Between bytes
-  | Quote ↦ tokens_from Quoted bytes
-  | Other ↦ onto_first b (tokens_from Inside bytes)
-]
-tokens_from Inside (b ∷ bytes) = elim (byte_kind b) [
-  | Blank ↦ first_token [] (tokens_from Between bytes)
-  | Quote ↦ onto_first b (tokens_from Inside bytes)
-  | Other ↦ onto_first b (tokens_from Inside bytes)
-]
-tokens_from Quoted (b ∷ bytes) = elim (byte_kind b) [
-  | Blank ↦ onto_first b (tokens_from Quoted bytes)
-  | Quote ↦ tokens_from Behind bytes
-  | Other ↦ onto_first b (tokens_from Quoted bytes)
-]
-tokens_from Behind (b ∷ bytes) = elim (byte_kind b) [
-  | Blank ↦ first_token [] (tokens_from Between bytes)
-  | Quote ↦ None
-  | Other ↦ None
-]
+tokens_from _ [] = Some ([] ∷ [])
+tokens_from place (b ∷ bytes) = tokens_by place (byte_kind b) b (λ next. tokens_from next bytes)
 
 -- the tokens of a line; a quoted one is what is between its quotes
 abbrev pub tokens_of : List ℕ → Option (List (List ℕ))
 tokens_of line = tokens_from Between line
-
--- the bytes of slices
-abbrev pub texts : List (Bor (List ℕ)) → List (List ℕ)
-texts [] = []
-texts (r ∷ rs) = r.now ∷ texts rs
-
--- the first byte separates nothing
-unfoldable pub StartsToken : List ℕ → Type 0
-StartsToken [] = ⊥
-StartsToken (b ∷ bytes) = is_blank b ≡ false
-
--- the first byte separates nothing and is no quote
-unfoldable pub IsBare : List ℕ → Type 0
-IsBare [] = ⊥
-IsBare (b ∷ bytes) = byte_kind b ≡ Other

@@ -1,11 +1,11 @@
 -- What a token is worth as a number, a format, hex, a name or a file. Each has one cause for a token that is none.
 use Rattle.std.specs.Prelude.{ℕ, ℤ, pos, ◌-ℤ◌, ◌+◌, ◌-◌, ◌*◌, Bool, true, false, not, ◌&&◌, nat_eq, nat_le, nat_lt, if◌then◌else◌, List, [], ◌∷◌, length, codes, Option, Some, None, Result, Ok, Err}
 use Rattle.std.specs.Str.{bytes_eq}
+use Rattle.std.specs.Result.{result_map_both}
 use Rattle.sof_base.specs.Slots.{is_name}
 use Rattle.sof_base.specs.declared.format.Format.{Format}
 use Rattle.sof_base.specs.declared.format.Format.TheVariants.{S16, S24, S32}
 use Rattle.hex.specs.Hex.{decode_of}
-use Rattle.hex.specs.declared.error.FromHexError.{FromHexError}
 use Rattle.sof_script.specs.declared.fault_causes.Cause.{Cause}
 use Rattle.sof_script.specs.declared.fault_causes.Cause.TheVariants as causes
 use Rattle.sof_script.specs.Splitting.{all_plain}
@@ -41,8 +41,7 @@ number_value least most token = in_range least most (decimal_value token)
 
 -- the negative of a number
 abbrev pub negative : Result ℕ Cause → Result ℤ Cause
-negative (Ok n) = Ok (pos 0 -ℤ pos n)
-negative (Err cause) = Err cause
+negative r = result_map_both (λ n. pos 0 -ℤ pos n) (λ cause. cause) r
 
 -- an error number: `-` (45), and 1 to 4095 behind it
 abbrev pub error_value : List ℕ → Result ℤ Cause
@@ -60,16 +59,12 @@ format_value token =
 
 -- ---- hex
 
-abbrev pub hex_decoded : Result (List ℕ) FromHexError → Result (List ℕ) Cause
-hex_decoded (Ok bytes) = Ok bytes
-hex_decoded (Err fault) = Err causes.Hex
-
 -- the bytes of at most 2048 hex digits, two for each, in either case; `-` is no bytes
 abbrev pub hex_value : List ℕ → Result (List ℕ) Cause
 hex_value token =
     if bytes_eq token (codes "-") then Ok []
     else if nat_lt 2048 (length token) then Err causes.Hex
-    else hex_decoded (decode_of token)
+    else result_map_both (λ bytes. bytes) (λ fault. causes.Hex) (decode_of token)
 
 -- ---- names and files
 

@@ -1,6 +1,7 @@
 // What a line is.
 ghost use Rattle.std.specs.Prelude.{◌≡◌, ◌≤◌, length};
-ghost use Rattle.sof_script.specs.Splitting.{texts};
+ghost use Rattle.sof_script.specs.TokenStarts.{texts};
+ghost use Rattle.sof_script.specs.Words.{worded_item};
 ghost use Rattle.sof_script.specs.Commands.{line_item, said_by, alone, one_name, one_number, bound, params_item, values_item, hex_item, error_item, lag_item, number_values};
 
 use crate::fault_causes::Cause;
@@ -162,7 +163,7 @@ fn lag(args: &[&[u8]]) -> Result<Item, Cause>
 
 // What a word and the tokens behind it say.
 fn meant(word: Word, args: &[&[u8]]) -> Result<Item, Cause>
-    ensures { result ≡ said_by word (texts args.now) }
+    ensures { result ≡ worded_item word (texts args.now) }
 {
     match word {
         Word::In => binding(args, true),
@@ -191,6 +192,16 @@ fn meant(word: Word, args: &[&[u8]]) -> Result<Item, Cause>
     }
 }
 
+// What a first token and the tokens behind it say.
+fn said(first: &[u8], args: &[&[u8]]) -> Result<Item, Cause>
+    ensures { result ≡ said_by first.now (texts args.now) }
+{
+    match Word::of(first) {
+        Some(word) => meant(word, args),
+        None => Err(Cause::Word),
+    }
+}
+
 /// What a line is, or its least cause: a byte that may not stand there, a broken quote, an unknown word, a wrong count of
 /// tokens, a number, hex, a name.
 pub fn read_line(line: &[u8]) -> Result<Item, Cause>
@@ -208,8 +219,5 @@ pub fn read_line(line: &[u8]) -> Result<Item, Cause>
     let [first, args @ ..] = tokens.all() else {
         return Ok(Item::Nothing);
     };
-    match Word::of(first) {
-        Some(word) => meant(word, args),
-        None => Err(Cause::Word),
-    }
+    said(first, args)
 }

@@ -10,12 +10,16 @@ mod lines;
 mod reading;
 mod scanning;
 mod script;
-mod values;
+pub mod values;
 mod words;
 
 pub use answer::{say_bytes, say_values, write_answer};
-pub use fault_causes::cause_word;
+pub use fault_causes::{Cause, cause_word};
+pub use file_name::FileName;
+pub use line_tokens::Tokens;
+pub use lines::{before_return, first_line};
 pub use reading::{ScriptFault, parse};
+pub use scanning::from_first_token;
 pub use script::{Binding, Command, Numbered, Script, ticks};
 pub use sof_base::Line;
 pub use values::numbers_are_decimal;

@@ -1,6 +1,7 @@
 // The tokens of a line, side by side.
 ghost use Rattle.std.specs.Prelude.{◌≡◌, ◌∷◌, ◌++◌, List, ℕ, [], take, MatchOption, None, Some};
-ghost use Rattle.sof_script.specs.Splitting.{tokens_of, texts};
+ghost use Rattle.sof_script.specs.Splitting.{tokens_of};
+ghost use Rattle.sof_script.specs.TokenStarts.{texts};
 
 use crate::scanning::{next_token, skip_blanks};
 use std::marker::Model;
@@ -14,7 +15,7 @@ pub struct Tokens<'a> {
 
 impl<'a> Model for Tokens<'a> {
     ghost use Rattle.std.specs.Prelude.{List, ℕ, ◌≤◌, take};
-    ghost use Rattle.sof_script.specs.Splitting.{texts};
+    ghost use Rattle.sof_script.specs.TokenStarts.{texts};
 
     ghost Value = { List (List ℕ) };
 

@@ -1,6 +1,7 @@
 // Reading a script.
 ghost use Rattle.std.specs.Prelude.{◌≡◌, ◌⊎◌, ◌+◌, ◌-◌, ◌<◌, ◌≤◌, ◌^◌, length, IfOk, MatchResult, OnOk, Result};
-ghost use Rattle.sof_script.specs.Commands.{Read, script_of, script_read, with_item, behind};
+ghost use Rattle.sof_script.specs.Commands.{Read, script_of, with_item};
+ghost use Rattle.sof_script.specs.ScriptRead.{script_read, behind};
 ghost use Rattle.sof_script.specs.Faults.{AllRight, IsToldOf};
 ghost use Rattle.sof_script.specs.Splitting.{lines_of};
 

@@ -1,7 +1,8 @@
 // What a script asks for.
 ghost use Rattle.std.specs.Prelude.{◌≡◌, ◌<◌, ◌^◌, length};
 ghost use Rattle.std.specs.List.{sum_by};
-ghost use Rattle.sof_script.specs.Ticks.{command_ticks, line_ticks};
+ghost use Rattle.sof_script.specs.Ticks.{command_ticks};
+ghost use Rattle.sof_script.specs.ScriptRead.{line_ticks};
 
 use sof_base::{Bounded, Items, Name44, Params};
 

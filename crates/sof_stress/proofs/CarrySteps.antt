@@ -2,7 +2,8 @@
 use Rattle.std.proofs.Common.{◌≡◌, ℕ, suc, ◌+◌, ◌-◌, ◌*◌, ◌<◌, ◌≤◌, true, false, List, [], ◌∷◌, ◌++◌, map, length, length-append, refl, sym, ◌∙◌, ap, subst, append_assoc, arith, eq-eqb, Some}
 use Rattle.std.proofs.lemmas.List.{append-nil}
 use Rattle.std.specs.List.{slice_get}
-use Rattle.sof_base.specs.Ports.{InputView, OutputView, HasRoom, drained}
+use Rattle.sof_base.specs.Ports.{InputView, OutputView, HasRoom}
+use Rattle.sof_base.specs.DrainedOutputs.{drained}
 use Rattle.sof_io.specs.Bound.{output_slots}
 use Rattle.mbox_link.specs.Calls.{Meaning, world}
 use Rattle.host_widgets.specs.declared.answers.Answer.{Answer}
@@ -16,7 +17,9 @@ use Rattle.sof_session.specs.Written.{Out, with_bytes, written_in}
 use Rattle.sof_session.specs.Lives.{Life, Seated, Turn, Turned, Carry}
 use Rattle.sof_session.proofs.Writings.{empty-outputs}
 use Rattle.sof_stress.specs.declared.counts.Counts.{Counts}
-use Rattle.sof_stress.specs.CommandTurns.{CommandTurn, bytes_to, turns_after, command_turns, turns_of, no_counts, turn_counted, all_counted, CarriedOut, AreCountsOf}
+use Rattle.sof_stress.specs.CommandTurns.{CommandTurn, bytes_to, command_turns, turns_of, no_counts, turn_counted, all_counted}
+use Rattle.sof_stress.specs.CarriedTurns.{turns_after}
+use Rattle.sof_stress.specs.CarriedTurns.{CarriedOut, AreCountsOf}
 use Rattle.sof_stress.specs.CarriedTurns.{CarriesOn, CarriedFirst, CommandsCarried, IsUnderWay}
 
 -- a session's step is a turn

@@ -4,10 +4,12 @@ use Rattle.std.specs.List.{AllByRecursion, flat_map, range_with_len}
 use Rattle.std.proofs.lemmas.List.FromFn.{length-range_with_len, length-map-range_with_len}
 use Rattle.sof_script.specs.declared.script.Command.{Command}
 use Rattle.sof_script.specs.declared.script.Command.TheVariants as commands
-use Rattle.sof_stress.specs.Draws.{command_by, drawn, stream_count, opening, openings, drawn_commands, stress_commands}
+use Rattle.sof_stress.specs.Draws.{command_by, drawn, stream_count, opening, stress_commands}
+use Rattle.sof_stress.specs.CarriedTurns.{openings, drawn_commands}
 use Rattle.sof_script.specs.Ticks.{command_ticks}
 use Rattle.sof_session.specs.CommandRanges.{most_sent}
-use Rattle.sof_stress.specs.CommandTurns.{IsDue, earlier_turns}
+use Rattle.sof_script.specs.Ticks.{earlier as earlier_turns}
+use Rattle.sof_stress.specs.CarriedTurns.{IsDue}
 
 -- ---- how much each does
 

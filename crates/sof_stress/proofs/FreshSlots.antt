@@ -6,10 +6,15 @@ use Rattle.std.proofs.lemmas.Bool.{eq-eqb, ne_eqb, ltb-true}
 use Rattle.std.proofs.lemmas.List.FromFn.{map-range_with_len_more, length-range_with_len}
 use Rattle.std.proofs.lemmas.Bool.Decides.{nat_tests}
 use Rattle.sof_base.specs.Ports.{InputView}
-use Rattle.sof_io.specs.Bound.{input_slots, has_slot}
-use Rattle.sof_io.specs.Takes.{new_input, left_at}
-use Rattle.sof_io.specs.Fills.{with_input, held_at, has_ended, filled_at, ended_at, fuller_input, ended_input}
-use Rattle.sof_stress.specs.StressPorts.{input_byte, input_bytes, stream_input, stress_inputs}
+use Rattle.sof_io.specs.Bound.{has_slot}
+use Rattle.sof_io.specs.Takes.{input_slots}
+use Rattle.sof_io.specs.Takes.{left_at}
+use Rattle.sof_io.specs.Fills.{new_input}
+use Rattle.sof_io.specs.Fills.{with_input, filled_at, ended_at}
+use Rattle.sof_io.specs.Takes.{fuller_input, ended_input}
+use Rattle.sof_io.specs.Takes.{held_at, has_ended}
+use Rattle.sof_stress.specs.StressPorts.{input_bytes, stream_input, stress_inputs}
+use Rattle.sof_stress.specs.GraphParts.{input_byte}
 
 -- one input more
 pub inputs-more : (n : ℕ) → stress_inputs (n + 1) ≡ stress_inputs n ++ stream_input n ∷ []

@@ -16,8 +16,12 @@ use Rattle.sof_session.proofs.FewOrders.{few-order}
 use Rattle.sof_session.proofs.RunLegs.{HasFew, AreCarried, messages, run-over}
 use Rattle.sof_stress.specs.Draws.{stream_count, stress_commands}
 use Rattle.sof_stress.specs.StressPorts.{stream_input, stress_inputs}
-use Rattle.sof_stress.specs.CommandTurns.{CommandTurn, IsDue, earlier_turns, turns_after, turns_of, tasks_of}
-use Rattle.sof_stress.specs.StressRun.{commands_of, stress_begins, stress_ground, stress_plan, stress_turns}
+use Rattle.sof_stress.specs.CommandTurns.{CommandTurn, turns_of}
+use Rattle.sof_script.specs.Ticks.{earlier as earlier_turns}
+use Rattle.sof_stress.specs.CarriedTurns.{turns_after}
+use Rattle.sof_stress.specs.CarriedTurns.{IsDue, tasks_of}
+use Rattle.sof_stress.specs.StressRun.{stress_begins, stress_ground, stress_plan, stress_turns}
+use Rattle.sof_stress.specs.CarriedTurns.{commands_of}
 use Rattle.sof_stress.proofs.DueCommands.{at-most, earlier-few, all-due, few-commands}
 
 -- ---- the inputs, of which nothing was read

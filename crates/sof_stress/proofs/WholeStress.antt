@@ -11,8 +11,10 @@ use Rattle.sof_session.specs.Lives.{Seated}
 use Rattle.sof_stress.specs.declared.counts.Counts.{Counts}
 use Rattle.sof_stress.specs.Draws.{stream_count}
 use Rattle.sof_stress.specs.StressPorts.{dai_slot, stress_inputs, stress_slots}
-use Rattle.sof_stress.specs.CommandTurns.{CarriedOut, no_counts}
-use Rattle.sof_stress.specs.StressRun.{Stresses, stress_heap, stress_plan, stress_turns}
+use Rattle.sof_stress.specs.CommandTurns.{no_counts}
+use Rattle.sof_stress.specs.CarriedTurns.{CarriedOut}
+use Rattle.sof_stress.specs.StressRun.{stress_heap, stress_plan, stress_turns}
+use Rattle.sof_stress.specs.DeviceStress.{Stresses}
 
 module _ {P : Type 0} (means : Meaning P) (seed : ℕ) (p q : P) (plan : Plan) (heap slot sent : ℕ) (inputs inputs' : List InputView) (slots slots' : List ℕ) (seat seat' : Seat P) (counts : Counts) where
   pub whole : IsSound plan → plan ≡ stress_plan seed → heap ≡ stress_heap (means.most p) seed → slot ≡ dai_slot (stream_count seed) → inputs ≡ stress_inputs (stream_count seed) → slots ≡ stress_slots (stream_count seed) →

@@ -2,20 +2,15 @@
 use Rattle.std.specs.Prelude.{ℕ, zero, suc, ◌+◌, ◌*◌, ◌/◌, ◌%◌, ◌^◌, ◌==◌, negsuc, List, [], ◌∷◌, ◌++◌, map, codes, if◌then◌else◌}
 use Rattle.std.specs.List.{flat_map, range_with_len}
 use Rattle.sof_base.specs.declared.format.Format.TheVariants.{S16}
-use Rattle.sof_base.specs.declared.format.Params.{Params}
 use Rattle.sof_script.specs.declared.script.Command.{Command}
 use Rattle.sof_script.specs.declared.script.Command.TheVariants as commands
 
 -- ---- numbers
 
--- the state of a linear congruential generator after another: those of C's `rand`
-abbrev pub next_state : ℕ → ℕ
-next_state state = (state * 1103515245 + 12345) % 2 ^ 31
-
--- the state after k draws, from a seed
+-- the state after k draws, from a seed, of a linear congruential generator: that of C's `rand`
 unfoldable pub state_at : ℕ → ℕ → ℕ
 state_at seed zero = seed
-state_at seed (suc k) = next_state (state_at seed k)
+state_at seed (suc k) = (state_at seed k * 1103515245 + 12345) % 2 ^ 31
 
 -- the k-th number drawn, from 1: the upper bits of the state
 abbrev pub drawn : ℕ → ℕ → ℕ
@@ -38,10 +33,6 @@ host_name i = numbered_name (codes "H") i
 abbrev pub volume_name : ℕ → List ℕ
 volume_name i = numbered_name (codes "V") i
 
--- 48000 frames a second, two channels, 16 bits a sample
-abbrev pub stress_params : Params
-stress_params = record { rate = 48000; channels = 2; format = S16 }
-
 -- The command that a number makes over so many streams: its lowest three bits choose what to do, and the bits above them the
 -- stream and the amount.
 abbrev pub command_by : ℕ → ℕ → Command
@@ -58,17 +49,10 @@ command_by streams r =
 
 -- a stream is opened, given its parameters, and started
 abbrev pub opening : ℕ → List Command
-opening i = commands.Open (host_name i) ∷ commands.Params (host_name i) stress_params ∷ commands.Start (host_name i) ∷ []
+opening i = commands.Open (host_name i) ∷ commands.Params (host_name i) (record { rate = 48000; channels = 2; format = S16 }) ∷ commands.Start (host_name i) ∷ []
 
--- that of each stream
-abbrev pub openings : ℕ → List Command
-openings streams = flat_map opening (range_with_len 0 streams)
-
--- those of as many numbers as the seed says
-abbrev pub drawn_commands : ℕ → List Command
-drawn_commands seed = map (λ k. command_by (stream_count seed) (drawn seed k)) (range_with_len 1 seed)
-
--- all: the graph is loaded, each stream started, then come those that are drawn, and last four ticks
+-- All: the graph is loaded, each stream started, then come those of as many numbers as the seed says, and last four ticks.
 abbrev pub stress_commands : ℕ → List Command
 stress_commands seed =
-    commands.Load ∷ [] ++ openings (stream_count seed) ++ drawn_commands seed ++ commands.Tick 4 ∷ []
+    let streams = stream_count seed in
+    commands.Load ∷ [] ++ flat_map opening (range_with_len 0 streams) ++ map (λ k. command_by streams (drawn seed k)) (range_with_len 1 seed) ++ commands.Tick 4 ∷ []

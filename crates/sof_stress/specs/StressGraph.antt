@@ -42,91 +42,60 @@ buffer name bytes index = with_number BUFFER_SIZE bytes (plain_widget kind.Buffe
 abbrev pub scheduler : List ℕ → List ℕ → ℕ → ℕ → SourceWidget
 scheduler name sched period index = with_number SCHED_PERIOD period (plain_widget kind.Scheduler name sched index)
 
--- two channels, 33 steps from -64 dB on, 2 dB each, the least of them silent
-abbrev pub master_volume : SourceControl
-master_volume = Volume (codes "Master") 2 (pos 0) (pos 32) (negsuc 6399) 200 1
-
--- a blob of at most 1024 bytes, of which there are none at first
-abbrev pub empty_blob : SourceControl
-empty_blob = Blob (codes "Eq") 1024 []
-
--- a volume in a pipeline
+-- a volume in a pipeline: two channels, 33 steps from -64 dB on, 2 dB each, the least of them silent
 abbrev pub volume : List ℕ → ℕ → SourceWidget
-volume name index = widget_with_control master_volume (plain_widget kind.Pga name [] index)
+volume name index = widget_with_control (Volume (codes "Master") 2 (pos 0) (pos 32) (negsuc 6399) 200 1) (plain_widget kind.Pga name [] index)
 
--- ---- a stream
-
-abbrev pub before_name : ℕ → List ℕ
-before_name i = numbered_name (codes "A") i
-
-abbrev pub after_name : ℕ → List ℕ
-after_name i = numbered_name (codes "C") i
-
-abbrev pub caps_name : ℕ → List ℕ
-caps_name i = numbered_name (codes "S") i
-
--- a host, a buffer and a volume
-abbrev pub up_to_volume : ℕ → List SourceWidget
-up_to_volume i =
-    plain_widget kind.AifIn (host_name i) (caps_name i) (i + 1)
-    ∷ buffer (before_name i) 1536 (i + 1)
-    ∷ volume (volume_name i) (i + 1)
-    ∷ []
-
--- a buffer, and the pipeline of all five, whose period grows by 1000 µs from stream to stream
-abbrev pub behind_volume : ℕ → List SourceWidget
-behind_volume i =
-    buffer (after_name i) 1536 (i + 1)
-    ∷ scheduler (numbered_name (codes "PIPE") i) (host_name i) (1000 * (i + 1)) (i + 1)
-    ∷ []
-
-abbrev pub stream_widgets : ℕ → List SourceWidget
-stream_widgets i = up_to_volume i ++ behind_volume i
+-- ---- routes
 
 abbrev pub source_route : List ℕ → List ℕ → SourceRoute
 source_route source sink = record { source = source; sink = sink }
 
+-- from each of these names to the next
+abbrev pub along : List (List ℕ) → List SourceRoute
+along (source ∷ sink ∷ names) = source_route source sink ∷ along (sink ∷ names)
+along _ = []
+
+-- ---- a stream
+
+-- a host, a buffer, a volume, a buffer, and the pipeline of all five, whose period grows by 1000 µs from stream to stream
+abbrev pub stream_widgets : ℕ → List SourceWidget
+stream_widgets i =
+    plain_widget kind.AifIn (host_name i) (numbered_name (codes "S") i) (i + 1)
+    ∷ buffer (numbered_name (codes "A") i) 1536 (i + 1)
+    ∷ volume (volume_name i) (i + 1)
+    ∷ buffer (numbered_name (codes "C") i) 1536 (i + 1)
+    ∷ scheduler (numbered_name (codes "PIPE") i) (host_name i) (1000 * (i + 1)) (i + 1)
+    ∷ []
+
 -- along the stream, to the mixer
 abbrev pub stream_routes : ℕ → List SourceRoute
-stream_routes i =
-    source_route (host_name i) (before_name i)
-    ∷ source_route (before_name i) (volume_name i)
-    ∷ source_route (volume_name i) (after_name i)
-    ∷ source_route (after_name i) (codes "MIX")
-    ∷ []
+stream_routes i = along (host_name i ∷ numbered_name (codes "A") i ∷ volume_name i ∷ numbered_name (codes "C") i ∷ codes "MIX" ∷ [])
 
 -- 16, 24 and 32 bits a sample, 8000 to 192000 frames a second, one to eight channels
 abbrev pub host_limits : PcmLimits
 host_limits = record { formats = 1092; rate_min = 8000; rate_max = 192000; channels_min = 1; channels_max = 8 }
 
 abbrev pub stream_pcm : ℕ → SourcePcm
-stream_pcm i = record { name = numbered_name (codes "PCM") i; id = i; limits = host_limits; playback = Some (caps_name i); capture = None }
+stream_pcm i = record { name = numbered_name (codes "PCM") i; id = i; limits = host_limits; playback = Some (numbered_name (codes "S") i); capture = None }
 
 -- ---- what the streams are mixed into
 
+-- its blob has at most 1024 bytes, and none at first
 abbrev pub equaliser : SourceWidget
-equaliser = widget_with_control empty_blob (with_text PROCESS_TYPE (codes "EQIIR") (plain_widget kind.Effect (codes "EQ0") [] 100))
+equaliser = widget_with_control (Blob (codes "Eq") 1024 []) (with_text PROCESS_TYPE (codes "EQIIR") (plain_widget kind.Effect (codes "EQ0") [] 100))
 
 -- its samples have 32 bits
 abbrev pub dai : SourceWidget
 dai = with_text COMP_FORMAT (codes "s32le") (plain_widget kind.DaiOut (codes "DAI0") [] 100)
 
-abbrev pub up_to_equaliser : List SourceWidget
-up_to_equaliser = plain_widget kind.Mixer (codes "MIX") [] 100 ∷ buffer (codes "D0") 768 100 ∷ equaliser ∷ []
-
-abbrev pub behind_equaliser : List SourceWidget
-behind_equaliser = buffer (codes "D1") 768 100 ∷ dai ∷ scheduler (codes "PIPEM") (codes "DAI0") 1000 100 ∷ []
-
 abbrev pub mixed_widgets : List SourceWidget
-mixed_widgets = up_to_equaliser ++ behind_equaliser
+mixed_widgets =
+    plain_widget kind.Mixer (codes "MIX") [] 100 ∷ buffer (codes "D0") 768 100 ∷ equaliser
+    ∷ buffer (codes "D1") 768 100 ∷ dai ∷ scheduler (codes "PIPEM") (codes "DAI0") 1000 100 ∷ []
 
 abbrev pub mixed_routes : List SourceRoute
-mixed_routes =
-    source_route (codes "MIX") (codes "D0")
-    ∷ source_route (codes "D0") (codes "EQ0")
-    ∷ source_route (codes "EQ0") (codes "D1")
-    ∷ source_route (codes "D1") (codes "DAI0")
-    ∷ []
+mixed_routes = along (codes "MIX" ∷ codes "D0" ∷ codes "EQ0" ∷ codes "D1" ∷ codes "DAI0" ∷ [])
 
 -- ---- all of it
 

@@ -3,25 +3,17 @@ use Rattle.std.specs.Prelude.{ℕ, true, ◌+◌, ◌*◌, ◌%◌, List, [], �
 use Rattle.std.specs.List.{range_with_len}
 use Rattle.sof_base.specs.Ports.{InputView}
 
--- a stream has five widgets, of which the first is its host
-abbrev pub host_slot : ℕ → ℕ
-host_slot i = 5 * i
-
 -- behind all streams' widgets come the mixer, a buffer, the equaliser, a buffer and the DAI
 abbrev pub dai_slot : ℕ → ℕ
 dai_slot streams = 5 * streams + 4
 
--- the j-th byte of a stream's input, from 0
-abbrev pub input_byte : ℕ → ℕ → ℕ
-input_byte i j = (7 * j + i) % 256
-
--- all its bytes
+-- all bytes of a stream's input
 unfoldable pub input_bytes : ℕ → List ℕ
-input_bytes i = map (input_byte i) (range_with_len 0 4800)
+input_bytes i = map (λ j. (7 * j + i) % 256) (range_with_len 0 4800)
 
--- the input of a stream, of which no more bytes come
+-- the input of a stream, of which no more bytes come: a stream has five widgets, of which the first is its host
 abbrev pub stream_input : ℕ → InputView
-stream_input i = record { slot = host_slot i; position = 0; left = input_bytes i; ended = true }
+stream_input i = record { slot = 5 * i; position = 0; left = input_bytes i; ended = true }
 
 -- those of each
 abbrev pub stress_inputs : ℕ → List InputView

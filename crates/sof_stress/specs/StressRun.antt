@@ -1,19 +1,16 @@
 -- A stress over a device: the turns of its session, and its five numbers.
-use Rattle.std.specs.Prelude.{◌≡◌, ℕ, min, List, ◌∷◌, map}
+use Rattle.std.specs.Prelude.{ℕ, min, List, map}
 use Rattle.sof_base.specs.Ports.{InputView}
-use Rattle.mbox_link.specs.Calls.{Meaning}
 use Rattle.tplg_plan.specs.declared.plans.Plan.{Plan}
-use Rattle.tplg_plan.specs.Sound.{IsSound}
 use Rattle.tplg_graph.specs.PlanOf.{plan_of}
 use Rattle.tplg_graph.specs.TopologyNeed.{need_of}
-use Rattle.sof_script.specs.declared.script.Command.{Command}
 use Rattle.sof_session.specs.Written.{Out, Ground}
-use Rattle.sof_session.specs.Lives.{Life, Bare, Seated, Turn, Turns, Task, Begin, device_of, Exit}
+use Rattle.sof_session.specs.Lives.{Life, Bare, Seated, Task, Begin}
 use Rattle.sof_stress.specs.declared.counts.Counts.{Counts}
 use Rattle.sof_stress.specs.Draws.{stream_count, stress_commands}
 use Rattle.sof_stress.specs.StressGraph.{stress_topology}
 use Rattle.sof_stress.specs.StressPorts.{dai_slot, stress_inputs, stress_slots}
-use Rattle.sof_stress.specs.CommandTurns.{CommandTurn, turns_of, tasks_of, no_counts, all_counted}
+use Rattle.sof_stress.specs.CommandTurns.{CommandTurn, turns_of, no_counts, all_counted}
 
 -- ---- what it is over, by its seed
 
@@ -41,10 +38,6 @@ stress_ground room seed = record {
   slots = stress_slots (stream_count seed);
 }
 
--- and by its commands
-abbrev pub commands_of : List CommandTurn → List Command
-commands_of turns = map (λ (turn : CommandTurn). turn.command) turns
-
 -- ---- the five numbers
 
 -- how many messages a session sent
@@ -55,18 +48,3 @@ sent_in (Seated seat inputs slots) = seat.link.sent
 -- how many messages were sent, and what is counted of the turns by what each came to
 abbrev pub stress_counts : ℕ → ℕ → List Out → Counts
 stress_counts seed sent outs = record (all_counted (dai_slot (stream_count seed)) (stress_turns seed) outs no_counts) { messages = sent }
-
--- ---- over a device
-
--- The device was handed in bare and is handed back after the turns of the stress, in their order and no others; the numbers are
--- those of what each came to. The plan is sound.
-pub record Stresses {P : Type 0} (means : Meaning P) (seed : ℕ) (p : P) (counts : Counts) (q : P) : Type 0 where
-  pub last : Life P
-  pub is : device_of last ≡ q
-  pub exit : Exit means p last
-  pub sound : IsSound (stress_plan seed)
-  pub begun : Out
-  pub turns : List Turn
-  pub turned : Turns means (Bare p) (record { task = stress_begins (means.most p) seed; out = begun } ∷ turns) last
-  pub tasks : map (λ (turn : Turn). turn.task) turns ≡ tasks_of (stress_turns seed)
-  pub numbers : counts ≡ stress_counts seed (sent_in last) (map (λ (turn : Turn). turn.out) turns)

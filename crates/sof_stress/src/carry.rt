@@ -1,14 +1,15 @@
 // The commands of a stress, turn by turn.
 ghost use Rattle.std.specs.Prelude.{◌≡◌, ◌+◌, ◌*◌, ◌<◌, ◌≤◌, ◌^◌, ◌∷◌, [], ℕ, false};
-ghost use Rattle.sof_base.specs.Ports.{drained};
+ghost use Rattle.sof_base.specs.DrainedOutputs.{drained};
 ghost use Rattle.sof_io.specs.Bound.{output_slots};
 ghost use Rattle.sof_session.specs.CommandRanges.{most_sent};
-ghost use Rattle.sof_session.specs.CommandRanges as ranges;
+ghost use Rattle.sof_session.specs.Commands as steps;
 ghost use Rattle.sof_session.specs.Lives.{Seated};
 ghost use Rattle.sof_session.specs.Written.{written_in};
 ghost use Rattle.sof_stress.specs.CommandTurns as law;
-ghost use Rattle.sof_stress.specs.CommandTurns.{AreCountsOf, CarriedOut, IsDue, command_turns, turns_of};
-ghost use Rattle.sof_stress.specs.CarriedTurns.{CarriedFirst, CommandsCarried, IsUnderWay};
+ghost use Rattle.sof_stress.specs.CommandTurns.{command_turns, turns_of};
+ghost use Rattle.sof_script.specs.Ticks.{earlier as turns_before};
+ghost use Rattle.sof_stress.specs.CarriedTurns.{AreCountsOf, CarriedFirst, CarriedOut, CommandsCarried, IsDue, IsUnderWay, counted_by, drawn_commands, openings};
 ghost use Rattle.sof_stress.specs.Draws as draws;
 
 use crate::commands::{command_by, next_state, streams_of};
@@ -30,7 +31,7 @@ fn is_done(answer: &Answer) -> bool
 
 // Whether a command makes ticks.
 fn is_tick(command: &Command) -> bool
-    ensures { result ≡ ranges.is_tick command.now }
+    ensures { result ≡ steps.is_tick command.now }
 {
     matches!(command, Command::Tick(_))
 }
@@ -50,7 +51,7 @@ fn held(outputs: &Outputs, slot: u32) -> u64
 
 // How many turns of a command come before its last.
 fn earlier_turns(command: &Command) -> u32
-    ensures { result ≡ law.earlier_turns command.now }
+    ensures { result ≡ turns_before command.now }
 {
     match command {
         Command::Tick(ticks) => ticks.saturating_sub(1),
@@ -70,7 +71,7 @@ fn one_where(holds: bool) -> u64
 fn count_turn(command: &Command, last: bool, answer: &Answer, bytes: u64, counts: &mut Counts)
     requires counts { AreCountsOf (2 ^ 31) counts.old }
     requires bytes { bytes ≤ 1048576 }
-    ensures counted { counts.new ≡ law.counted_by command.now last answer.now bytes counts.old }
+    ensures counted { counts.new ≡ counted_by command.now last answer.now bytes counts.old }
     ensures counts { (n : ℕ) → AreCountsOf n counts.old → AreCountsOf (n + 1) counts.new }
 {
     counts.ticks += one_where(is_tick(command));
@@ -171,7 +172,7 @@ fn carry_openings<P: Dsp>(
 )
     requires few { streams ≤ 4 }
     requires under_way { IsUnderWay slot (2 ^ 16) session.old outputs.old counts.old }
-    ensures { CommandsCarried P.means slot (draws.openings streams) session.old inputs.old outputs.old counts.old session.new inputs.new outputs.new counts.new }
+    ensures { CommandsCarried P.means slot (openings streams) session.old inputs.old outputs.old counts.old session.new inputs.new outputs.new counts.new }
 {
     for i in 0..streams {
         carry_opening(i, slot, session, inputs, outputs, counts);
@@ -189,7 +190,7 @@ fn carry_drawn<P: Dsp>(
 )
     requires few { seed ≤ 1000 }
     requires under_way { IsUnderWay slot (2 ^ 16) session.old outputs.old counts.old }
-    ensures { CommandsCarried P.means slot (draws.drawn_commands seed) session.old inputs.old outputs.old counts.old session.new inputs.new outputs.new counts.new }
+    ensures { CommandsCarried P.means slot (drawn_commands seed) session.old inputs.old outputs.old counts.old session.new inputs.new outputs.new counts.new }
 {
     let streams = streams_of(seed);
     let mut state = seed;

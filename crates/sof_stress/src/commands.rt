@@ -1,5 +1,6 @@
 // The commands of a stress.
 ghost use Rattle.std.specs.Prelude.{◌≡◌, ◌<◌, ◌≤◌, ◌^◌, ◌∷◌, []};
+ghost use Rattle.sof_stress.specs.CarriedTurns.{next_state as state_after};
 ghost use Rattle.sof_stress.specs.Draws as law;
 
 use crate::names::{host_name, volume_name};
@@ -9,7 +10,7 @@ use sof_script::Command;
 /// The state of the generator after another.
 pub fn next_state(state: u32) -> u32
     requires { state < 2 ^ 31 }
-    ensures next { result ≡ law.next_state state }
+    ensures next { result ≡ state_after state }
     ensures bound { result < 2 ^ 31 }
 {
     ((state as u64 * 1103515245 + 12345) % 2147483648) as u32

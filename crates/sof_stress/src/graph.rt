@@ -4,6 +4,7 @@ ghost use Rattle.sof_base.specs.Slots.{is_name};
 ghost use Rattle.tplg_model.specs.File.{IsTopology};
 ghost use Rattle.sof_stress.specs.Draws.{host_name as host_of, numbered_name};
 ghost use Rattle.sof_stress.specs.StressGraph as law;
+ghost use Rattle.sof_stress.specs.GraphParts as parts;
 
 use crate::names::{digit, host_name, named, volume_name};
 use sof_base::{Items, Name44, NoMemory};
@@ -95,7 +96,7 @@ fn put_up_to_volume(
     widgets: &mut Items<SourceWidget>,
 ) -> Result<(), NoMemory>
     requires { i < 4 }
-    ensures { OnOk result (widgets.new ≡ widgets.old ++ law.up_to_volume i) }
+    ensures { OnOk result (widgets.new ≡ widgets.old ++ parts.up_to_volume i) }
 {
     let number = digit(i);
     let caps = [b'S', number];
@@ -127,7 +128,7 @@ fn put_behind_volume(
     widgets: &mut Items<SourceWidget>,
 ) -> Result<(), NoMemory>
     requires { i < 4 }
-    ensures { OnOk result (widgets.new ≡ widgets.old ++ law.behind_volume i) }
+    ensures { OnOk result (widgets.new ≡ widgets.old ++ parts.behind_volume i) }
 {
     let after = buffer(alloc, named(&[b'C', digit(i)]), 1536, i + 1)?;
     let pipeline = pipeline(alloc, i)?;
@@ -152,7 +153,7 @@ fn put_stream_widgets(
 // What the streams are mixed into, up to the equaliser.
 #[tactic(auto, unfolding(sof_base::specs::Slots::has_zero))]
 fn put_up_to_equaliser(alloc: Global, widgets: &mut Items<SourceWidget>) -> Result<(), NoMemory>
-    ensures { OnOk result (widgets.new ≡ widgets.old ++ law.up_to_equaliser) }
+    ensures { OnOk result (widgets.new ≡ widgets.old ++ parts.up_to_equaliser) }
 {
     let mixer = plain(alloc, WidgetKind::Mixer, named(b"MIX"), b"", MIXED);
     let buffer = buffer(alloc, named(b"D0"), 768, MIXED)?;
@@ -165,7 +166,7 @@ fn put_up_to_equaliser(alloc: Global, widgets: &mut Items<SourceWidget>) -> Resu
 // What is behind it.
 #[tactic(auto, unfolding(sof_base::specs::Slots::has_zero))]
 fn put_behind_equaliser(alloc: Global, widgets: &mut Items<SourceWidget>) -> Result<(), NoMemory>
-    ensures { OnOk result (widgets.new ≡ widgets.old ++ law.behind_equaliser) }
+    ensures { OnOk result (widgets.new ≡ widgets.old ++ parts.behind_equaliser) }
 {
     let buffer = buffer(alloc, named(b"D1"), 768, MIXED)?;
     let dai = dai(alloc)?;

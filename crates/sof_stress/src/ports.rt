@@ -1,6 +1,6 @@
 // The inputs and the output of a stress.
 ghost use Rattle.std.specs.Prelude.{◌≡◌, ◌<◌, ◌≤◌, ◌∷◌, [], IfOk};
-ghost use Rattle.sof_io.specs.Puts.{new_output};
+ghost use Rattle.sof_io.specs.Bound.{new_output};
 ghost use Rattle.sof_stress.specs.StressPorts as law;
 
 use sof_base::NoMemory;

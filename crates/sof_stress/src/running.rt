@@ -1,14 +1,15 @@
 // A whole stress.
 ghost use Rattle.std.specs.Prelude.{◌≡◌, ◌≤◌, ◌∷◌, [], min, None, IfOk, MatchResult};
 ghost use Rattle.tplg_plan.specs.Sound.{IsSound};
-ghost use Rattle.sof_io.specs.Puts.{new_output};
+ghost use Rattle.sof_io.specs.Bound.{new_output};
 ghost use Rattle.tplg_plan.specs.HeapNeed.{IsSmall, need_on};
 ghost use Rattle.tplg_graph.specs.PlanOf.{plan_of};
 ghost use Rattle.tplg_graph.specs.TopologyNeed.{need_of};
 ghost use Rattle.sof_stress.specs.Draws as draws;
 ghost use Rattle.sof_stress.specs.StressGraph.{stress_topology};
 ghost use Rattle.sof_stress.specs.StressPorts.{dai_slot as slot_of, stress_inputs};
-ghost use Rattle.sof_stress.specs.StressRun.{Stresses, stress_heap, stress_plan};
+ghost use Rattle.sof_stress.specs.StressRun.{stress_heap, stress_plan};
+ghost use Rattle.sof_stress.specs.DeviceStress.{Stresses};
 
 use crate::carry::carry_all;
 use crate::commands::streams_of;

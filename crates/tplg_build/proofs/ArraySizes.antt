@@ -6,7 +6,7 @@ use Rattle.tplg_model.specs.declared.tokens.TextTuple.{TextTuple}
 use Rattle.tplg_model.specs.declared.tokens.TokenArray.{TokenArray}
 use Rattle.tplg_model.specs.Arrays.{Each, IsNumber, IsText, IsArray, AreArrays, array_size, array_spelling, arrays_spelling}
 use Rattle.tplg_model.proofs.ArrayLaws.{length-spelling}
-use Rattle.tplg_build.specs.WidgetForm.{number_array, text_array}
+use Rattle.tplg_build.specs.Payloads.{number_array, text_array}
 
 -- arrays of the program, and at most so many bytes
 record FewArrays (arrays : List TokenArray) (most : ℕ) : Type 0 where

@@ -9,7 +9,8 @@ use Rattle.tplg_model.specs.declared.tokens.TokenArray.{TokenArray}
 use Rattle.tplg_model.specs.Arrays.{Each, arrays_spelling}
 use Rattle.tplg_model.specs.Spelling.{IsControl, control_head_slots, widget_head_slots, stream_record_slots}
 use Rattle.tplg_build.specs.WidgetForm.{plain_head, scaled_head, channel_records}
-use Rattle.tplg_build.specs.PcmForm.{empty_stream, empty_streams}
+use Rattle.tplg_build.specs.PcmForm.{empty_streams}
+use Rattle.tplg_build.specs.Payloads.{empty_stream}
 
 -- ---- fields
 

@@ -9,7 +9,8 @@ use Rattle.tplg_model.specs.declared.control.Control.{Control}
 use Rattle.tplg_model.specs.declared.control.Control.TheVariants.{Mixer, Enum, Bytes}
 use Rattle.tplg_model.specs.declared.widget.Widget.{Widget}
 use Rattle.tplg_model.specs.Arrays.{Each, arrays_spelling}
-use Rattle.tplg_model.specs.Spelling.{items_cells, IsRoute, route_slots, route_cells, stream_record_slots, stream_cells, caps_slots, pcm_head_slots, pcm_tail_slots, pcm_parts, pcm_cells, IsPcm, IsControl, control_cells, widget_head_slots, widget_head_cells, head_of, IsWidget, widget_cells}
+use Rattle.tplg_model.specs.Spelling.{items_cells, IsRoute, route_slots, route_cells, stream_record_slots, caps_slots, pcm_head_slots, pcm_tail_slots, pcm_parts, pcm_cells, IsPcm, IsControl, control_cells, widget_head_slots, widget_head_cells, head_of, IsWidget, widget_cells}
+use Rattle.tplg_model.specs.Storable.{stream_cells}
 use Rattle.tplg_model.proofs.ItemLaws.{items_cells-more}
 use Rattle.tplg_build.proofs.FieldSizes.{length-joined, length-items}
 

@@ -1,5 +1,5 @@
 -- The PCM that a source states: its names, its numbers, the caps of its directions, and zeros.
-use Rattle.std.specs.Prelude.{ℕ, List, [], ◌∷◌, Option, Some, None}
+use Rattle.std.specs.Prelude.{ℕ, List, [], Option, Some, None, is_some, if◌then◌else◌, replicate}
 use Rattle.tplg_model.specs.declared.block.Route.{Route}
 use Rattle.tplg_model.specs.declared.pcm.Caps.{Caps}
 use Rattle.tplg_model.specs.declared.pcm.StreamRecord.{StreamRecord}
@@ -41,15 +41,11 @@ caps_of limits (Some name) = caps_with name limits
 
 -- the word that tells whether a direction is there
 abbrev pub flag_of : Option (List ℕ) → ℕ
-flag_of None = 0
-flag_of (Some name) = 1
+flag_of name = if is_some name then 1 else 0
 
--- an empty stream record, and eight of them
-abbrev pub empty_stream : StreamRecord
-empty_stream = record { name = []; format = 0; rate = 0; period_bytes = 0; buffer_bytes = 0; channels = 0 }
-
+-- eight empty stream records
 abbrev pub empty_streams : List StreamRecord
-empty_streams = empty_stream ∷ empty_stream ∷ empty_stream ∷ empty_stream ∷ empty_stream ∷ empty_stream ∷ empty_stream ∷ empty_stream ∷ []
+empty_streams = replicate 8 (record { name = []; format = 0; rate = 0; period_bytes = 0; buffer_bytes = 0; channels = 0 })
 
 -- its DAI's name and number are its own
 abbrev pub pcm_of : SourcePcm → Pcm

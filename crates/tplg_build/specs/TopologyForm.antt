@@ -1,14 +1,14 @@
 -- The topology that a source states: the blocks of its widgets, of its routes and of its PCMs, in this order.
-use Rattle.std.specs.Prelude.{ℕ, ◌<◌, ◌^◌, List, [], ◌∷◌, ◌++◌, map}
+use Rattle.std.specs.Prelude.{ℕ, List, [], ◌∷◌, ◌++◌, map}
 use Rattle.tplg_model.specs.declared.block.Body.{Body}
 use Rattle.tplg_model.specs.declared.block.Body.TheVariants.{Widgets, Routes, Pcms}
 use Rattle.tplg_model.specs.declared.block.Topology.{Topology}
-use Rattle.tplg_model.specs.Spelling.{BlockValue, IsStorable, AreRecords, block_type, count_of}
+use Rattle.tplg_model.specs.Spelling.{BlockValue}
 use Rattle.tplg_build.specs.declared.source.TopologySource.{TopologySource}
 use Rattle.tplg_build.specs.declared.source.SourceWidget.{SourceWidget}
 use Rattle.tplg_build.specs.declared.source.SourceRoute.{SourceRoute}
 use Rattle.tplg_build.specs.declared.source.SourcePcm.{SourcePcm}
-use Rattle.tplg_build.specs.WidgetForm.{widget_of}
+use Rattle.tplg_build.specs.WidgetForm.{one_of_all, widget_of}
 use Rattle.tplg_build.specs.PcmForm.{route_of, pcm_of}
 
 -- a block's version and its vendor's type are 0
@@ -21,8 +21,7 @@ widget_block w = block_of w.index (Widgets (widget_of w ∷ []))
 
 -- all routes are one block with index 0, where there is a route
 abbrev pub route_blocks : List SourceRoute → List BlockValue
-route_blocks [] = []
-route_blocks (r ∷ rs) = block_of 0 (Routes (map route_of (r ∷ rs))) ∷ []
+route_blocks rs = one_of_all (λ some. block_of 0 (Routes (map route_of some))) rs
 
 -- each PCM is a block of one record, with index 0
 abbrev pub pcm_block : SourcePcm → BlockValue
@@ -30,12 +29,3 @@ pcm_block p = block_of 0 (Pcms (pcm_of p ∷ []))
 
 abbrev pub topology_stated : TopologySource → Topology
 topology_stated s = record { blocks = map widget_block s.widgets ++ (route_blocks s.routes ++ map pcm_block s.pcms) }
-
--- ---- for the code in between
-
--- records of the program, whose type, number and bytes fit the words of a header
-pub record IsPayload (body : Body) : Type 0 where
-  pub records : AreRecords body
-  pub sound : IsStorable body
-  pub kind : block_type body < 2 ^ 32
-  pub count : count_of body < 2 ^ 32

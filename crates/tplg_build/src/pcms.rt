@@ -4,6 +4,7 @@ ghost use Rattle.sof_base.specs.Slots.{AreSlots};
 ghost use Rattle.tplg_model.specs.Spelling.{caps_slots, IsPcm, IsBlock};
 ghost use Rattle.tplg_build.specs.PcmForm as form;
 ghost use Rattle.tplg_build.specs.TopologyForm as topology;
+ghost use Rattle.tplg_build.specs.Payloads.{empty_stream};
 
 use crate::blocks::block;
 use crate::names::{copied, empty_name};
@@ -58,7 +59,7 @@ fn direction(name: &Option<Name44>, limits: PcmLimits) -> (u32, Caps)
 
 // An empty stream record.
 fn empty_stream() -> StreamRecord
-    ensures { result ≡ form.empty_stream }
+    ensures { result ≡ empty_stream }
 {
     StreamRecord {
         name: empty_name(),

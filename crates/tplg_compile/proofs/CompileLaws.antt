@@ -7,7 +7,8 @@ use Rattle.toml.specs.Parse.{parse_document}
 use Rattle.tplg_model.specs.declared.block.Topology.{Topology}
 use Rattle.tplg_build.specs.declared.source.TopologySource.{TopologySource}
 use Rattle.tplg_build.specs.TopologyForm.{topology_stated}
-use Rattle.tplg_rules.specs.WellFormed.{rules_of, IsFaultOf, IsWellFormed}
+use Rattle.tplg_rules.specs.WellFormed.{rules_of, IsWellFormed}
+use Rattle.tplg_rules.specs.RuleFaults.{IsFaultOf}
 use Rattle.tplg_rules.specs.declared.plan_fault.PlanFault.{PlanFault}
 use Rattle.tplg_rules.specs.declared.plan_fault.PlanFault.TheVariants as plan
 use Rattle.tplg_rules.specs.RuleTest.{ruling_of}
@@ -17,7 +18,8 @@ use Rattle.tplg_compile.specs.declared.source_fault.SourceFault.TheVariants.{Syn
 use Rattle.tplg_compile.specs.Results.{FaultIs, AnswerIs, or_fault}
 use Rattle.tplg_compile.specs.Source.{IsSourceOf}
 use Rattle.tplg_compile.specs.InOrder.{source_of, table_of, checked_by_rules, compiled_of}
-use Rattle.tplg_compile.specs.Compiled.{IsDocument, IsCompiled, IsCompileFault, KeepsRules, BreaksRule, IsRuleFault, rule_told}
+use Rattle.tplg_compile.specs.Compiled.{IsDocument, IsCompiled, IsCompileFault}
+use Rattle.tplg_compile.specs.RulesKept.{KeepsRules, BreaksRule, IsRuleFault, rule_told}
 use Rattle.tplg_compile.proofs.SourceLaws.{bind_ok, bind_err, or_some, or_none, source_is, source_again, fault_is, fault_again}
 
 -- ---- ends
@@ -34,28 +36,28 @@ syntax-fault text f (inr syntax) = inr syntax.1
 module _ (text : List ℕ) (table : Members) (document : IsDocument text table) where
   pub shape-fault : (f : SourceFault) → FaultIs f (source_of table) → (f ≡ OutOfMemory) ⊎ IsCompileFault text f
   shape-fault Syntax first = absurd (fault_is table Syntax first)
-  shape-fault (Shape list entry) first = inr (record { table = table; document = document; first = fault_is table (Shape list entry) first })
+  shape-fault (Shape list entry) first = inr (table, document, fault_is table (Shape list entry) first)
   shape-fault (Rule rule item) first = absurd (fault_is table (Rule rule item) first)
   shape-fault OutOfMemory first = inl refl
 
-  module _ (source : TopologySource) (stated : source_of table ≡ Ok source) (topology : Topology) (built : topology ≡ topology_stated source) where
-    is_source : IsSourceOf table topology
-    is_source = subst (IsSourceOf table) (sym built) (source_is table source stated)
+  pub source-found : (source : TopologySource) → source_of table ≡ Ok source → (topology : Topology) → topology ≡ topology_stated source → IsSourceOf table topology
+  source-found source stated topology built = subst (IsSourceOf table) (sym built) (source_is table source stated)
 
-    rule_fault : (f : SourceFault) → IsRuleFault topology f → IsCompileFault text f
-    unfolding BreaksRule
-    rule_fault Syntax is = absurd is
-    rule_fault (Shape list entry) is = absurd is
-    rule_fault (Rule rule item) is = record { table = table; topology = topology; document = document; source = is_source; breaks = is }
-    rule_fault OutOfMemory is = absurd is
+module _ (text : List ℕ) (topology : Topology) (found : (table : Members) × IsDocument text table × IsSourceOf table topology) where
+  rule_fault : (f : SourceFault) → IsRuleFault topology f → IsCompileFault text f
+  unfolding BreaksRule
+  rule_fault Syntax is = absurd is
+  rule_fault (Shape list entry) is = absurd is
+  rule_fault (Rule rule item) is = (found.0, topology, found.1, found.2, is)
+  rule_fault OutOfMemory is = absurd is
 
-    pub rule-fault : (f : SourceFault) → (f ≡ OutOfMemory) ⊎ IsRuleFault topology f → (f ≡ OutOfMemory) ⊎ IsCompileFault text f
-    rule-fault f (inl memory) = inl memory
-    rule-fault f (inr is) = inr (rule_fault f is)
+  pub rule-fault : (f : SourceFault) → (f ≡ OutOfMemory) ⊎ IsRuleFault topology f → (f ≡ OutOfMemory) ⊎ IsCompileFault text f
+  rule-fault f (inl memory) = inl memory
+  rule-fault f (inr is) = inr (rule_fault f is)
 
-    pub kept-found : KeepsRules topology → IsCompiled text topology
-    unfolding KeepsRules
-    kept-found well = record { table = table; document = document; source = is_source; rules = well }
+  pub kept-found : KeepsRules topology → IsCompiled text topology
+  unfolding KeepsRules
+  kept-found well = record { table = found.0; document = found.1; source = found.2; rules = well }
 
 -- ---- as a function of the text
 
@@ -78,10 +80,11 @@ unfolding compiled_of
 text_fault_again text Syntax is =
     let none : table_of text ≡ None = no_table (is_utf8 text) (parse_document text) (λ m u p. is m (record { utf8 = IsUtf8-from_is_utf8 text u; parsed = p })) in
     rw none refl
-text_fault_again text (Shape list entry) is = rw (table_is text is.table is.document, fault_again is.table list entry is.first) refl
+text_fault_again text (Shape list entry) is = rw (table_is text is.0 is.1, fault_again is.0 list entry is.2) refl
 text_fault_again text (Rule rule item) is =
-    let broken : ruling_of (topology_stated is.source.source) ≡ Some (rule, item) = subst (λ (u : Topology). ruling_of u ≡ Some (rule, item)) is.source.built (breaks_some is.topology rule item is.breaks) in
-    rw (table_is text is.table is.document, source_again is.table is.topology is.source, broken) refl
+    let stated : IsSourceOf is.0 is.1 = is.3 in
+    let broken : ruling_of (topology_stated stated.source) ≡ Some (rule, item) = subst (λ (u : Topology). ruling_of u ≡ Some (rule, item)) stated.built (breaks_some is.1 rule item is.4) in
+    rw (table_is text is.0 is.2, source_again is.0 is.1 stated, broken) refl
 text_fault_again text OutOfMemory is = absurd is
 
 -- the other way round: what the function of the text gives is so
@@ -121,7 +124,7 @@ no_document text none table is = cc (sym (table_is text table is) ∙ none)
 
 shape_is : (text : List ℕ) (table : Members) (f : SourceFault) → IsDocument text table → source_of table ≡ Err f → IsCompileFault text f
 shape_is text table Syntax document e = absurd (fault_is table Syntax e)
-shape_is text table (Shape list entry) document e = record { table = table; document = document; first = fault_is table (Shape list entry) e }
+shape_is text table (Shape list entry) document e = (table, document, fault_is table (Shape list entry) e)
 shape_is text table (Rule rule item) document e = absurd (fault_is table (Rule rule item) e)
 shape_is text table OutOfMemory document e = absurd (fault_is table OutOfMemory e)
 
@@ -139,7 +142,7 @@ text_fault_take text f e =
             | inr source ↦
                 let top = topology_stated source.0 in
                 let broken = ruled_err top f (ruling_of top) source.1.1 in
-                let is : IsCompileFault text (Rule broken.0 broken.1) = record { table = table.0; topology = top; document = document; source = source_is table.0 source.0 source.1.0; breaks = some_breaks top broken.0 broken.1 broken.2 } in
+                let is : IsCompileFault text (Rule broken.0 broken.1) = (table.0, top, document, source_is table.0 source.0 source.1.0, some_breaks top broken.0 broken.1 broken.2) in
                 subst (IsCompileFault text) broken.3 is
           ]
     ]

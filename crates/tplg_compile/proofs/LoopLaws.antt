@@ -9,7 +9,7 @@ use Rattle.tplg_compile.specs.declared.source_fault.List.{List as SourceList}
 use Rattle.tplg_compile.specs.declared.source_fault.SourceFault.{SourceFault}
 use Rattle.tplg_compile.specs.declared.source_fault.SourceFault.TheVariants.{Shape}
 use Rattle.tplg_compile.specs.Outcomes as found
-use Rattle.tplg_compile.specs.Outcomes.{Lacks}
+use Rattle.tplg_compile.specs.EntryOutcomes.{Lacks}
 use Rattle.tplg_compile.specs.DocumentLists.{are_tables}
 use Rattle.tplg_compile.specs.Results as told
 use Rattle.tplg_compile.specs.ValueForm.{each, perhaps}
@@ -55,11 +55,11 @@ module _ {A : Type 0} (tuple : ℕ → Data → Option A) (entry : Members) wher
   step done None (Some more) = rw (append-nil done) refl
   step done (Some x) o = next done x o
 
-  pub tuples-more : (done : List A) (k : Keyed) (ks : List Keyed) (r : Option A) → perhaps (tuple k.token) (get_member k.key entry) ≡ Some r → behind done (tuples_at tuple (k ∷ ks) entry) ≡ behind (done ++ option_to_list r) (tuples_at tuple ks entry)
+  pub tuples-more : (done : List A) (k : Keyed) (ks : List Keyed) (r : Option A) → perhaps (tuple k.1) (get_member k.0 entry) ≡ Some r → behind done (tuples_at tuple (k ∷ ks) entry) ≡ behind (done ++ option_to_list r) (tuples_at tuple ks entry)
   unfolding tuples_at
   tuples-more done k ks r is = rw is (step done r (tuples_at tuple ks entry))
 
-  pub tuples-lack : (done : List A) (k : Keyed) (ks : List Keyed) → perhaps (tuple k.token) (get_member k.key entry) ≡ None → behind done (tuples_at tuple (k ∷ ks) entry) ≡ None
+  pub tuples-lack : (done : List A) (k : Keyed) (ks : List Keyed) → perhaps (tuple k.1) (get_member k.0 entry) ≡ None → behind done (tuples_at tuple (k ∷ ks) entry) ≡ None
   unfolding tuples_at
   tuples-lack done k ks is = rw is refl
 

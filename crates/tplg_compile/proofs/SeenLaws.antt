@@ -5,8 +5,9 @@ use Rattle.std.proofs.lemmas.List.{drop_more, drop_all}
 use Rattle.toml.specs.View.{view, items_view}
 use Rattle.toml.specs.declared.value.Value.{Value}
 use Rattle.tplg_compile.specs.declared.keys.TokenKey.{TokenKey}
-use Rattle.tplg_compile.specs.ValueForm.{item_list, viewed, slice_texts}
-use Rattle.tplg_compile.specs.KeyTables.{keyed, keyed_by}
+use Rattle.tplg_compile.specs.ValueForm.{item_list}
+use Rattle.tplg_compile.specs.ProgramValues.{viewed, slice_texts}
+use Rattle.tplg_compile.specs.ProgramValues.{keyed_by}
 
 pub list_of-items : (vs : List Value) → item_list (items_view vs) ≡ viewed vs
 list_of-items [] = refl
@@ -22,7 +23,7 @@ seen-drop vs i d h = ap viewed (drop_more vs i d h)
 pub seen-past : (vs : List Value) (i : ℕ) → length vs ≤ i → viewed (drop i vs) ≡ []
 seen-past vs i h = ap viewed (drop_all i vs h)
 
-pub told-drop : (ks : List TokenKey) (i : ℕ) (d : TokenKey) → i < length ks → keyed_by (drop i ks) ≡ keyed (get_or ks i d).key.now (get_or ks i d).token ∷ keyed_by (drop (i + 1) ks)
+pub told-drop : (ks : List TokenKey) (i : ℕ) (d : TokenKey) → i < length ks → keyed_by (drop i ks) ≡ ((get_or ks i d).key.now, (get_or ks i d).token) ∷ keyed_by (drop (i + 1) ks)
 told-drop ks i d h = ap keyed_by (drop_more ks i d h)
 
 pub told-past : (ks : List TokenKey) (i : ℕ) → length ks ≤ i → keyed_by (drop i ks) ≡ []

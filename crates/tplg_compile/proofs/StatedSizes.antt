@@ -2,7 +2,8 @@
 use Rattle.std.proofs.Common.{◌≡◌, ℕ, suc, ◌+◌, ◌*◌, ◌≤◌, ◌%◌, Bool, true, ◌==◌, List, [], ◌∷◌, ◌++◌, length, length-append, Option, Some, None, Result, Ok, Err, codes, nat_cmp, refl, sym, ◌∙◌, subst, arith}
 use Rattle.std.specs.Prelude.{nat_le}
 use Rattle.std.specs.List.{list_all}
-use Rattle.std.specs.Option.{option_to_list}
+use Rattle.std.specs.Option.{option_to_list, option_map_or}
+use Rattle.std.specs.Result.{result_ok}
 use Rattle.std.specs.Cmp.Lexicographic.{slice_cmp}
 use Rattle.std.proofs.lemmas.Bool.{le-leb}
 use Rattle.hex.specs.Hex as hex
@@ -19,9 +20,11 @@ use Rattle.tplg_build.specs.declared.source.TopologySource.{TopologySource}
 use Rattle.tplg_build.specs.TopologyForm.{topology_stated}
 use Rattle.tplg_build.specs.SmallSource.{is_small_control, is_small_widget, is_small_source}
 use Rattle.tplg_compile.specs.Outcomes.{◌>>=◌}
-use Rattle.tplg_compile.specs.ValueForm.{blob_of, decoded, item_list, each, in_table, required_at, perhaps, optional_at, only, number_of, signed_of, filled_of, name_of, index_of}
-use Rattle.tplg_compile.specs.KeyTables.{Keyed, number_tokens, text_tokens, widget_keys, pga_keys, mux_keys, effect_keys, document_keys}
-use Rattle.tplg_compile.specs.DocumentLists.{Lists, HasNumberedEntries, are_tables, entries_of, or_none, entries_at, lists_of}
+use Rattle.tplg_compile.specs.ValueForm.{blob_of, item_list, each, in_table, required_at, perhaps, optional_at, only, number_of, signed_of, filled_of, name_of, index_of}
+use Rattle.tplg_compile.specs.KeyTables.{Keyed, number_tokens, text_tokens, widget_keys}
+use Rattle.tplg_compile.specs.ProgramValues.{pga_keys, mux_keys, effect_keys, document_keys}
+use Rattle.tplg_compile.specs.DocumentLists.{Lists, are_tables, entries_of, entries_at, lists_of}
+use Rattle.tplg_compile.specs.NumberedEntries.{HasNumberedEntries}
 use Rattle.tplg_compile.specs.Entries.{tuples_at, stated_number, stated_text, stated_volume, stated_choice, stated_blob, stated_control, stated_kind, stated_widget, stated_route, items_of}
 use Rattle.tplg_compile.specs.Source.{IsSourceOf}
 use Rattle.tplg_compile.specs.InOrder.{source_of}
@@ -41,28 +44,28 @@ after-any Q (Some x) f by = by x
 
 -- ---- blobs
 
-decoded-more : (n byte : ℕ) (r : Result (List ℕ) FromHexError) → Holds (λ bytes. 2 * length bytes ≤ n) (decoded r) → Holds (λ bytes. 2 * length bytes ≤ n + 2) (decoded (hex.◌>>=◌ r (λ bytes. Ok (byte ∷ bytes))))
+decoded-more : (n byte : ℕ) (r : Result (List ℕ) FromHexError) → Holds (λ bytes. 2 * length bytes ≤ n) (result_ok r) → Holds (λ bytes. 2 * length bytes ≤ n + 2) (result_ok (hex.◌>>=◌ r (λ bytes. Ok (byte ∷ bytes))))
 decoded-more n byte (Ok bytes) h =
     let few = held (λ bytes. 2 * length bytes ≤ n) bytes h in
     let more : 2 * length (byte ∷ bytes) ≤ n + 2 = omega (arith, few) in
     there {x = byte ∷ bytes} (λ bytes. 2 * length bytes ≤ n + 2) more
 decoded-more n byte (Err fault) h = missing _
 
-decoded-then : {A : Type 0} (Q : List ℕ → Type 0) (r : Result A FromHexError) (f : A → Result (List ℕ) FromHexError) → ((x : A) → Holds Q (decoded (f x))) → Holds Q (decoded (hex.◌>>=◌ r f))
+decoded-then : {A : Type 0} (Q : List ℕ → Type 0) (r : Result A FromHexError) (f : A → Result (List ℕ) FromHexError) → ((x : A) → Holds Q (result_ok (f x))) → Holds Q (result_ok (hex.◌>>=◌ r f))
 decoded-then Q (Ok x) f by = by x
 decoded-then Q (Err fault) f by = missing Q
 
-pairs-half : (i : ℕ) (text : List ℕ) → Holds (λ bytes. 2 * length bytes ≤ length text) (decoded (hex.decode_pairs i text))
+pairs-half : (i : ℕ) (text : List ℕ) → Holds (λ bytes. 2 * length bytes ≤ length text) (result_ok (hex.decode_pairs i text))
 unfolding hex.decode_pairs
 pairs-half i [] = let none : 2 * length {A = ℕ} [] ≤ 0 = omega arith in there {x = []} (λ bytes. 2 * length bytes ≤ 0) none
 pairs-half i (digit ∷ []) = missing _
 pairs-half i (high ∷ low ∷ rest) =
     let rest_half = decoded-then (λ bytes. 2 * length bytes ≤ length rest + 2) (hex.pair_value high low i) (λ byte. hex.◌>>=◌ (hex.decode_pairs (i + 2) rest) (λ bytes. Ok (byte ∷ bytes))) (λ byte. decoded-more (length rest) byte (hex.decode_pairs (i + 2) rest) (pairs-half (i + 2) rest)) in
     let same : length rest + 2 ≡ suc (suc (length rest)) = omega arith in
-    subst (λ n. Holds (λ bytes. 2 * length bytes ≤ n) (decoded (hex.decode_pairs i (high ∷ low ∷ rest)))) same rest_half
+    subst (λ n. Holds (λ bytes. 2 * length bytes ≤ n) (result_ok (hex.decode_pairs i (high ∷ low ∷ rest)))) same rest_half
 
-decoded-half : (text : List ℕ) → Holds (λ bytes. 2 * length bytes ≤ length text) (decoded (hex.decode_of text))
-decoded-half text = at-if (λ r. Holds (λ bytes. 2 * length bytes ≤ length text) (decoded r)) (length text % 2 == 1) (Err OddLength) (hex.decode_pairs 0 text) (missing _) (pairs-half 0 text)
+decoded-half : (text : List ℕ) → Holds (λ bytes. 2 * length bytes ≤ length text) (result_ok (hex.decode_of text))
+decoded-half text = at-if (λ r. Holds (λ bytes. 2 * length bytes ≤ length text) (result_ok r)) (length text % 2 == 1) (Err OddLength) (hex.decode_pairs 0 text) (missing _) (pairs-half 0 text)
 
 -- ---- lists
 
@@ -74,7 +77,7 @@ tuples-few : {A : Type 0} (read : ℕ → Data → Option A) (ks : List Keyed) (
 unfolding tuples_at
 tuples-few read [] entry = there _ (omega arith)
 tuples-few {A} read (k ∷ ks) entry =
-    after-any (λ (xs : List A). length xs ≤ suc (length ks)) (perhaps (read k.token) (get_member k.key entry)) _ (λ (found : Option A).
+    after-any (λ (xs : List A). length xs ≤ suc (length ks)) (perhaps (read k.1) (get_member k.0 entry)) _ (λ (found : Option A).
     after (λ (more : List A). length more ≤ length ks) (λ (xs : List A). length xs ≤ suc (length ks)) (tuples_at read ks entry) _ (tuples-few read ks entry) (λ more few.
     let fits : length (option_to_list found ++ more) ≤ suc (length ks) = omega (arith, length-append (option_to_list found) more, every-item found, few) in
     there {x = option_to_list found ++ more} (λ (xs : List A). length xs ≤ suc (length ks)) fits))
@@ -148,13 +151,13 @@ module _ (b : ℕ) where
       after AreFewItems IsBoundedList (as_array d) _ (array-within d h) (λ ds few.
       holds-if IsBoundedList (are_tables (item_list ds)) (Some (item_list ds)) None (there IsBoundedList (omega (arith, list-count ds, few.0), list-within ds few.1)) (missing _))
 
-  or_none-bounded : (o : Option Data) → Holds (IsWithin b) o → Holds IsBoundedList (or_none o)
-  or_none-bounded None h = there IsBoundedList (omega arith, tt)
-  or_none-bounded (Some d) h = entries-bounded d (held (IsWithin b) d h)
+  absent-bounded : (o : Option Data) → Holds (IsWithin b) o → Holds IsBoundedList (option_map_or entries_of o (Some []))
+  absent-bounded None h = there IsBoundedList (omega arith, tt)
+  absent-bounded (Some d) h = entries-bounded d (held (IsWithin b) d h)
 
   at-bounded : (key : List ℕ) (doc : Members) → MembersAreWithin b doc → Holds IsBoundedList (entries_at key doc)
   unfolding entries_at
-  at-bounded key doc h = or_none-bounded (get_member key doc) (member-within key doc h)
+  at-bounded key doc h = absent-bounded (get_member key doc) (member-within key doc h)
 
   abbrev AreBoundedLists : Lists → Type 0
   AreBoundedLists lists = IsBoundedList lists.widgets × (IsBoundedList lists.routes × IsBoundedList lists.pcms)
@@ -188,7 +191,7 @@ module _ (b : ℕ) where
 
     blob-small : (d : Data) → IsWithin b d → Holds IsBlob (blob_of d)
     unfolding blob_of
-    blob-small d h = after IsBoundedText IsBlob (as_str d) _ (text-within d h) (λ text short. small text short (decoded (hex.decode_of text)) (decoded-half text))
+    blob-small d h = after IsBoundedText IsBlob (as_str d) _ (text-within d h) (λ text short. small text short (result_ok (hex.decode_of text)) (decoded-half text))
       where
         small : (text : List ℕ) → IsBoundedText text → (o : Option (List ℕ)) → Holds (λ bytes. 2 * length bytes ≤ length text) o → Holds IsBlob o
         small text short None half = missing _

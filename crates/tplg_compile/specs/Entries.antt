@@ -1,5 +1,5 @@
 -- Which widget, route or PCM an entry states.
-use Rattle.std.specs.Prelude.{ℕ, ◌&&◌, nat_le, if◌then◌else◌, List, [], ◌∷◌, ◌++◌, length, codes, bit_or, Option, Some, None}
+use Rattle.std.specs.Prelude.{ℕ, ◌&&◌, nat_le, if◌then◌else◌, List, [], ◌∷◌, ◌++◌, length, codes, bit_or, Option, Some, None, unwrap_or}
 use Rattle.std.specs.Option.{option_to_list}
 use Rattle.std.specs.Str.{bytes_eq}
 use Rattle.toml.specs.Data.{Data, Members, get_member, as_str, as_array}
@@ -16,7 +16,7 @@ use Rattle.tplg_build.specs.declared.source.SourcePcm.{SourcePcm}
 use Rattle.tplg_build.specs.WidgetForm.{text_tuple}
 use Rattle.tplg_compile.specs.Outcomes.{◌>>=◌}
 use Rattle.tplg_compile.specs.ValueForm.{number_of, index_of, signed_of, name_of, filled_of, blob_of, item_list, each, required_at, perhaps, optional_at, in_table, only}
-use Rattle.tplg_compile.specs.KeyTables.{Keyed, kind_named, number_tokens, text_tokens, widget_keys, pga_keys, mux_keys, effect_keys, route_keys, pcm_keys}
+use Rattle.tplg_compile.specs.KeyTables.{Keyed, kind_named, number_tokens, text_tokens, widget_keys, pcm_keys}
 
 -- ---- tokens
 
@@ -24,27 +24,23 @@ use Rattle.tplg_compile.specs.KeyTables.{Keyed, kind_named, number_tokens, text_
 unfoldable pub tuples_at : {A : Type 0} → (ℕ → Data → Option A) → List Keyed → Members → Option (List A)
 tuples_at read [] entry = Some []
 tuples_at read (k ∷ ks) entry = do
-  first ← perhaps (read k.token) (get_member k.key entry)
+  first ← perhaps (read k.1) (get_member k.0 entry)
   more ← tuples_at read ks entry
   Some (option_to_list first ++ more)
 
 -- a token with a number, and with a text
 unfoldable pub stated_number : ℕ → Data → Option NumberTuple
-stated_number token d = do
-  n ← number_of d
-  Some (record { token = token; value = n })
+stated_number token d = number_of d >>= λ n. Some (record { token = token; value = n })
 
 unfoldable pub stated_text : ℕ → Data → Option TextTuple
-stated_text token d = do
-  text ← name_of d
-  Some (text_tuple token text)
+stated_text token d = name_of d >>= λ text. Some (text_tuple token text)
 
 -- ---- controls
 
 -- the volume of a pga
 unfoldable pub stated_volume : Members → Option SourceControl
 stated_volume entry = do
-  known ← only pga_keys entry
+  known ← only (codes "name" ∷ codes "channels" ∷ codes "min" ∷ codes "max" ∷ codes "tlv_min" ∷ codes "tlv_step" ∷ codes "tlv_mute" ∷ []) entry
   name ← required_at filled_of (codes "name") entry
   channels ← required_at number_of (codes "channels") entry
   min ← required_at signed_of (codes "min") entry
@@ -56,9 +52,7 @@ stated_volume entry = do
 
 -- texts
 unfoldable pub names_of : Data → Option (List (List ℕ))
-names_of d = do
-  ds ← as_array d
-  each name_of (item_list ds)
+names_of d = as_array d >>= λ ds. each name_of (item_list ds)
 
 -- 1 to 16 of them
 unfoldable pub items_of : Data → Option (List (List ℕ))
@@ -69,7 +63,7 @@ items_of d = do
 -- the choice of a mux
 unfoldable pub stated_choice : Members → Option SourceControl
 stated_choice entry = do
-  known ← only mux_keys entry
+  known ← only (codes "name" ∷ codes "items" ∷ []) entry
   name ← required_at filled_of (codes "name") entry
   items ← required_at items_of (codes "items") entry
   Some (Choice name items)
@@ -77,7 +71,7 @@ stated_choice entry = do
 -- the blob of an effect
 unfoldable pub stated_blob : Members → Option SourceControl
 stated_blob entry = do
-  known ← only effect_keys entry
+  known ← only (codes "name" ∷ codes "max" ∷ codes "blob" ∷ []) entry
   name ← required_at filled_of (codes "name") entry
   max ← required_at number_of (codes "max") entry
   blob ← required_at blob_of (codes "blob") entry
@@ -93,15 +87,9 @@ stated_control _ entry = None
 -- ---- widgets
 
 unfoldable pub stated_kind : Data → Option WidgetKind
-stated_kind d = do
-  text ← filled_of d
-  kind_named text
+stated_kind d = filled_of d >>= kind_named
 
--- a text that may be absent: the empty one then
-abbrev pub or_empty : Option (List ℕ) → List ℕ
-or_empty None = []
-or_empty (Some text) = text
-
+-- the stream name may be absent, and is empty then
 unfoldable pub stated_widget : Members → Option SourceWidget
 stated_widget entry = do
   known ← only widget_keys entry
@@ -112,13 +100,13 @@ stated_widget entry = do
   numbers ← tuples_at stated_number number_tokens entry
   texts ← tuples_at stated_text text_tokens entry
   control ← optional_at (in_table (stated_control kind)) (codes "control") entry
-  Some (record { kind = kind; name = name; sname = or_empty sname; index = index; numbers = numbers; texts = texts; controls = option_to_list control })
+  Some (record { kind = kind; name = name; sname = unwrap_or sname []; index = index; numbers = numbers; texts = texts; controls = option_to_list control })
 
 -- ---- routes
 
 unfoldable pub stated_route : Members → Option SourceRoute
 stated_route entry = do
-  known ← only route_keys entry
+  known ← only (codes "sink" ∷ codes "source" ∷ []) entry
   sink ← required_at filled_of (codes "sink") entry
   source ← required_at filled_of (codes "source") entry
   Some (record { source = source; sink = sink })
@@ -134,9 +122,7 @@ bit_named text =
     else None
 
 unfoldable pub bit_of : Data → Option ℕ
-bit_of d = do
-  text ← as_str d
-  bit_named text
+bit_of d = as_str d >>= bit_named
 
 -- bits, and those of the formats that values name
 unfoldable pub bits_with : ℕ → List Data → Option ℕ
@@ -146,9 +132,7 @@ bits_with bits (d ∷ ds) = do
   bits_with (bit_or bits bit) ds
 
 unfoldable pub formats_of : Data → Option ℕ
-formats_of d = do
-  ds ← as_array d
-  bits_with 0 (item_list ds)
+formats_of d = as_array d >>= λ ds. bits_with 0 (item_list ds)
 
 unfoldable pub limits_of : Members → Option PcmLimits
 limits_of entry = do

@@ -46,7 +46,7 @@ source_of table = do
 abbrev pub table_of : List ℕ → Option Members
 table_of text = if is_utf8 text then parse_document text else None
 
--- a topology keeps all rules, or the first that it breaks is entry_fault_at
+-- a topology keeps all rules, or the first that it breaks is its fault
 abbrev pub checked_by_rules : Topology → Option (ℕ × ℕ) → Result Topology SourceFault
 checked_by_rules t None = Ok t
 checked_by_rules t (Some (rule, item)) = Err (Rule rule item)

@@ -1,9 +1,13 @@
 pub mod Outcomes
+pub mod EntryOutcomes
 pub mod Results
 pub mod ValueForm
+pub mod ProgramValues
 pub mod KeyTables
 pub mod Entries
 pub mod DocumentLists
+pub mod NumberedEntries
 pub mod Source
 pub mod InOrder
 pub mod Compiled
+pub mod RulesKept

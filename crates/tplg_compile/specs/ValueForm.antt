@@ -1,13 +1,11 @@
 -- How a value of a source is read, and what stands at a key. Nothing where it is of another type or outside its range.
-use Rattle.std.specs.Prelude.{ℕ, ℤ, pos, negsuc, Bool, true, false, ◌&&◌, ◌||◌, nat_lt, nat_le, ◌==◌, int_le, if◌then◌else◌, List, [], ◌∷◌, length, Option, Some, None, option_map, Result, Ok, Err}
+use Rattle.std.specs.Prelude.{ℕ, ℤ, pos, negsuc, Bool, true, ◌&&◌, nat_lt, nat_le, ◌==◌, int_le, if◌then◌else◌, List, [], ◌∷◌, length, Option, Some, None, option_map}
+use Rattle.std.specs.List.{list_any}
 use Rattle.std.specs.Str.{bytes_eq}
-use Rattle.std.specs.Borrow.{Bor}
+use Rattle.std.specs.Result.{result_ok}
 use Rattle.sof_base.specs.Slots.{is_name}
 use Rattle.hex.specs.Hex.{decode_of}
-use Rattle.hex.specs.declared.error.FromHexError.{FromHexError}
 use Rattle.toml.specs.Data.{Data, Items, no_items, item, Members, no_members, member, get_member, as_str, as_integer, as_table}
-use Rattle.toml.specs.View.{view}
-use Rattle.toml.specs.declared.value.Value.{Value}
 use Rattle.tplg_compile.specs.Outcomes.{◌>>=◌}
 
 -- ---- values
@@ -19,9 +17,7 @@ natural (negsuc n) = None
 
 -- a number from 0 to 4294967295
 unfoldable pub number_of : Data → Option ℕ
-number_of d = do
-  z ← as_integer d
-  natural z
+number_of d = as_integer d >>= natural
 
 -- a number from 0 to 65535
 unfoldable pub index_of : Data → Option ℕ
@@ -48,14 +44,8 @@ filled_of d = do
   if length text == 0 then None else Some text
 
 -- the bytes of an even number of hex digits
-abbrev pub decoded : Result (List ℕ) FromHexError → Option (List ℕ)
-decoded (Ok bytes) = Some bytes
-decoded (Err fault) = None
-
 unfoldable pub blob_of : Data → Option (List ℕ)
-blob_of d = do
-  text ← as_str d
-  decoded (decode_of text)
+blob_of d = as_str d >>= λ text. result_ok (decode_of text)
 
 -- ---- lists of values
 
@@ -63,11 +53,6 @@ blob_of d = do
 abbrev pub item_list : Items → List Data
 item_list no_items = []
 item_list (item d ds) = d ∷ item_list ds
-
--- the values of the program
-abbrev pub viewed : List Value → List Data
-viewed [] = []
-viewed (v ∷ vs) = view v ∷ viewed vs
 
 -- each value read, in their order
 unfoldable pub each : {A : Type 0} → (Data → Option A) → List Data → Option (List A)
@@ -79,17 +64,13 @@ each read (d ∷ ds) = do
 
 -- a value that has to be a table, read
 unfoldable pub in_table : {A : Type 0} → (Members → Option A) → Data → Option A
-in_table read d = do
-  entry ← as_table d
-  read entry
+in_table read d = as_table d >>= read
 
 -- ---- keys
 
 -- the value at a key that has to stand there
 unfoldable pub required_at : {A : Type 0} → (Data → Option A) → List ℕ → Members → Option A
-required_at read key entry = do
-  d ← get_member key entry
-  read d
+required_at read key entry = get_member key entry >>= read
 
 -- a value read, where there is one
 abbrev pub perhaps : {A : Type 0} → (Data → Option A) → Option Data → Option (Option A)
@@ -102,18 +83,12 @@ optional_at read key entry = perhaps read (get_member key entry)
 
 -- a key is one of these
 abbrev pub is_one_of : List ℕ → List (List ℕ) → Bool
-is_one_of key [] = false
-is_one_of key (k ∷ ks) = bytes_eq key k || is_one_of key ks
+is_one_of key keys = list_any (bytes_eq key) keys
 
 -- each key of an entry is one of these
 abbrev pub has_only : List (List ℕ) → Members → Bool
 has_only keys no_members = true
 has_only keys (member k d ms) = is_one_of k keys && has_only keys ms
-
--- the slice_texts of slices
-abbrev pub slice_texts : List (Bor (List ℕ)) → List (List ℕ)
-slice_texts [] = []
-slice_texts (r ∷ rs) = r.now ∷ slice_texts rs
 
 -- something where each key of an entry is one of these
 unfoldable pub only : List (List ℕ) → Members → Option (Unit {0})

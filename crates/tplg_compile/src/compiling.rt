@@ -1,5 +1,6 @@
 // From a text to a topology.
 ghost use Rattle.std.specs.Prelude.{◌≡◌, ◌<◌, ◌≤◌, ◌^◌, ◌⊎◌, true, length, IfOk, IfErr, OnOk, Ok, Err};
+ghost use Rattle.toml.specs.Data.{Members};
 ghost use Rattle.toml.specs.View.{table_view};
 ghost use Rattle.tplg_model.specs.File.{IsTopology};
 ghost use Rattle.tplg_model.specs.declared.block.Topology.{Topology as TopologyValue};
@@ -9,8 +10,10 @@ ghost use Rattle.tplg_widgets.specs.Entries.{entries_of};
 ghost use Rattle.tplg_widgets.specs.Ends.{ends_in};
 ghost use Rattle.tplg_compile.specs.declared.source_fault.SourceFault.{SourceFault as Fault};
 ghost use Rattle.tplg_compile.specs.Results.{AnswerIs};
+ghost use Rattle.tplg_compile.specs.Source.{IsSourceOf};
 ghost use Rattle.tplg_compile.specs.InOrder.{compiled_of};
-ghost use Rattle.tplg_compile.specs.Compiled.{IsDocument, IsCompiled, IsCompileFault, KeepsRules, IsRuleFault, rule_told};
+ghost use Rattle.tplg_compile.specs.Compiled.{IsDocument, IsCompiled, IsCompileFault};
+ghost use Rattle.tplg_compile.specs.RulesKept.{KeepsRules, IsRuleFault, rule_told};
 
 use crate::document::stated;
 use crate::source_fault::SourceFault;
@@ -74,15 +77,29 @@ fn check_rules(alloc: Global, topology: &Topology) -> Result<(), SourceFault>
     }
 }
 
+/// The topology that a text is the source of, whether or not it keeps the rules.
+pub fn unruled(alloc: Global, text: &[u8]) -> Result<Topology, SourceFault>
+    requires { length text.now ≤ 1048576 }
+    ensures found { IfOk result (λ t. (table : Members) × IsDocument text.now table × IsSourceOf table t) }
+    ensures sound { IfOk result IsTopology }
+    // There are so few widgets and routes that a word can number them.
+    ensures widgets { IfOk result (λ t. length (entries_of t) < 2 ^ 32) }
+    ensures routes { IfOk result (λ t. length (ends_in t) < 2 ^ 32) }
+    ensures fault { IfErr result (λ f. (f ≡ SourceFault.OutOfMemory) ⊎ IsCompileFault text.now f) }
+{
+    let table = parsed(alloc, text)?;
+    let source = stated(alloc, &table)?;
+    let topology = built(alloc, &source)?;
+    Ok(topology)
+}
+
 fn compiled(alloc: Global, text: &[u8]) -> Result<Topology, SourceFault>
     requires { length text.now ≤ 1048576 }
     ensures found { IfOk result (IsCompiled text.now) }
     ensures sound { IfOk result IsTopology }
     ensures fault { IfErr result (λ f. (f ≡ SourceFault.OutOfMemory) ⊎ IsCompileFault text.now f) }
 {
-    let table = parsed(alloc, text)?;
-    let source = stated(alloc, &table)?;
-    let topology = built(alloc, &source)?;
+    let topology = unruled(alloc, text)?;
     check_rules(alloc, &topology)?;
     Ok(topology)
 }

@@ -1,7 +1,8 @@
 // The control of a widget, by the widget's kind.
 ghost use Rattle.toml.specs.View.{view, table_view};
-ghost use Rattle.tplg_compile.specs.Outcomes.{Finds};
+ghost use Rattle.tplg_compile.specs.EntryOutcomes.{Finds};
 ghost use Rattle.tplg_compile.specs.ValueForm as reading;
+ghost use Rattle.tplg_compile.specs.ProgramValues as program_values;
 ghost use Rattle.tplg_compile.specs.Entries as entries;
 
 use crate::entry::{filled_at, needed, number_at, only, signed_at, value_at};
@@ -39,7 +40,7 @@ fn volume(entry: &Table) -> Result<SourceControl, EntryFault>
 
 // The names that values are, in their order.
 fn names(alloc: Global, values: &[Value]) -> Result<Vec<Name44>, EntryFault>
-    ensures { Finds (λ x. x.items) result (reading.each reading.name_of (reading.viewed values.now)) }
+    ensures { Finds (λ x. x.items) result (reading.each reading.name_of (program_values.viewed values.now)) }
 {
     let mut names = Vec::new(alloc);
     for value in values {

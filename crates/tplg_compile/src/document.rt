@@ -4,11 +4,13 @@ ghost use Rattle.toml.specs.Data.{Members};
 ghost use Rattle.tplg_compile.specs.declared.source_fault.List.{List as ListName};
 ghost use Rattle.tplg_compile.specs.declared.source_fault.List.TheVariants as list_name;
 ghost use Rattle.toml.specs.View.{view, table_view};
-ghost use Rattle.tplg_compile.specs.Outcomes.{Finds};
+ghost use Rattle.tplg_compile.specs.EntryOutcomes.{Finds};
 ghost use Rattle.tplg_compile.specs.Results.{AnswerIs};
-ghost use Rattle.tplg_compile.specs.ValueForm.{in_table, viewed};
+ghost use Rattle.tplg_compile.specs.ValueForm.{in_table};
+ghost use Rattle.tplg_compile.specs.ProgramValues.{viewed};
 ghost use Rattle.tplg_compile.specs.Entries.{stated_widget, stated_route, stated_pcm};
 ghost use Rattle.tplg_compile.specs.DocumentLists as lists;
+ghost use Rattle.tplg_compile.specs.NumberedEntries as numbered_entries;
 ghost use Rattle.tplg_compile.specs.InOrder as source;
 
 use crate::entry::{only, value_at};
@@ -192,7 +194,7 @@ fn records<L: EntryList>(alloc: Global, entries: &[Value]) -> Result<Vec<L::Reco
 /// What a document states, or its first fault.
 #[tactic(auto, unfolding(crate::specs::InOrder::source_of))]
 pub fn stated(alloc: Global, table: &Table) -> Result<TopologySource, SourceFault>
-    requires { lists.HasNumberedEntries (table_view table.now) }
+    requires { numbered_entries.HasNumberedEntries (table_view table.now) }
     ensures { AnswerIs (λ x. x) result (source.source_of (table_view table.now)) }
 {
     let entries = match entries_of(table) {

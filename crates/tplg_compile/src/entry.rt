@@ -2,9 +2,11 @@
 ghost use Rattle.std.specs.Prelude.{◌≡◌, ◌++◌, option_map};
 ghost use Rattle.toml.specs.Data.{get_member};
 ghost use Rattle.toml.specs.View.{view, table_view};
-ghost use Rattle.tplg_compile.specs.Outcomes.{Finds};
+ghost use Rattle.tplg_compile.specs.EntryOutcomes.{Finds};
 ghost use Rattle.tplg_compile.specs.ValueForm as reading;
-ghost use Rattle.tplg_compile.specs.KeyTables.{keyed_by, keys_of};
+ghost use Rattle.tplg_compile.specs.ProgramValues as program_values;
+ghost use Rattle.tplg_compile.specs.KeyTables.{keys_of};
+ghost use Rattle.tplg_compile.specs.ProgramValues.{keyed_by};
 
 use crate::entry_fault::EntryFault;
 use crate::keys::TokenKey;
@@ -66,7 +68,7 @@ pub fn optional_name_at(entry: &Table, key: &str) -> Result<Option<Name44>, Entr
 
 // Whether a key is one of these.
 fn is_among(key: &str, keys: &[&str]) -> bool
-    ensures { result ≡ reading.is_one_of key.now (reading.slice_texts keys.now) }
+    ensures { result ≡ reading.is_one_of key.now (program_values.slice_texts keys.now) }
 {
     for one in keys {
         if key == *one {
@@ -90,7 +92,7 @@ fn is_token(key: &str, tokens: &[TokenKey]) -> bool
 
 // Whether a key is one of these, or stands for one of these tokens.
 fn is_known(key: &str, keys: &[&str], numbers: &[TokenKey], texts: &[TokenKey]) -> bool
-    ensures { result ≡ reading.is_one_of key.now (reading.slice_texts keys.now ++ (keys_of (keyed_by numbers.now) ++ keys_of (keyed_by texts.now))) }
+    ensures { result ≡ reading.is_one_of key.now (program_values.slice_texts keys.now ++ (keys_of (keyed_by numbers.now) ++ keys_of (keyed_by texts.now))) }
 {
     if is_among(key, keys) {
         return true;
@@ -103,7 +105,7 @@ fn is_known(key: &str, keys: &[&str], numbers: &[TokenKey], texts: &[TokenKey]) 
 
 // Whether each key of an entry is.
 fn has_only(entry: &Table, keys: &[&str], numbers: &[TokenKey], texts: &[TokenKey]) -> bool
-    ensures { result ≡ reading.has_only (reading.slice_texts keys.now ++ (keys_of (keyed_by numbers.now) ++ keys_of (keyed_by texts.now))) (table_view entry.now) }
+    ensures { result ≡ reading.has_only (program_values.slice_texts keys.now ++ (keys_of (keyed_by numbers.now) ++ keys_of (keyed_by texts.now))) (table_view entry.now) }
 {
     for (key, _value) in entry.iter() {
         if !is_known(key.as_str(), keys, numbers, texts) {
@@ -121,7 +123,7 @@ pub fn only_with(
     numbers: &[TokenKey],
     texts: &[TokenKey],
 ) -> Result<(), EntryFault>
-    ensures { Finds (λ _. tt) result (reading.only (reading.slice_texts keys.now ++ (keys_of (keyed_by numbers.now) ++ keys_of (keyed_by texts.now))) (table_view entry.now)) }
+    ensures { Finds (λ _. tt) result (reading.only (program_values.slice_texts keys.now ++ (keys_of (keyed_by numbers.now) ++ keys_of (keyed_by texts.now))) (table_view entry.now)) }
 {
     if has_only(entry, keys, numbers, texts) {
         Ok(())
@@ -132,7 +134,7 @@ pub fn only_with(
 
 /// A misfit where an entry has a key that is none of these.
 pub fn only(entry: &Table, keys: &[&str]) -> Result<(), EntryFault>
-    ensures { Finds (λ _. tt) result (reading.only (reading.slice_texts keys.now) (table_view entry.now)) }
+    ensures { Finds (λ _. tt) result (reading.only (program_values.slice_texts keys.now) (table_view entry.now)) }
 {
     only_with(entry, keys, &[], &[])
 }

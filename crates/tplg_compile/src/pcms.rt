@@ -1,7 +1,7 @@
 // PCMs.
 ghost use Rattle.std.specs.Prelude.{◌≡◌};
 ghost use Rattle.toml.specs.View.{view, table_view};
-ghost use Rattle.tplg_compile.specs.Outcomes.{Finds};
+ghost use Rattle.tplg_compile.specs.EntryOutcomes.{Finds};
 ghost use Rattle.tplg_compile.specs.ValueForm.{required_at};
 ghost use Rattle.tplg_compile.specs.Entries as entries;
 

@@ -1,5 +1,5 @@
 // How a value is read: as a number, a text, or bytes in hex.
-ghost use Rattle.tplg_compile.specs.Outcomes.{Finds};
+ghost use Rattle.tplg_compile.specs.EntryOutcomes.{Finds};
 ghost use Rattle.tplg_compile.specs.ValueForm as reading;
 ghost use Rattle.toml.specs.View.{view};
 

@@ -1,7 +1,7 @@
 // Widgets.
-ghost use Rattle.std.specs.Prelude.{◌≡◌};
+ghost use Rattle.std.specs.Prelude.{◌≡◌, [], unwrap_or};
 ghost use Rattle.toml.specs.View.{view, table_view};
-ghost use Rattle.tplg_compile.specs.Outcomes.{Finds};
+ghost use Rattle.tplg_compile.specs.EntryOutcomes.{Finds};
 ghost use Rattle.tplg_compile.specs.ValueForm as reading;
 ghost use Rattle.tplg_compile.specs.Entries as entries;
 
@@ -48,7 +48,7 @@ fn index_at(entry: &Table, key: &str) -> Result<u32, EntryFault>
 
 // The text, or the empty one.
 fn or_empty(text: Option<Name44>) -> Name44
-    ensures { result ≡ entries.or_empty text }
+    ensures { result ≡ unwrap_or text [] }
 {
     match text {
         Some(text) => text,

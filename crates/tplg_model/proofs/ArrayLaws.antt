@@ -8,7 +8,8 @@ use Rattle.sof_base.proofs.FieldLaws.{IsBytes, part-add}
 use Rattle.tplg_model.specs.declared.tokens.NumberTuple.{NumberTuple}
 use Rattle.tplg_model.specs.declared.tokens.TokenArray.{TokenArray}
 use Rattle.tplg_model.specs.declared.tokens.TokenArray.TheVariants.{Uuid, Text, Number}
-use Rattle.tplg_model.specs.Arrays.{element_size, array_type, count_of, array_size, uuid_spelling, text_spelling, number_spelling, elements_spelling, array_spelling, Each, IsUuid, IsText, IsNumber, HasElements, HasSize, IsArray, ArrayFault, array_fault, elements_at, uuid_at, text_at, number_tuple_at, array_with, array_at}
+use Rattle.tplg_model.specs.Arrays.{element_size, array_type, count_of, array_size, uuid_spelling, text_spelling, number_spelling, elements_spelling, array_spelling, Each, IsUuid, IsText, IsNumber, HasElements, IsArray, ArrayFault, array_fault}
+use Rattle.tplg_model.specs.ArrayReading.{elements_at, uuid_at, text_at, number_tuple_at, array_with, array_at}
 use Rattle.tplg_model.proofs.ElementLaws.{word_same, word_fits, word_again, uuid_element, text_element, number_element, length-elements, elements_same, elements_are, elements_width, elements_again}
 
 -- ---- the tests of an array's three words

@@ -5,7 +5,8 @@ use Rattle.std.proofs.lemmas.List.{drop_at, drop-drop, take-append-drop, length-
 use Rattle.sof_base.specs.Slots.{word_at}
 use Rattle.sof_base.proofs.FieldLaws.{IsBytes, IsBytes-drop}
 use Rattle.tplg_model.specs.declared.tokens.TokenArray.{TokenArray}
-use Rattle.tplg_model.specs.Arrays.{array_spelling, arrays_spelling, AreArraysOf, Each, IsArray, AreArrays, ArrayFault, array_fault, IsTokenFault, array_at, unless, with_front, arrays_from, arrays_of}
+use Rattle.tplg_model.specs.Arrays.{array_spelling, arrays_spelling, Each, IsArray, AreArrays, ArrayFault, array_fault, IsTokenFault}
+use Rattle.tplg_model.specs.ArrayReading.{AreArraysOf, array_at, unless, with_front, arrays_from, arrays_of}
 use Rattle.tplg_model.proofs.ArrayLaws.{IsWhole, whole_from, fault_none, array_takes, array_again}
 
 abbrev pub Arrays : Type 0
@@ -203,17 +204,18 @@ pub fault_is : (bytes : List ℕ) (f : ArrayFault) → IsBytes bytes → arrays_
 unfolding arrays_of
 fault_is bytes f h e =
     let q = arrays_found (length bytes) 0 bytes f h (omega arith) e in
-    record { arrays = q.arrays; rest = q.rest; whole = q.whole; are = q.are; more = q.some_left; first = rw zero-add at q.first }
+    (q.arrays, q.rest, q.whole, q.are, q.some_left, rw zero-add at q.first)
 
 -- the first fault is the one that reading gives
 pub fault_again : (bytes : List ℕ) (f : ArrayFault) → IsTokenFault bytes f → arrays_of bytes ≡ Err f
 unfolding arrays_of
 fault_again bytes f q =
-    let spelled = arrays_spelling q.arrays in
-    let g = arrays_again q.arrays (length (spelled ++ q.rest)) 0 q.rest q.are (omega arith) in
+    let rest : List ℕ = q.1 in
+    let spelled = arrays_spelling q.0 in
+    let g = arrays_again q.0 (length (spelled ++ rest)) 0 rest q.3 (omega arith) in
     let place : 0 + length spelled ≡ length spelled = omega arith in
-    let last : arrays_from g.fuel (0 + length spelled) q.rest ≡ Err f = rw place (last_fault g.fuel (length spelled) q.rest f q.more g.enough q.first) in
-    ap (λ (b : List ℕ). arrays_from (length b) 0 b) q.whole ∙ g.is ∙ (rw last refl)
+    let last : arrays_from g.fuel (0 + length spelled) rest ≡ Err f = rw place (last_fault g.fuel (length spelled) rest f q.4 g.enough q.5) in
+    ap (λ (b : List ℕ). arrays_from (length b) 0 b) q.2 ∙ g.is ∙ (rw last refl)
 
 -- at most one list of the program's arrays has these bytes
 pub one_list : (bytes : List ℕ) (xs ys : Arrays) → AreArrays xs → AreArrays ys → AreArraysOf bytes xs → AreArraysOf bytes ys → xs ≡ ys

@@ -13,9 +13,11 @@ use Rattle.sof_base.specs.Layouts.{Shape, A_word, slots_from}
 use Rattle.sof_base.proofs.FieldLaws.{IsBytes, IsBytes-part, length-part, slots_read, slots_again, length-slots}
 use Rattle.sof_base.proofs.Fitting.{Fits-append, Fits-split, Fits-length, Fits-fixed, is_fixed}
 use Rattle.tplg_model.specs.Outcomes.{◌>>=◌}
-use Rattle.tplg_model.specs.Spelling.{IsRoute, route_cells, IsManifest, manifest_cells, IsPcm, pcm_cells, IsWidget, widget_cells, body_cells, block_type, count_of, HasNoRecords, HasOwnForm, IsStorable, BlockValue, header_slots, block_cells, AreRecords, IsBlock}
+use Rattle.tplg_model.specs.Spelling.{IsRoute, route_cells, IsManifest, manifest_cells, IsPcm, pcm_cells, IsWidget, widget_cells, body_cells, block_type, count_of, HasNoRecords, HasOwnForm, BlockValue, header_slots, block_cells, AreRecords, IsBlock}
+use Rattle.tplg_model.specs.Storable.{IsStorable}
 use Rattle.tplg_model.specs.Reading.{route_step, manifest_step, pcm_step, widget_step, all_items, body_at, unless_fault, block_with, block_step}
-use Rattle.tplg_model.specs.File.{RouteFault, ManifestFault, PcmFault, WidgetFault, header_fault, PayloadFault, BlockFault}
+use Rattle.tplg_model.specs.File.{WidgetFault, header_fault, PayloadFault, BlockFault}
+use Rattle.tplg_model.specs.RecordFaults.{RouteFault, ManifestFault, PcmFault}
 use Rattle.tplg_model.proofs.FaultLaws.{bind_ok, ok_same, only_first}
 use Rattle.tplg_model.proofs.ItemLaws.{Took, IsItem, all_take, all_again, all_found, all_only}
 use Rattle.tplg_model.proofs.RecordLaws.{route_item, route_is_fault, manifest_item, manifest_is_fault}
@@ -46,7 +48,7 @@ kind_cases kind = by_tests (eqb kind 4) (eqb kind 5) (eqb kind 7) (eqb kind 8) r
     by_tests false true c d p q r s = Is_widgets (eqb-true _ _ q)
     by_tests false false true d p q r s = Is_pcms (eqb-true _ _ r)
     by_tests false false false true p q r s = Is_manifests (eqb-true _ _ s)
-    by_tests false false false false p q r s = Is_other (record { no_routes = eqb-false _ _ p; no_widgets = eqb-false _ _ q; no_pcms = eqb-false _ _ r; no_manifests = eqb-false _ _ s })
+    by_tests false false false false p q r s = Is_other (eqb-false _ _ p, eqb-false _ _ q, eqb-false _ _ r, eqb-false _ _ s)
 
 -- what reading a body is, by its kind
 at_routes : (count at : ℕ) (payload : List ℕ) → body_at 4 count at payload ≡ (all_items route_step count at payload >>= λ rs. Ok (Routes rs))
@@ -67,7 +69,7 @@ at_manifests count at payload = refl
 
 at_other : (kind count at : ℕ) (payload : List ℕ) → HasNoRecords kind → body_at kind count at payload ≡ Ok (Other kind count payload)
 unfolding body_at
-at_other kind count at payload k = rw (ne_eqb kind 4 k.no_routes, ne_eqb kind 5 k.no_widgets, ne_eqb kind 7 k.no_pcms, ne_eqb kind 8 k.no_manifests) refl
+at_other kind count at payload k = rw (ne_eqb kind 4 k.0, ne_eqb kind 5 k.1, ne_eqb kind 7 k.2, ne_eqb kind 8 k.3) refl
 
 body_take : (kind count at : ℕ) (payload : List ℕ) (body : Body) → IsBytes payload → body_at kind count at payload ≡ Ok body → BodyTook kind count payload body
 body_take kind count at payload body h e =

@@ -11,13 +11,15 @@ use Rattle.tplg_model.specs.declared.control.ControlHead.{ControlHead}
 use Rattle.tplg_model.specs.declared.control.Control.{Control}
 use Rattle.tplg_model.specs.declared.control.Control.TheVariants.{Mixer, Enum, Bytes as Data}
 use Rattle.sof_base.specs.Cells.{Fits}
-use Rattle.sof_base.specs.Slots.{Slot, word_at, has_name, name_at}
+use Rattle.sof_base.specs.Slots.{Slot, word_at, has_name}
+use Rattle.sof_base.specs.Layouts.{name_at}
 use Rattle.sof_base.specs.Layouts.{Shape, A_word, A_size, A_name, A_words, Bytes, slots_from, shapes_of}
 use Rattle.sof_base.proofs.FieldLaws.{IsBytes, length-part, length-words}
 use Rattle.tplg_model.specs.Outcomes.{◌>>=◌}
 use Rattle.tplg_model.specs.Spelling.{kcontrol_slots, control_cells, HasLengths, IsControl}
 use Rattle.tplg_model.specs.Reading.{tail_size, label_at, control_head_with, mixer_with, mixer_step, enum_with, enum_step, bytes_with, bytes_step, unknown_step, control_step}
-use Rattle.tplg_model.specs.File.{sized_fault, control_fault, ControlFault}
+use Rattle.tplg_model.specs.File.{sized_fault, control_fault}
+use Rattle.tplg_model.specs.RecordFaults.{ControlFault}
 use Rattle.tplg_model.proofs.ElementLaws.{word_fits}
 use Rattle.tplg_model.proofs.ItemLaws.{Took, IsItem, IsFault}
 use Rattle.tplg_model.proofs.KindLaws.{number, text, pick, SizedKind, sized_step, one_name, sized_takes, sized_spelled, sized_again, sized_found, sized_only}

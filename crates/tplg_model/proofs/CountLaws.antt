@@ -9,7 +9,8 @@ use Rattle.tplg_model.specs.declared.widget.Widget.{Widget}
 use Rattle.sof_base.specs.Cells.{Cell, fixed, loose}
 use Rattle.sof_base.specs.Slots.{Slot, Size, Label, zeros, slot_cells, slots_cells}
 use Rattle.sof_base.proofs.FieldLaws.{length-fixed}
-use Rattle.tplg_model.specs.Spelling.{items_cells, route_cells, manifest_cells, pcm_cells, widget_head_cells, head_of, widget_cells, control_cells, count_of, IsStorable}
+use Rattle.tplg_model.specs.Spelling.{items_cells, route_cells, manifest_cells, pcm_cells, widget_head_cells, head_of, widget_cells, control_cells, count_of}
+use Rattle.tplg_model.specs.Storable.{IsStorable}
 use Rattle.tplg_model.proofs.ItemLaws.{items_few}
 
 -- cells whose first field has bytes

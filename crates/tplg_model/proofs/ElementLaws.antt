@@ -9,7 +9,8 @@ use Rattle.sof_base.proofs.FieldLaws.{IsBytes, IsBytes-part, length-part, part-a
 use Rattle.tplg_model.specs.declared.tokens.UuidTuple.{UuidTuple}
 use Rattle.tplg_model.specs.declared.tokens.TextTuple.{TextTuple}
 use Rattle.tplg_model.specs.declared.tokens.NumberTuple.{NumberTuple}
-use Rattle.tplg_model.specs.Arrays.{Each, IsUuid, IsText, IsNumber, uuid_spelling, text_spelling, number_spelling, elements_at, uuid_at, text_at, number_tuple_at}
+use Rattle.tplg_model.specs.Arrays.{Each, IsUuid, IsText, IsNumber, uuid_spelling, text_spelling, number_spelling}
+use Rattle.tplg_model.specs.ArrayReading.{elements_at, uuid_at, text_at, number_tuple_at}
 
 -- ---- words
 

@@ -11,7 +11,8 @@ use Rattle.tplg_model.specs.Outcomes.{◌>>=◌, Fails, Gives}
 use Rattle.tplg_model.specs.Spelling.{items_cells, BlockValue, block_cells, IsBlock}
 use Rattle.tplg_model.specs.Arrays.{Each}
 use Rattle.tplg_model.specs.Reading.{block_step, until_end, blocks_of, topology_of}
-use Rattle.tplg_model.specs.File.{topology_cells, spelling, IsTopology, IsFileOf, BlockFault, IsFileFault}
+use Rattle.tplg_model.specs.File.{spelling, IsTopology, IsFileOf, ItemsFirst, BlockFault, IsFileFault}
+use Rattle.tplg_model.specs.RecordFaults.{topology_cells}
 use Rattle.sof_base.proofs.FieldLaws.{IsBytes, IsBytes-drop}
 use Rattle.sof_base.proofs.Fitting.{Fits-append, Fits-split, Fits-length, Fits-written}
 use Rattle.tplg_model.proofs.FaultLaws.{fails_along, fails_cases, bind_ok, At_first, Later, bind_err, ok_same, only_first}
@@ -186,7 +187,8 @@ file_again bytes xs are f =
 pub file_found : (bytes : List ℕ) (f : TplgFault) → IsBytes bytes → blocks_of bytes ≡ Err f → IsFileFault bytes f
 file_found bytes f h e =
     let q = blocks_found (length bytes) 0 bytes f h (omega arith) e in
-    record { blocks = q.blocks; front = q.front; rest = q.rest; whole = q.whole; fits = q.fits; are = q.are; more = q.more_left; first = rw zero-add at q.first }
+    let first : ItemsFirst block_cells IsBlock bytes = record { items = q.blocks; front = q.front; rest = q.rest; whole = q.whole; fits = q.fits; are = q.are } in
+    (first, q.more_left, rw zero-add at q.first)
 
 last_fault : (n at : ℕ) (bytes : List ℕ) (f : TplgFault) → 0 < length bytes → length bytes ≤ n → BlockFault at bytes f → until_end block_step n at bytes ≡ Err f
 last_fault zero at bytes f some enough b = absurd (omega arith)
@@ -194,10 +196,11 @@ last_fault (suc n) at bytes f some enough b = turn n at bytes some ∙ (rw (bloc
 
 pub file_only : (bytes : List ℕ) (f : TplgFault) → IsFileFault bytes f → blocks_of bytes ≡ Err f
 file_only bytes f q =
-    let g = blocks_again q.blocks (length (q.front ++ q.rest)) 0 q.front q.rest q.are q.fits (omega arith) in
-    let place : 0 + length q.front ≡ length q.front = omega arith in
-    let last : until_end block_step g.fuel (0 + length q.front) q.rest ≡ Err f = rw place (last_fault g.fuel (length q.front) q.rest f q.more g.enough q.first) in
-    ap blocks_of q.whole ∙ g.is ∙ (rw last refl)
+    let first : ItemsFirst block_cells IsBlock bytes = q.0 in
+    let g = blocks_again first.items (length (first.front ++ first.rest)) 0 first.front first.rest first.are first.fits (omega arith) in
+    let place : 0 + length first.front ≡ length first.front = omega arith in
+    let last : until_end block_step g.fuel (0 + length first.front) first.rest ≡ Err f = rw place (last_fault g.fuel (length first.front) first.rest f q.1 g.enough q.2) in
+    ap blocks_of first.whole ∙ g.is ∙ (rw last refl)
 
 -- ---- the loop
 

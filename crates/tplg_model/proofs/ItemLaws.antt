@@ -9,7 +9,7 @@ use Rattle.tplg_model.specs.Outcomes.{◌>>=◌}
 use Rattle.tplg_model.specs.Arrays.{Each}
 use Rattle.tplg_model.specs.Spelling.{items_cells}
 use Rattle.tplg_model.specs.Reading.{items_at, all_items, headed_at}
-use Rattle.tplg_model.specs.File.{ItemsFault, RecordsFault, BehindHead}
+use Rattle.tplg_model.specs.File.{ItemsFirst, ItemsFault, RecordsFault, BehindHead}
 use Rattle.tplg_model.proofs.FaultLaws.{bind_ok, At_first, Later, bind_err, ok_same, only_first, passed_last, refused_last}
 use Rattle.sof_base.proofs.FieldLaws.{IsBytes, IsBytes-drop}
 use Rattle.sof_base.proofs.Fitting.{Fits-append, Fits-split, Fits-length}
@@ -144,32 +144,22 @@ module _ {A : Type 0} (step : ℕ → List ℕ → Result (A × ℕ) TplgFault) 
   module _ (Fault : ℕ → List ℕ → TplgFault → Type 0) (is_fault : IsFault step Fault) where
     fault_here : (n at : ℕ) (bytes : List ℕ) (f : TplgFault) → Fault at bytes f → ItemsFault cells Is Fault (suc n) at bytes f
     unfolding items_cells Each Fits
-    fault_here n at bytes f e = record {
-      items = [];
-      front = [];
-      rest = bytes;
-      whole = refl;
-      fits = tt;
-      are = tt;
-      fewer = omega arith;
-      first = rw add-zero e;
-    }
+    fault_here n at bytes f e = (record { items = []; front = []; rest = bytes; whole = refl; fits = tt; are = tt }, omega arith, rw add-zero e)
 
     fault_more : (n at : ℕ) (bytes : List ℕ) (x : A) (size : ℕ) (f : TplgFault) → Took bytes (cells x) size × Is x → ItemsFault cells Is Fault n (at + size) (drop size bytes) f → ItemsFault cells Is Fault (suc n) at bytes f
     unfolding items_cells Each
     fault_more n at bytes x size f t q =
         let len : length (take size bytes) ≡ size = omega (arith, t.0.within, length-take size bytes) in
-        let place : at + length (take size bytes ++ q.front) ≡ at + size + length q.front = omega (arith, length-append (take size bytes) q.front, len) in
-        record {
-          items = x ∷ q.items;
-          front = take size bytes ++ q.front;
-          rest = q.rest;
-          whole = sym (take-append-drop size bytes) ∙ ap (λ (t : List ℕ). take size bytes ++ t) q.whole ∙ sym (append_assoc (take size bytes) q.front q.rest);
-          fits = Fits-append (take size bytes) q.front (cells x) (items_cells cells q.items) t.0.fits q.fits;
-          are = (t.1, q.are);
-          fewer = omega (arith, q.fewer);
-          first = rw place q.first;
-        }
+        let place : at + length (take size bytes ++ q.0.front) ≡ at + size + length q.0.front = omega (arith, length-append (take size bytes) q.0.front, len) in
+        let first : ItemsFirst cells Is bytes = record {
+          items = x ∷ q.0.items;
+          front = take size bytes ++ q.0.front;
+          rest = q.0.rest;
+          whole = sym (take-append-drop size bytes) ∙ ap (λ (t : List ℕ). take size bytes ++ t) q.0.whole ∙ sym (append_assoc (take size bytes) q.0.front q.0.rest);
+          fits = Fits-append (take size bytes) q.0.front (cells x) (items_cells cells q.0.items) t.0.fits q.0.fits;
+          are = (t.1, q.0.are);
+        } in
+        (first, omega (arith, q.1), rw place q.2)
 
     pub items_found : (n at : ℕ) (bytes : List ℕ) (f : TplgFault) → IsBytes bytes → items_at step n at bytes ≡ Err f → ItemsFault cells Is Fault n at bytes f
     unfolding items_at
@@ -183,11 +173,11 @@ module _ {A : Type 0} (step : ℕ → List ℕ → Result (A × ℕ) TplgFault) 
     pub items_only : (n at : ℕ) (bytes : List ℕ) (f : TplgFault) → ItemsFault cells Is Fault n at bytes f → items_at step n at bytes ≡ Err f
     unfolding items_at
     items_only n at bytes f q =
-        let m = n - length q.items - 1 in
-        let k : n ≡ length q.items + suc m = omega (arith, q.fewer) in
-        let one = is_fault.only (at + length q.front) q.rest f q.first in
-        let here : items_at step (suc m) (at + length q.front) q.rest ≡ Err f = rw one refl in
-        ap (λ (j : ℕ). items_at step j at bytes) k ∙ ap (items_at step (length q.items + suc m) at) q.whole ∙ items_again q.items (suc m) at q.front q.rest q.are q.fits ∙ (rw here refl)
+        let m = n - length q.0.items - 1 in
+        let k : n ≡ length q.0.items + suc m = omega (arith, q.1) in
+        let one = is_fault.only (at + length q.0.front) q.0.rest f q.2 in
+        let here : items_at step (suc m) (at + length q.0.front) q.0.rest ≡ Err f = rw one refl in
+        ap (λ (j : ℕ). items_at step j at bytes) k ∙ ap (items_at step (length q.0.items + suc m) at) q.0.whole ∙ items_again q.0.items (suc m) at q.0.front q.0.rest q.0.are q.0.fits ∙ (rw here refl)
 
     pub all_found : (n at : ℕ) (bytes : List ℕ) (f : TplgFault) → IsBytes bytes → all_items step n at bytes ≡ Err f → RecordsFault cells Is Fault n at bytes f
     unfolding all_items
@@ -199,30 +189,29 @@ module _ {A : Type 0} (step : ℕ → List ℕ → Result (A × ℕ) TplgFault) 
               let c = refused_last (eqb x.1 (length bytes)) (Payload (at + x.1)) x.0 f e2 in
               let other = eqb-false x.1 (length bytes) c.0 in
               let len : length (take x.1 bytes) ≡ x.1 = omega (arith, t.took.within, length-take x.1 bytes) in
-              inr (record {
+              let first : ItemsFirst cells Is bytes = record {
                 items = x.0;
                 front = take x.1 bytes;
                 rest = drop x.1 bytes;
                 whole = sym (take-append-drop x.1 bytes);
                 fits = t.took.fits;
                 are = t.each;
-                count = t.count;
-                more = omega (arith, t.took.within, other, length-drop x.1 bytes);
-                is = rw len (sym c.1);
-              })
+              } in
+              inr (first, t.count, omega (arith, t.took.within, other, length-drop x.1 bytes), rw len (sym c.1))
         ]
 
     pub all_only : (n at : ℕ) (bytes : List ℕ) (f : TplgFault) → RecordsFault cells Is Fault n at bytes f → all_items step n at bytes ≡ Err f
     unfolding all_items items_at
     all_only n at bytes f (inl q) = rw (items_only n at bytes f q) refl
     all_only n at bytes f (inr q) =
-        let again = items_again q.items 0 at q.front q.rest q.are q.fits in
-        let lists = append-nil q.items in
-        let sums : length q.front + 0 ≡ length q.front = omega arith in
-        let count : length q.items + 0 ≡ n = omega (arith, q.count) in
-        let read : items_at step n at bytes ≡ Ok (q.items, length q.front) = rw q.whole (rw (count, lists, sums) at again) in
-        let less : eqb (length q.front) (length bytes) ≡ false = ne_eqb (length q.front) (length bytes) (λ e. omega (arith, e, ap length q.whole, length-append q.front q.rest, q.more)) in
-        rw (read, less) (ap (λ (g : TplgFault). Err g) (sym q.is))
+        let first : ItemsFirst cells Is bytes = q.0 in
+        let again = items_again first.items 0 at first.front first.rest first.are first.fits in
+        let lists = append-nil first.items in
+        let sums : length first.front + 0 ≡ length first.front = omega arith in
+        let count : length first.items + 0 ≡ n = omega (arith, q.1) in
+        let read : items_at step n at bytes ≡ Ok (first.items, length first.front) = rw first.whole (rw (count, lists, sums) at again) in
+        let less : eqb (length first.front) (length bytes) ≡ false = ne_eqb (length first.front) (length bytes) (λ e. omega (arith, e, ap length first.whole, length-append first.front first.rest, q.2)) in
+        rw (read, less) (ap (λ (g : TplgFault). Err g) (sym q.3))
 
 -- each item has bytes, so items are no more than their bytes
 pub items_few : {A : Type 0} (cells : A → List Cell) → ((x : A) → 0 < length (cells x)) → (xs : List A) → length xs ≤ length (items_cells cells xs)

@@ -1,6 +1,7 @@
 -- To fit cells is to agree outside the loose places.
 use Rattle.std.proofs.Common.{◌≡◌, ℕ, zero, suc, false, List, [], ◌∷◌, length, get_or, refl, ap, arith}
-use Rattle.sof_base.specs.Cells.{Cell, Fixed, Loose, written, Fits, is_loose, AgreesOutsideLoose, IsCanonical}
+use Rattle.sof_base.specs.Cells.{Cell, Fixed, Loose, written, Fits}
+use Rattle.sof_base.specs.LoosePlaces.{is_loose, AgreesOutsideLoose, IsCanonical}
 
 Same : List ℕ → List Cell → Type 0
 Same b cs = (i : ℕ) → is_loose cs i ≡ false → get_or b i 0 ≡ get_or (written cs) i 0

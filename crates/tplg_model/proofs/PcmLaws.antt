@@ -8,11 +8,14 @@ use Rattle.tplg_model.specs.declared.pcm.StreamRecord.{StreamRecord}
 use Rattle.tplg_model.specs.declared.pcm.Pcm.{Pcm}
 use Rattle.sof_base.specs.Cells.{fixed, Fits}
 use Rattle.tplg_model.specs.Outcomes.{◌>>=◌}
-use Rattle.sof_base.specs.Slots.{Slot, Word, slots_cells, AreSlots, part, word_at, has_name, name_at}
+use Rattle.sof_base.specs.Slots.{Slot, Word, slots_cells, AreSlots, part, word_at, has_name}
+use Rattle.sof_base.specs.Layouts.{name_at}
 use Rattle.sof_base.specs.Layouts.{Shape, A_word, A_long, A_size, A_name, widths, slots_from, shapes_of}
-use Rattle.tplg_model.specs.Spelling.{items_cells, stream_record_slots, stream_cells, caps_slots, caps_cells, pcm_head_slots, pcm_tail_slots, pcm_cells, IsPcm}
+use Rattle.tplg_model.specs.Spelling.{items_cells, stream_record_slots, caps_slots, pcm_head_slots, pcm_tail_slots, pcm_cells, IsPcm}
+use Rattle.tplg_model.specs.Storable.{stream_cells, caps_cells}
 use Rattle.tplg_model.specs.Reading.{label_at, stream_with, stream_step, caps_at, caps_step, parts_step, streams_step, tail_size, pcm_with, pcm_step}
-use Rattle.tplg_model.specs.File.{have_names, pcm_names, PcmFault}
+use Rattle.tplg_model.specs.File.{have_names, pcm_names}
+use Rattle.tplg_model.specs.RecordFaults.{PcmFault}
 use Rattle.tplg_model.specs.Arrays.{Each}
 use Rattle.tplg_model.proofs.ItemLaws.{Took, IsItem, IsFault}
 use Rattle.tplg_model.proofs.KindLaws.{number, text, pick, Tail, tail_is, tail_again, found_by_tests, only_by_tests}

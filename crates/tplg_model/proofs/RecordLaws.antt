@@ -6,14 +6,15 @@ use Rattle.tplg_model.specs.declared.fault.TplgFault.TheVariants.{Payload, Name}
 use Rattle.tplg_model.specs.declared.block.Route.{Route}
 use Rattle.tplg_model.specs.declared.block.Manifest.{Manifest}
 use Rattle.sof_base.specs.Cells.{Fits}
-use Rattle.sof_base.specs.Slots.{Slot, has_name, name_at}
+use Rattle.sof_base.specs.Slots.{Slot, has_name}
+use Rattle.sof_base.specs.Layouts.{name_at}
 use Rattle.sof_base.specs.Layouts.{Shape, A_word, A_size, A_name, A_words, all_named}
 use Rattle.sof_base.proofs.FieldLaws.{IsBytes, length-part, length-words, slots_read, slots_again, length-slots}
 use Rattle.sof_base.proofs.Fitting.{Fits-length}
 use Rattle.tplg_model.specs.Outcomes.{◌>>=◌}
 use Rattle.tplg_model.specs.Spelling.{route_slots, route_cells, IsRoute, manifest_slots, manifest_cells, IsManifest}
 use Rattle.tplg_model.specs.Reading.{label_at, route_with, route_step, manifest_with, manifest_step}
-use Rattle.tplg_model.specs.File.{RouteFault, ManifestFault}
+use Rattle.tplg_model.specs.RecordFaults.{RouteFault, ManifestFault}
 use Rattle.tplg_model.proofs.FaultLaws.{passed, passed_last}
 use Rattle.tplg_model.proofs.ItemLaws.{Took, IsItem, IsFault}
 use Rattle.tplg_model.proofs.KindLaws.{number, text, pick, SizedKind, sized_step, sized_takes, sized_again, sized_found, sized_only}

@@ -6,14 +6,17 @@ use Rattle.tplg_model.specs.declared.tokens.TokenArray.{TokenArray}
 use Rattle.tplg_model.specs.declared.control.Control.{Control}
 use Rattle.tplg_model.specs.declared.widget.Widget.{Widget}
 use Rattle.sof_base.specs.Cells.{Fits}
-use Rattle.sof_base.specs.Slots.{Slot, Word, Half, Size, Label, Words, Raw, slots_cells, AreSlots, part, word_at, half_at, words_at, has_name, name_at}
+use Rattle.sof_base.specs.Slots.{Slot, Word, Half, Size, Label, Words, Raw, slots_cells, AreSlots, part, word_at, half_at, has_name}
+use Rattle.sof_base.specs.Layouts.{words_at, name_at}
 use Rattle.sof_base.specs.Layouts.{Shape, A_word, A_half, A_size, A_name, A_words}
 use Rattle.sof_base.proofs.FieldLaws.{IsBytes, IsBytes-part, length-part, length-words}
-use Rattle.tplg_model.specs.Arrays.{Each, ArrayFault, arrays_spelling, arrays_of}
+use Rattle.tplg_model.specs.Arrays.{Each, ArrayFault, arrays_spelling}
+use Rattle.tplg_model.specs.ArrayReading.{arrays_of}
 use Rattle.tplg_model.specs.Outcomes.{◌>>=◌}
 use Rattle.tplg_model.specs.Spelling.{items_cells, WidgetHead, widget_head_slots, widget_head_cells, IsWidgetHead, head_of, widget_cells, IsWidget, control_cells, IsControl}
 use Rattle.tplg_model.specs.Reading.{tail_size, label_at, or_tokens, widget_head_with, widget_head_step, kcontrol_count, control_step, headed_at, widget_with, widget_step}
-use Rattle.tplg_model.specs.File.{sized_fault, WidgetHeadFault, ControlFault, WidgetFault}
+use Rattle.tplg_model.specs.File.{sized_fault, WidgetHeadFault, WidgetFault}
+use Rattle.tplg_model.specs.RecordFaults.{ControlFault}
 use Rattle.tplg_model.proofs.ArrayListLaws.{read_is, read_written, fault_is, fault_again}
 use Rattle.tplg_model.proofs.FaultLaws.{bind_ok, At_first, Later, bind_err, ok_same, only_first}
 use Rattle.tplg_model.proofs.ItemLaws.{Took, IsItem, IsFault, headed_item, headed_is_fault}

@@ -1,5 +1,6 @@
 -- Which bytes are the file of a topology, and which fault of bytes is the first.
-use Rattle.std.specs.Prelude.{◌≡◌, ℕ, ◌+◌, ◌-◌, ◌<◌, Bool, true, ◌&&◌, List, [], ◌∷◌, ◌++◌, length, Option, Some, None, ◌⊎◌, nat_lt, ◌==◌, if◌then◌else◌}
+use Rattle.std.specs.Prelude.{◌≡◌, ℕ, ◌+◌, ◌-◌, ◌<◌, Bool, List, [], ◌∷◌, ◌++◌, length, Option, Some, None, ◌⊎◌, nat_lt, ◌==◌, if◌then◌else◌}
+use Rattle.std.specs.List.{list_all}
 use Rattle.sof_base.specs.Cells.{Cell, Fits, written}
 use Rattle.sof_base.specs.Slots.{word_at, has_name, part}
 use Rattle.tplg_model.specs.declared.block_header.TheConstants.{MAGIC, ABI, HEADER_BYTES}
@@ -9,17 +10,13 @@ use Rattle.tplg_model.specs.declared.fault.TplgFault.{TplgFault}
 use Rattle.tplg_model.specs.declared.fault.TplgFault.TheVariants.{Truncated, Magic, Abi, HeaderSize, Payload, Name, ControlKind, Tokens}
 use Rattle.tplg_model.specs.declared.block.Topology.{Topology}
 use Rattle.tplg_model.specs.Arrays.{Each, ArrayFault, IsTokenFault}
-use Rattle.tplg_model.specs.Spelling.{items_cells, IsRoute, route_cells, IsManifest, manifest_cells, IsPcm, pcm_cells, IsControl, control_cells, WidgetHead, IsWidgetHead, widget_head_cells, IsWidget, widget_cells, BlockValue, IsBlock, block_cells}
+use Rattle.tplg_model.specs.Spelling.{items_cells, IsRoute, route_cells, IsManifest, manifest_cells, IsPcm, pcm_cells, IsControl, control_cells, WidgetHead, IsWidgetHead, widget_head_cells, IsWidget, widget_cells, IsBlock, block_cells}
 
 -- ---- files
 
--- the bytes of a topology, and which of them are ignored on reading
-abbrev pub topology_cells : Topology → List Cell
-topology_cells t = items_cells block_cells t.blocks
-
 -- the bytes that are written
 abbrev pub spelling : Topology → List ℕ
-spelling t = written (topology_cells t)
+spelling t = written (items_cells block_cells t.blocks)
 
 -- the values of a topology of the program
 abbrev pub IsTopology : Topology → Type 0
@@ -27,14 +24,13 @@ IsTopology t = Each IsBlock t.blocks
 
 -- bytes have the length of the spelling, and agree with it outside the loose places
 abbrev pub IsFileOf : List ℕ → Topology → Type 0
-IsFileOf bytes t = Fits bytes (topology_cells t)
+IsFileOf bytes t = Fits bytes (items_cells block_cells t.blocks)
 
 -- ---- faults of a record: the first of the list at its place
 
 -- the fields of 44 bytes at these offsets have a 0
 abbrev pub have_names : List ℕ → List ℕ → Bool
-have_names bytes [] = true
-have_names bytes (off ∷ offs) = has_name bytes off && have_names bytes offs
+have_names bytes offs = list_all (has_name bytes) offs
 
 -- a record of a width, with names at these offsets
 abbrev pub fixed_fault : ℕ → List ℕ → ℕ → List ℕ → Option TplgFault
@@ -51,21 +47,13 @@ sized_fault width names at bytes =
     else if have_names bytes names then None
     else Some (Name at)
 
--- a route: it does not fit, or a name has no 0
-abbrev pub RouteFault : ℕ → List ℕ → TplgFault → Type 0
-RouteFault at bytes f = fixed_fault 132 (0 ∷ 44 ∷ 88 ∷ []) at bytes ≡ Some f
-
--- a manifest: it does not fit
-abbrev pub ManifestFault : ℕ → List ℕ → TplgFault → Type 0
-ManifestFault at bytes f = sized_fault 112 [] at bytes ≡ Some f
+-- this is the fault at a place
+abbrev pub FaultTold : (ℕ → List ℕ → Option TplgFault) → ℕ → List ℕ → TplgFault → Type 0
+FaultTold fault at bytes f = fault at bytes ≡ Some f
 
 -- a PCM's names, those of its eight stream records and those of its caps
 abbrev pub pcm_names : List ℕ
 pcm_names = 4 ∷ 48 ∷ 116 ∷ 188 ∷ 260 ∷ 332 ∷ 404 ∷ 476 ∷ 548 ∷ 620 ∷ 696 ∷ 800 ∷ []
-
--- a PCM: it does not fit, or one of its names has no 0
-abbrev pub PcmFault : ℕ → List ℕ → TplgFault → Type 0
-PcmFault at bytes f = sized_fault 912 pcm_names at bytes ≡ Some f
 
 -- a control, by its operation `info`; of a control of none of the three kinds only its head is to fit
 abbrev pub control_fault : ℕ → List ℕ → Option TplgFault
@@ -77,10 +65,6 @@ control_fault at bytes =
     else if has_name bytes 8 then Some (ControlKind at (word_at bytes 64))
     else Some (Name at)
 
--- a control is at fault
-abbrev pub ControlFault : ℕ → List ℕ → TplgFault → Type 0
-ControlFault at bytes f = control_fault at bytes ≡ Some f
-
 -- a widget's words and names, and then its private data, which are not vendor arrays
 abbrev pub WidgetHeadFault : ℕ → List ℕ → TplgFault → Type 0
 WidgetHeadFault at bytes f =
@@ -90,28 +74,22 @@ WidgetHeadFault at bytes f =
 
 -- ---- faults of items
 
--- bytes are whole items, fewer than n, and then an item at fault
-pub record ItemsFault {A : Type 0} (cells : A → List Cell) (Is : A → Type 0) (Fault : ℕ → List ℕ → TplgFault → Type 0) (n at : ℕ) (bytes : List ℕ) (f : TplgFault) : Type 0 where
+-- bytes are whole items, and then further bytes
+pub record ItemsFirst {A : Type 0} (cells : A → List Cell) (Is : A → Type 0) (bytes : List ℕ) : Type 0 where
   pub items : List A
   pub front : List ℕ
   pub rest : List ℕ
   pub whole : bytes ≡ front ++ rest
   pub fits : Fits front (items_cells cells items)
   pub are : Each Is items
-  pub fewer : length items < n
-  pub first : Fault (at + length front) rest f
 
--- bytes are n whole items, and then further bytes
-pub record BytesLeft {A : Type 0} (cells : A → List Cell) (Is : A → Type 0) (n at : ℕ) (bytes : List ℕ) (f : TplgFault) : Type 0 where
-  pub items : List A
-  pub front : List ℕ
-  pub rest : List ℕ
-  pub whole : bytes ≡ front ++ rest
-  pub fits : Fits front (items_cells cells items)
-  pub are : Each Is items
-  pub count : length items ≡ n
-  pub more : 0 < length rest
-  pub is : f ≡ Payload (at + length front)
+-- fewer than n items, and then an item at fault
+abbrev pub ItemsFault : {A : Type 0} → (A → List Cell) → (A → Type 0) → (ℕ → List ℕ → TplgFault → Type 0) → ℕ → ℕ → List ℕ → TplgFault → Type 0
+ItemsFault cells Is Fault n at bytes f = (q : ItemsFirst cells Is bytes) × (length q.items < n) × Fault (at + length q.front) q.rest f
+
+-- n items, and then further bytes
+abbrev pub BytesLeft : {A : Type 0} → (A → List Cell) → (A → Type 0) → ℕ → ℕ → List ℕ → TplgFault → Type 0
+BytesLeft cells Is n at bytes f = (q : ItemsFirst cells Is bytes) × (length q.items ≡ n) × (0 < length q.rest) × (f ≡ Payload (at + length q.front))
 
 -- a payload of n records
 abbrev pub RecordsFault : {A : Type 0} → (A → List Cell) → (A → Type 0) → (ℕ → List ℕ → TplgFault → Type 0) → ℕ → ℕ → List ℕ → TplgFault → Type 0
@@ -132,7 +110,7 @@ pub record BehindHead {A B : Type 0} (head_cells : A → List Cell) (IsHead : A 
 abbrev pub WidgetFault : ℕ → List ℕ → TplgFault → Type 0
 WidgetFault at bytes f =
     WidgetHeadFault at bytes f
-    ⊎ BehindHead widget_head_cells IsWidgetHead (λ (head : WidgetHead). head.num_kcontrols) control_cells IsControl ControlFault at bytes f
+    ⊎ BehindHead widget_head_cells IsWidgetHead (λ (head : WidgetHead). head.num_kcontrols) control_cells IsControl (FaultTold control_fault) at bytes f
 
 -- ---- faults of a file
 
@@ -149,13 +127,13 @@ header_fault at bytes =
     else Some (Abi at (word_at bytes 4))
     else Some (Magic at)
 
--- the payload of a block, by its type
+-- the payload of a block, by its type: a route of three names; a widget; a PCM with its names; a manifest without names
 abbrev pub PayloadFault : ℕ → ℕ → ℕ → List ℕ → TplgFault → Type 0
 PayloadFault kind count at payload f =
-    ((kind ≡ DAPM_GRAPH) × RecordsFault route_cells IsRoute RouteFault count at payload f)
+    ((kind ≡ DAPM_GRAPH) × RecordsFault route_cells IsRoute (FaultTold (fixed_fault 132 (0 ∷ 44 ∷ 88 ∷ []))) count at payload f)
     ⊎ (((kind ≡ DAPM_WIDGET) × RecordsFault widget_cells IsWidget WidgetFault count at payload f)
-    ⊎ (((kind ≡ PCM) × RecordsFault pcm_cells IsPcm PcmFault count at payload f)
-    ⊎ ((kind ≡ MANIFEST) × RecordsFault manifest_cells IsManifest ManifestFault count at payload f)))
+    ⊎ (((kind ≡ PCM) × RecordsFault pcm_cells IsPcm (FaultTold (sized_fault 912 pcm_names)) count at payload f)
+    ⊎ ((kind ≡ MANIFEST) × RecordsFault manifest_cells IsManifest (FaultTold (sized_fault 112 [])) count at payload f)))
 
 -- the header is at fault, or it is right and its payload is
 abbrev pub BlockFault : ℕ → List ℕ → TplgFault → Type 0
@@ -164,12 +142,5 @@ BlockFault at bytes f =
     ⊎ ((header_fault at bytes ≡ None) × PayloadFault (word_at bytes 12) (word_at bytes 32) (at + 36) (part bytes 36 (word_at bytes 24)) f)
 
 -- bytes are whole blocks, and then a block at fault
-pub record IsFileFault (bytes : List ℕ) (f : TplgFault) : Type 0 where
-  pub blocks : List BlockValue
-  pub front : List ℕ
-  pub rest : List ℕ
-  pub whole : bytes ≡ front ++ rest
-  pub fits : Fits front (items_cells block_cells blocks)
-  pub are : Each IsBlock blocks
-  pub more : 0 < length rest
-  pub first : BlockFault (length front) rest f
+abbrev pub IsFileFault : List ℕ → TplgFault → Type 0
+IsFileFault bytes f = (q : ItemsFirst block_cells IsBlock bytes) × (0 < length q.rest) × BlockFault (length q.front) q.rest f

@@ -1,7 +1,10 @@
 pub mod Numbers
 pub mod Arrays
+pub mod ArrayReading
 pub mod TokenValues
 pub mod Outcomes
 pub mod Spelling
+pub mod Storable
 pub mod Reading
 pub mod File
+pub mod RecordFaults

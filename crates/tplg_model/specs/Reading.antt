@@ -1,7 +1,8 @@
 -- Reading from left to right, with the first fault that is met. What is read at a place takes the place and the bytes from it on.
 use Rattle.std.specs.Prelude.{ℕ, zero, suc, ◌+◌, ◌-◌, List, [], ◌∷◌, length, drop, Option, Some, None, Result, Ok, Err, nat_lt, ◌==◌, if◌then◌else◌}
 use Rattle.std.specs.Int.{w32, cast_signed}
-use Rattle.sof_base.specs.Slots.{word_at, half_at, long_at, name_at, has_name, words_at, part}
+use Rattle.sof_base.specs.Slots.{word_at, half_at, has_name, part}
+use Rattle.sof_base.specs.Layouts.{long_at, name_at, words_at}
 use Rattle.tplg_model.specs.declared.block_type.TheConstants.{DAPM_GRAPH, DAPM_WIDGET, PCM, MANIFEST}
 use Rattle.tplg_model.specs.declared.control_kind.TheConstants as control_kind
 use Rattle.tplg_model.specs.declared.fault.TplgFault.{TplgFault}
@@ -19,7 +20,8 @@ use Rattle.tplg_model.specs.declared.control.ControlHead.{ControlHead}
 use Rattle.tplg_model.specs.declared.control.Control.{Control}
 use Rattle.tplg_model.specs.declared.control.Control.TheVariants.{Mixer, Enum, Bytes}
 use Rattle.tplg_model.specs.declared.widget.Widget.{Widget}
-use Rattle.tplg_model.specs.Arrays.{ArrayFault, arrays_of}
+use Rattle.tplg_model.specs.Arrays.{ArrayFault}
+use Rattle.tplg_model.specs.ArrayReading.{arrays_of}
 use Rattle.tplg_model.specs.Outcomes.{◌>>=◌}
 use Rattle.tplg_model.specs.Spelling.{WidgetHead, BlockValue}
 use Rattle.tplg_model.specs.File.{header_fault}

@@ -1,5 +1,5 @@
 -- How a topology is spelled, after the ALSA topology structures (ABI 5): the fields of each record in their order, blocks, files.
-use Rattle.std.specs.Prelude.{◌≡◌, ℕ, ◌<◌, ◌^◌, List, [], ◌∷◌, ◌++◌, length, FitsSigned}
+use Rattle.std.specs.Prelude.{◌≡◌, ℕ, List, [], ◌∷◌, ◌++◌, length, FitsSigned}
 use Rattle.std.specs.Int.{w32, cast_unsigned}
 use Rattle.sof_base.specs.Cells.{Cell, fixed}
 use Rattle.sof_base.specs.Slots.{Slot, Word, Half, Long, Size, Label, Words, Raw, slots_cells, AreSlots}
@@ -64,20 +64,12 @@ manifest_cells m = slots_cells (manifest_slots m)
 abbrev pub stream_record_slots : StreamRecord → List Slot
 stream_record_slots s = Size 72 ∷ Label s.name ∷ Long s.format ∷ Word s.rate ∷ Word s.period_bytes ∷ Word s.buffer_bytes ∷ Word s.channels ∷ []
 
--- a stream record's bytes
-abbrev pub stream_cells : StreamRecord → List Cell
-stream_cells s = slots_cells (stream_record_slots s)
-
 -- caps
 abbrev pub caps_slots : Caps → List Slot
 caps_slots c =
     Size 104 ∷ Label c.name ∷ Long c.formats ∷ Word c.rates ∷ Word c.rate_min ∷ Word c.rate_max ∷ Word c.channels_min ∷ Word c.channels_max
     ∷ Word c.periods_min ∷ Word c.periods_max ∷ Word c.period_size_min ∷ Word c.period_size_max ∷ Word c.buffer_size_min ∷ Word c.buffer_size_max
     ∷ Word c.sig_bits ∷ []
-
--- the bytes of caps
-abbrev pub caps_cells : Caps → List Cell
-caps_cells c = slots_cells (caps_slots c)
 
 -- a PCM, up to its stream records
 abbrev pub pcm_head_slots : Pcm → List Slot
@@ -91,10 +83,10 @@ pcm_tail_slots p = Word p.flag_mask ∷ Word p.flags ∷ Word (length p.private)
 abbrev pub pcm_parts : Pcm → List (List Cell)
 pcm_parts p =
     slots_cells (pcm_head_slots p)
-    ∷ items_cells stream_cells p.streams
+    ∷ items_cells (λ s. slots_cells (stream_record_slots s)) p.streams
     ∷ slots_cells (Word p.num_streams ∷ [])
-    ∷ caps_cells p.play
-    ∷ caps_cells p.cap
+    ∷ slots_cells (caps_slots p.play)
+    ∷ slots_cells (caps_slots p.cap)
     ∷ slots_cells (pcm_tail_slots p)
     ∷ fixed p.private
     ∷ []
@@ -229,21 +221,13 @@ count_of (Pcms ps) = length ps
 count_of (Other kind count bytes) = count
 
 -- a type whose payload is no records
-pub record HasNoRecords (kind : ℕ) : Type 0 where
-  pub no_routes : kind ≡ DAPM_GRAPH → ⊥
-  pub no_widgets : kind ≡ DAPM_WIDGET → ⊥
-  pub no_pcms : kind ≡ PCM → ⊥
-  pub no_manifests : kind ≡ MANIFEST → ⊥
+abbrev pub HasNoRecords : ℕ → Type 0
+HasNoRecords kind = (kind ≡ DAPM_GRAPH → ⊥) × (kind ≡ DAPM_WIDGET → ⊥) × (kind ≡ PCM → ⊥) × (kind ≡ MANIFEST → ⊥)
 
 -- bytes are kept only where the type has no records
 abbrev pub HasOwnForm : Body → Type 0
 HasOwnForm (Other kind count bytes) = HasNoRecords kind
 HasOwnForm body = Unit {0}
-
--- what each block of the program keeps: its payload has a size, and bytes are kept only of other types
-pub record IsStorable (body : Body) : Type 0 where
-  pub size : length (body_cells body) < 2 ^ 32
-  pub kept : HasOwnForm body
 
 -- a block: three words of its header, and its records
 pub record BlockValue : Type 0 where
@@ -253,14 +237,10 @@ pub record BlockValue : Type 0 where
   pub body : Body
 
 -- the nine words of a header: the magic word, the ABI, version, type, its own size, vendor type, payload size, index, count
-abbrev pub words_slots : ℕ → ℕ → ℕ → ℕ → ℕ → ℕ → List Slot
-words_slots version kind vendor_type size index count =
-    Word MAGIC ∷ Word ABI ∷ Word version ∷ Word kind ∷ Word HEADER_BYTES
-    ∷ Word vendor_type ∷ Word size ∷ Word index ∷ Word count ∷ []
-
--- the header of a block
 abbrev pub header_slots : BlockValue → List Slot
-header_slots b = words_slots b.version (block_type b.body) b.vendor_type (length (body_cells b.body)) b.index (count_of b.body)
+header_slots b =
+    Word MAGIC ∷ Word ABI ∷ Word b.version ∷ Word (block_type b.body) ∷ Word HEADER_BYTES
+    ∷ Word b.vendor_type ∷ Word (length (body_cells b.body)) ∷ Word b.index ∷ Word (count_of b.body) ∷ []
 
 -- a block: its header and its payload
 abbrev pub block_cells : BlockValue → List Cell

@@ -5,19 +5,17 @@ use Rattle.sof_base.specs.Slots.{until_zero}
 use Rattle.tplg_model.specs.declared.tokens.TextTuple.{TextTuple}
 use Rattle.tplg_model.specs.declared.tokens.NumberTuple.{NumberTuple}
 use Rattle.tplg_model.specs.declared.tokens.TokenArray.{TokenArray}
-use Rattle.tplg_model.specs.declared.tokens.TokenArray.TheVariants.{Uuid, Text, Number}
+use Rattle.tplg_model.specs.declared.tokens.TokenArray.TheVariants.{Text, Number}
 
 -- an array's elements where it is one of numbers (types 2 to 5)
 abbrev pub number_tuples : TokenArray → List NumberTuple
-number_tuples (Uuid items) = []
-number_tuples (Text items) = []
 number_tuples (Number numbers) = numbers.items
+number_tuples _ = []
 
 -- an array's elements where it is one of texts
 abbrev pub texts_in : TokenArray → List TextTuple
-texts_in (Uuid items) = []
 texts_in (Text items) = items
-texts_in (Number numbers) = []
+texts_in _ = []
 
 -- the number of the first element with a token
 abbrev pub first_number : List NumberTuple → ℕ → Option ℕ

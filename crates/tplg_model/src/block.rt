@@ -20,7 +20,8 @@ pub struct Block {
 }
 
 impl Model for Block {
-    ghost use Rattle.tplg_model.specs.Spelling.{BlockValue, IsStorable};
+    ghost use Rattle.tplg_model.specs.Spelling.{BlockValue};
+    ghost use Rattle.tplg_model.specs.Storable.{IsStorable};
 
     ghost Value = { BlockValue };
 

@@ -1,8 +1,9 @@
 // What holds of every topology and all bytes.
 
 ghost use Rattle.std.specs.Prelude.{◌≡◌, ◌<◌, ◌↔◌, ℕ, List, Ok, Err, slice_index};
-ghost use Rattle.sof_base.specs.Cells.{AgreesOutsideLoose, IsCanonical};
-ghost use Rattle.tplg_model.specs.File.{IsTopology, IsFileOf, IsFileFault, spelling, topology_cells};
+ghost use Rattle.sof_base.specs.LoosePlaces.{AgreesOutsideLoose, IsCanonical};
+ghost use Rattle.tplg_model.specs.File.{IsTopology, IsFileOf, IsFileFault, spelling};
+ghost use Rattle.tplg_model.specs.RecordFaults.{topology_cells};
 ghost use Rattle.tplg_model.specs.Reading.{topology_of};
 ghost use Rattle.tplg_model.specs.declared.block.Topology.{Topology};
 ghost use Rattle.tplg_model.specs.declared.fault.TplgFault.{TplgFault as Fault};

@@ -1,7 +1,7 @@
 // Widgets: their words and names, their vendor arrays, and the controls behind them.
 ghost use Rattle.std.specs.Prelude.{◌≡◌, ◌≤◌, ◌<◌, ◌+◌, ◌^◌, length, IfOk};
 ghost use Rattle.tplg_model.specs.Outcomes.{Gives};
-ghost use Rattle.tplg_model.specs.Arrays.{arrays_of};
+ghost use Rattle.tplg_model.specs.ArrayReading.{arrays_of};
 ghost use Rattle.tplg_model.specs.Reading as reading;
 
 use crate::fields::{name_at, tail_size};

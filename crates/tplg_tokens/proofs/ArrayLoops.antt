@@ -5,7 +5,8 @@ use Rattle.std.specs.Int.{w32, to_le_bytes}
 use Rattle.std.specs.declared.alloc.AllocError.{AllocError}
 use Rattle.sof_base.proofs.FieldLaws.{IsBytes}
 use Rattle.tplg_model.specs.declared.tokens.TokenArray.{TokenArray}
-use Rattle.tplg_model.specs.Arrays.{array_type, count_of, array_size, elements_spelling, array_spelling, array_fault, AreArrays, AreArraysOf, IsTokenFault, arrays_of}
+use Rattle.tplg_model.specs.Arrays.{array_type, count_of, array_size, elements_spelling, array_spelling, array_fault, AreArrays, IsTokenFault}
+use Rattle.tplg_model.specs.ArrayReading.{AreArraysOf, arrays_of}
 use Rattle.tplg_model.proofs.ArrayListLaws.{SoFar, SoFar-fault, read_is, fault_is}
 use Rattle.tplg_tokens.specs.declared.fault.TokenFault.{TokenFault}
 use Rattle.tplg_tokens.specs.declared.fault.TokenFault.TheVariants.{Short, Size, Kind, OutOfMemory}

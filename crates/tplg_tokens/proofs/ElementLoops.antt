@@ -2,7 +2,7 @@
 use Rattle.std.proofs.Common.{◌≡◌, ℕ, suc, ◌+◌, ◌*◌, ◌≤◌, ◌<◌, List, [], ◌∷◌, ◌++◌, length, take, get_or, refl, sym, ap, ◌∙◌, arith, length-append, append-nil, append_assoc}
 use Rattle.std.proofs.lemmas.List.{take_more, take_at, take-take, flat_map_more}
 use Rattle.std.specs.List.{flat_map}
-use Rattle.tplg_model.specs.Arrays.{elements_at}
+use Rattle.tplg_model.specs.ArrayReading.{elements_at}
 
 -- elements are read, and n are still to be read from a place on
 pub record ReadSoFar {A : Type 0} (size : ℕ) (element : List ℕ → ℕ → A) (n : ℕ) (bytes : List ℕ) (place : ℕ) (xs all : List A) : Type 0 where

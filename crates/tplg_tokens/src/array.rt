@@ -2,7 +2,9 @@
 ghost use Rattle.std.specs.Prelude.{◌≡◌, ◌≤◌, ◌<◌, ◌+◌, ◌*◌, ◌^◌, ◌++◌, ℕ, length, take, Some, None, IfOk, IfErr, IsOk, OnOk};
 ghost use Rattle.sof_base.specs.Slots.{word_at};
 ghost use Rattle.std.specs.Int.{w32, to_le_bytes};
-ghost use Rattle.tplg_model.specs.Arrays.{element_size, array_type, count_of, elements_spelling, array_fault, array_at, array_size, array_spelling, HasSize, HasElements, IsArray};
+ghost use Rattle.tplg_model.specs.Arrays.{element_size, array_type, count_of, elements_spelling, array_fault, array_size, array_spelling, HasElements, IsArray};
+ghost use Rattle.tplg_model.specs.Storable.{HasSize};
+ghost use Rattle.tplg_model.specs.ArrayReading.{array_at};
 ghost use Rattle.tplg_tokens.specs.Answers.{NamesFault};
 
 use crate::element::{Element, read_elements, word_bytes, write_elements};
@@ -52,7 +54,7 @@ pub fn whole_size(bytes: &[u8], at: usize) -> Result<usize, TokenFault>
 }
 
 /// The array at the front of bytes where it is whole.
-#[tactic(auto, unfolding(tplg_model::specs::Arrays::array_at))]
+#[tactic(auto, unfolding(tplg_model::specs::ArrayReading::array_at))]
 pub fn read_array(alloc: Global, bytes: &[u8]) -> Result<TokenArray, NoMemory>
     requires words { 12 ≤ length bytes.now }
     requires known { word_at bytes.now 4 ≤ 5 }

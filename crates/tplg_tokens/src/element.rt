@@ -2,7 +2,8 @@
 ghost use Rattle.std.specs.Prelude.{◌≡◌, ◌≤◌, ◌+◌, ◌*◌, ◌++◌, ℕ, List, length, take, IfOk, OnOk};
 ghost use Rattle.std.specs.List.{flat_map};
 ghost use Rattle.std.specs.Int.{w32, to_le_bytes};
-ghost use Rattle.tplg_model.specs.Arrays.{Each, IsUuid, IsText, IsNumber, elements_at, uuid_at, text_at, number_tuple_at, uuid_spelling, text_spelling, number_spelling};
+ghost use Rattle.tplg_model.specs.Arrays.{Each, IsUuid, IsText, IsNumber, uuid_spelling, text_spelling, number_spelling};
+ghost use Rattle.tplg_model.specs.ArrayReading.{elements_at, uuid_at, text_at, number_tuple_at};
 
 use byteorder::{ByteOrder, LittleEndian};
 use sof_base::{Items, NoMemory, bytes_at, word};

@@ -1,7 +1,8 @@
 // What holds of all bytes and all arrays.
 ghost use Rattle.std.specs.Prelude.{◌≡◌, ℕ, List, Ok};
 ghost use Rattle.tplg_model.specs.declared.tokens.TokenArray.{TokenArray as Array};
-ghost use Rattle.tplg_model.specs.Arrays.{AreArrays, AreArraysOf, ArrayFault, IsTokenFault, arrays_spelling, arrays_of};
+ghost use Rattle.tplg_model.specs.Arrays.{AreArrays, ArrayFault, IsTokenFault, arrays_spelling};
+ghost use Rattle.tplg_model.specs.ArrayReading.{AreArraysOf, arrays_of};
 
 /// Bytes are at most one list of arrays, and what is written of arrays is read as these.
 pub fn arrays_are_spelled()

@@ -1,5 +1,6 @@
 ghost use Rattle.std.specs.Prelude.{List, IfOk, IfErr, Ok, Err};
-ghost use Rattle.tplg_model.specs.Arrays.{AreArrays, AreArraysOf, ArrayFault, IsTokenFault, arrays_of};
+ghost use Rattle.tplg_model.specs.Arrays.{AreArrays, ArrayFault, IsTokenFault};
+ghost use Rattle.tplg_model.specs.ArrayReading.{AreArraysOf, arrays_of};
 ghost use Rattle.tplg_tokens.specs.Answers.{NamesFault, GivesArrays};
 
 use crate::array::{read_array, whole_size};

@@ -1,5 +1,6 @@
 ghost use Rattle.std.specs.Prelude.{◌≡◌, ◌++◌, length, take, Ok, OnOk, OnErr};
-ghost use Rattle.tplg_model.specs.Arrays.{AreArrays, arrays_of, arrays_spelling};
+ghost use Rattle.tplg_model.specs.Arrays.{AreArrays, arrays_spelling};
+ghost use Rattle.tplg_model.specs.ArrayReading.{arrays_of};
 
 use crate::array::write_array;
 use sof_base::NoMemory;

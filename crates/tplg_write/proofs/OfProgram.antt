@@ -2,7 +2,8 @@
 use Rattle.std.proofs.Common.{ℕ, ℤ, ◌<◌, ◌^◌, List, [], ◌∷◌, ◌++◌, length, arith}
 use Rattle.std.specs.Int.{w32, cast_unsigned}
 use Rattle.sof_base.specs.Slots.{Slot, Size, Word, Words, Raw, AreSlots, AreWords, IsSlot}
-use Rattle.tplg_model.specs.Spelling.{BlockValue, block_type, count_of, IsStorable, AreRecords, IsBlock}
+use Rattle.tplg_model.specs.Spelling.{BlockValue, block_type, count_of, AreRecords, IsBlock}
+use Rattle.tplg_model.specs.Storable.{IsStorable}
 
 -- fields, and fields behind them
 are_append : (xs ys : List Slot) → AreSlots xs → AreSlots ys → AreSlots (xs ++ ys)

@@ -1,6 +1,7 @@
 -- The vendor arrays of a topology of the program have sizes that fit their words.
 use Rattle.std.proofs.Common.{List, [], ◌∷◌}
-use Rattle.tplg_model.specs.Arrays.{Each, HasSize, IsArray}
+use Rattle.tplg_model.specs.Arrays.{Each, IsArray}
+use Rattle.tplg_model.specs.Storable.{HasSize}
 use Rattle.tplg_model.specs.File.{IsTopology}
 use Rattle.tplg_model.specs.declared.widget.Widget.{Widget}
 use Rattle.tplg_model.specs.declared.block.Body.{Body}

@@ -1,5 +1,6 @@
 -- What the size words of a topology must have room for, besides the payloads of its blocks.
-use Rattle.tplg_model.specs.Arrays.{Each, HasSize}
+use Rattle.tplg_model.specs.Arrays.{Each}
+use Rattle.tplg_model.specs.Storable.{HasSize}
 use Rattle.tplg_model.specs.declared.block.Body.{Body}
 use Rattle.tplg_model.specs.declared.block.Body.TheVariants.{Widgets}
 use Rattle.tplg_model.specs.declared.block.Topology.{Topology}

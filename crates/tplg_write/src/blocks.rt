@@ -2,7 +2,8 @@
 ghost use Rattle.std.specs.Prelude.{◌≡◌, ◌<◌, ◌^◌, OnOk, [], ◌∷◌, length};
 ghost use Rattle.sof_base.specs.Slots.{Word};
 ghost use Rattle.tplg_model.specs.Arrays.{Each};
-ghost use Rattle.tplg_model.specs.Spelling.{IsStorable, AreRecords, IsBlock, body_cells, block_cells, items_cells, block_type, count_of};
+ghost use Rattle.tplg_model.specs.Spelling.{AreRecords, IsBlock, body_cells, block_cells, items_cells, block_type, count_of};
+ghost use Rattle.tplg_model.specs.Storable.{IsStorable};
 ghost use Rattle.tplg_write.specs.Sinks.{with_fields, with_cells};
 
 use crate::items::put_items;

@@ -2,7 +2,8 @@
 ghost use Rattle.std.specs.Prelude.{◌≡◌, ◌<◌, ◌^◌, OnOk, List, [], ◌∷◌, length};
 ghost use Rattle.sof_base.specs.Cells.{fixed};
 ghost use Rattle.sof_base.specs.Slots.{Word, slots_cells, AreSlots};
-ghost use Rattle.tplg_model.specs.Spelling.{IsRoute, route_cells, IsManifest, manifest_cells, stream_record_slots, stream_cells, IsPcm, caps_slots, caps_cells, pcm_head_slots, pcm_tail_slots, pcm_cells, items_cells};
+ghost use Rattle.tplg_model.specs.Spelling.{IsRoute, route_cells, IsManifest, manifest_cells, stream_record_slots, IsPcm, caps_slots, pcm_head_slots, pcm_tail_slots, pcm_cells, items_cells};
+ghost use Rattle.tplg_model.specs.Storable.{stream_cells, caps_cells};
 ghost use Rattle.tplg_write.specs.Sinks.{with_fields, with_cells};
 
 use crate::items::{Spelled, put_items};

@@ -1,5 +1,5 @@
 use Rattle.std.proofs.Common.{◌≡◌, ◌++◌, take, drop}
-use Rattle.sof_base.specs.Ports.{drained}
+use Rattle.sof_base.specs.DrainedOutputs.{drained}
 use Rattle.sof_io.proofs.outputs.drain_all.Given as goal
 
 -- those before the index are drained, and the others are as they were

@@ -1,6 +1,6 @@
 use Rattle.std.proofs.Common.{Bool, not, ◌&&◌, sym, ap, ◌∙◌}
-use Rattle.sof_script.specs.Commands.{bounds_of}
-use Rattle.sof_run.specs.Bindings.{is_endpoint_bound}
+use Rattle.sof_script.specs.ScriptRead.{bounds_of}
+use Rattle.sof_run.specs.LineParts.{is_endpoint_bound}
 use Rattle.sof_run.proofs.BindingLaws.{bound_same}
 use Rattle.sof_run.proofs.bindings.is_right.Goals as goal
 

@@ -1,5 +1,5 @@
 use Rattle.std.proofs.Common.{◌≡◌, drop}
-use Rattle.sof_run.specs.Bindings.{slot_of}
+use Rattle.sof_run.specs.LineParts.{slot_of}
 use Rattle.sof_run.proofs.BindingLaws.{slot_in}
 use Rattle.sof_run.proofs.bindings.slot_of.Given as goal
 

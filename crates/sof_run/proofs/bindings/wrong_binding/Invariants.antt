@@ -1,5 +1,5 @@
 use Rattle.std.proofs.Common.{◌≡◌, take, drop}
-use Rattle.sof_script.specs.Commands.{bounds_of}
+use Rattle.sof_script.specs.ScriptRead.{bounds_of}
 use Rattle.sof_run.specs.Bindings.{wrong_behind, wrong_binding}
 use Rattle.sof_run.proofs.bindings.wrong_binding.Given as goal
 

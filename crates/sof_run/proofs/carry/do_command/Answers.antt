@@ -1,7 +1,8 @@
 use Rattle.std.proofs.Common.{◌∙◌, true, false, refl, subst, sym, arith}
 use Rattle.sof_io.specs.Bound.{output_slots}
 use Rattle.tplg_plan.specs.Sound.{IsSound}
-use Rattle.sof_run.specs.Rounds.{Round, earlier as units_before}
+use Rattle.sof_script.specs.Ticks.{earlier as units_before}
+use Rattle.sof_run.specs.Rounds.{Round}
 use Rattle.sof_run.proofs.Commands.{round_on, round_unfilled, rounds_on, rounds_off, rounds_last}
 use Rattle.sof_run.proofs.Openings.{files_moved}
 use Rattle.sof_run.proofs.Refills.{refill_phase}

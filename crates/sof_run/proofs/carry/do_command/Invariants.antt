@@ -1,10 +1,11 @@
 use Rattle.std.proofs.Common.{◌≡◌, ◌≤◌, ◌-◌}
-use Rattle.sof_base.specs.Ports.{drained}
+use Rattle.sof_base.specs.DrainedOutputs.{drained}
 use Rattle.sof_io.specs.Bound.{output_slots}
 use Rattle.sof_session.specs.Lives.{Seated}
 use Rattle.sof_run.specs.Todo.{LeadsOn}
-use Rattle.sof_run.specs.Rounds.{earlier, rounds_after, command_rounds}
-use Rattle.sof_run.specs.Play.{rounds_todo}
+use Rattle.sof_script.specs.Ticks.{earlier}
+use Rattle.sof_run.specs.Rounds.{command_rounds}
+use Rattle.sof_run.specs.Play.{rounds_todo, rounds_after}
 use Rattle.sof_run.specs.Opening.{HaveFiles}
 use Rattle.sof_run.proofs.carry.do_command.Given as goal
 

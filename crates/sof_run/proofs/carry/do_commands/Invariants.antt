@@ -1,5 +1,5 @@
 use Rattle.std.proofs.Common.{◌≡◌, ◌≤◌, ◌*◌, drop}
-use Rattle.sof_base.specs.Ports.{drained}
+use Rattle.sof_base.specs.DrainedOutputs.{drained}
 use Rattle.sof_io.specs.Bound.{output_slots}
 use Rattle.sof_session.specs.Lives.{Seated}
 use Rattle.sof_run.specs.Todo.{LeadsOn}

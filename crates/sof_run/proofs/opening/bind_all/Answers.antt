@@ -1,13 +1,28 @@
 use Rattle.std.proofs.Common.{true, false, sym, ap, ◌∙◌}
-use Rattle.sof_base.specs.Ports.{drained}
-use Rattle.sof_io.specs.Bound.{input_slots, output_slots}
-use Rattle.sof_io.specs.Puts.{with_slot}
+use Rattle.sof_base.specs.DrainedOutputs.{drained}
+use Rattle.sof_io.specs.Bound.{output_slots}
+use Rattle.sof_io.specs.Takes.{input_slots}
+use Rattle.sof_io.specs.Bound.{with_slot}
 use Rattle.sof_io.specs.Fills.{with_input}
 use Rattle.sof_io.proofs.OutputLaws.{drained-with_slot}
 use Rattle.sof_run.proofs.Openings.{inputs_by, outputs_by}
-use Rattle.sof_run.proofs.BindingSteps.{right_on, input_there, output_there, others_there}
+use Rattle.sof_run.proofs.BindingSteps.{new_slot, right_on, input_there, output_there, others_there}
 use Rattle.sof_run.proofs.opening.bind_all.Goals as goal
 use Rattle.sof_run.proofs.opening.bind_all.Goals.{then-binding+in_ok-add, else-binding+in_ok-add-2}
+
+pub add-requires : goal.add-requires
+add-requires c =
+    let before = c.loop-binding.invariant in
+    let slots = input_slots c.loop-binding.inputs in
+    rw c.slot_of-slot.ensures
+    (new_slot c.args.plan.now c.args.bindings.now c.loop-binding.binding-index c.binding-item.result c.loop-binding-test.true c.binding-item.is before.right true c.if-binding.true slots before.new_inputs)
+
+pub add-requires-else-binding : goal.add-requires-else-binding
+add-requires-else-binding c =
+    let before = c.loop-binding.invariant in
+    let slots = output_slots c.loop-binding.outputs in
+    rw c.slot_of-slot.ensures
+    (new_slot c.args.plan.now c.args.bindings.now c.loop-binding.binding-index c.binding-item.result c.loop-binding-test.true c.binding-item.is before.right false c.if-binding.false slots before.new_outputs)
 
 pub loop-binding-preserved : goal.loop-binding-preserved
 loop-binding-preserved c =

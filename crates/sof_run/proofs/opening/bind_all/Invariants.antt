@@ -1,7 +1,8 @@
 use Rattle.std.proofs.Common.{◌≡◌, take, drop, [], None, true, false}
-use Rattle.sof_base.specs.Ports.{drained}
-use Rattle.sof_io.specs.Bound.{input_slots, output_slots}
-use Rattle.sof_script.specs.Commands.{bounds_of}
+use Rattle.sof_base.specs.DrainedOutputs.{drained}
+use Rattle.sof_io.specs.Bound.{output_slots}
+use Rattle.sof_io.specs.Takes.{input_slots}
+use Rattle.sof_script.specs.ScriptRead.{bounds_of}
 use Rattle.sof_run.specs.Bindings.{wrong_behind, bound_inputs, bound_outputs}
 use Rattle.sof_run.proofs.Slots.{IsFresh}
 use Rattle.sof_run.proofs.opening.bind_all.Given as goal

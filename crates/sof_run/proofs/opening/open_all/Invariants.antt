@@ -1,5 +1,5 @@
 use Rattle.std.proofs.Common.{take, drop, []}
-use Rattle.sof_script.specs.Commands.{bounds_of}
+use Rattle.sof_script.specs.ScriptRead.{bounds_of}
 use Rattle.sof_run.specs.Bindings.{bound_inputs, bound_outputs}
 use Rattle.sof_run.specs.Opening.{HaveFiles}
 use Rattle.sof_run.proofs.Openings.{Left}

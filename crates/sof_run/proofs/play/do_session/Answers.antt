@@ -1,6 +1,6 @@
-use Rattle.std.proofs.Common.{◌≡◌, [], ◌∙◌, sym, ap, subst, true, false}
+use Rattle.std.proofs.Common.{[], ◌∙◌, sym, ap, subst, true, false}
 use Rattle.sof_io.specs.Bound.{output_slots}
-use Rattle.sof_script.specs.Commands.{bounds_of, script_read}
+use Rattle.sof_script.specs.ScriptRead.{bounds_of, script_read}
 use Rattle.sof_session.specs.Seat.{new_seat}
 use Rattle.sof_session.specs.Lives.{Seated}
 use Rattle.sof_run.specs.Todo.{Free, DeskPhase, Gave}

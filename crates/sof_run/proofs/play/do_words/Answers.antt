@@ -1,6 +1,5 @@
 use Rattle.std.proofs.Common.{Some, None, map, string_bytes}
-use Rattle.sof_run.specs.Words.{form}
-use Rattle.sof_run.specs.Compiling.{names}
+use Rattle.sof_run.specs.LineParts.{form, names}
 use Rattle.sof_run.specs.Requests.{Play, Check, Compile, Stress}
 use Rattle.sof_run.proofs.Requests.{asked_within}
 use Rattle.sof_run.proofs.CompileVerdicts.{other_makes, compile_makes}

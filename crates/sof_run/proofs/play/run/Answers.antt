@@ -1,6 +1,6 @@
 use Rattle.std.proofs.Common.{map, string_bytes, subst}
 use Rattle.sof_run.specs.Findings.{FollowsCourse}
-use Rattle.sof_run.proofs.Finish.{course_made, count_rose, left, words_end, judged, plays_whole, plays_heard}
+use Rattle.sof_run.proofs.Finish.{course_made, bytes_loaded, count_rose, left, words_end, judged, plays_whole, plays_heard}
 use Rattle.sof_run.proofs.CheckVerdicts.{checks}
 use Rattle.sof_run.proofs.CompileVerdicts.{compiles}
 use Rattle.sof_run.proofs.StressVerdicts.{stresses}
@@ -22,6 +22,7 @@ returns g c =
         turned = gave.ran.turned;
         calls = gave.ran.played.calls;
         led = gave.ran.played.led;
+        bytes = bytes_loaded means dsp words _ _ _ _ _ sent gave;
         follows = subst (λ n. FollowsCourse room n words gave.ran.turns gave.ran.played.calls c.do_words.result.status) given.is_sent (course_made means dsp words _ _ _ _ _ sent gave);
         failed = count_rose means dsp words _ _ _ _ _ sent gave;
       };

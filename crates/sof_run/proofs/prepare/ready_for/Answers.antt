@@ -1,5 +1,5 @@
 use Rattle.std.proofs.Common.{◌≡◌, refl, sym, ap, ◌∙◌, None}
-use Rattle.sof_script.specs.Commands.{script_read, bounds_of}
+use Rattle.sof_script.specs.ScriptRead.{script_read, bounds_of}
 use Rattle.sof_run.specs.Bindings.{wrong_binding as wrong_of}
 use Rattle.sof_run.specs.Prepared.{prepared_bindings}
 use Rattle.sof_run.proofs.prepare.ready_for.Goals as goal

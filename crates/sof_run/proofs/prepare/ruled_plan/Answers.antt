@@ -1,5 +1,6 @@
 use Rattle.std.proofs.Common.{IfErr, Some, subst, ◌∙◌}
-use Rattle.tplg_rules.specs.WellFormed.{rules_of, IsFaultOf}
+use Rattle.tplg_rules.specs.WellFormed.{rules_of}
+use Rattle.tplg_rules.specs.RuleFaults.{IsFaultOf}
 use Rattle.tplg_rules.proofs.RuleTests.{breaks_some}
 use Rattle.sof_run.proofs.prepare.ruled_plan.Goals as goal
 

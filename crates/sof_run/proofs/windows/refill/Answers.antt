@@ -1,5 +1,6 @@
 use Rattle.std.proofs.Common.{◌≡◌, ◌<◌, true, [], length, take, sym, ◌∙◌, subst, arith}
-use Rattle.sof_io.specs.Bound.{input_slots, has_slot}
+use Rattle.sof_io.specs.Bound.{has_slot}
+use Rattle.sof_io.specs.Takes.{input_slots}
 use Rattle.sof_run.proofs.Wanted.{wanted_of, lacking-read}
 use Rattle.sof_run.proofs.Refills.{some_taken, opened_at, opened_same, slots-after_read, filled-read, same_then, same_read, reads_more, refilled_none, refilled_off}
 use Rattle.sof_run.proofs.windows.refill.Goals as goal

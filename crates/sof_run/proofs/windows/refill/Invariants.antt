@@ -1,5 +1,5 @@
 use Rattle.std.proofs.Common.{◌≡◌, length}
-use Rattle.sof_io.specs.Bound.{input_slots}
+use Rattle.sof_io.specs.Takes.{input_slots}
 use Rattle.sof_run.specs.Opening.{SameFiles}
 use Rattle.sof_run.proofs.Wanted.{lacking}
 use Rattle.sof_run.proofs.Refills.{ReadsOn}

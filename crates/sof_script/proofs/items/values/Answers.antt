@@ -1,6 +1,6 @@
 use Rattle.std.proofs.Common.{◌≡◌, List, ℕ, Err, rules, sym, ap, ◌∙◌}
 use Rattle.std.specs.Borrow.{Bor}
-use Rattle.sof_script.specs.Splitting.{texts}
+use Rattle.sof_script.specs.TokenStarts.{texts}
 use Rattle.sof_script.specs.Commands.{number_values}
 use Rattle.sof_script.proofs.ItemLaws.{values_few, values_many, values_are, values_fault, values_name, values_good}
 use Rattle.sof_script.proofs.items.values.Goals as goal

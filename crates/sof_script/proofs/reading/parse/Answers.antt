@@ -1,7 +1,8 @@
 use Rattle.std.proofs.Common.{◌≡◌, Ok, Err, inr, arith, rules, sym, ap, ◌∙◌}
 use Rattle.sof_script.specs.declared.reading.ScriptFault.TheVariants.{Line}
 use Rattle.sof_script.specs.Causes.{cause_number}
-use Rattle.sof_script.specs.Commands.{line_item, script_of, script_read}
+use Rattle.sof_script.specs.Commands.{line_item, script_of}
+use Rattle.sof_script.specs.ScriptRead.{script_read}
 use Rattle.sof_script.proofs.ScriptLaws.{Reading-fault, Reading-more, Reading-all}
 use Rattle.sof_script.proofs.FaultLaws.{told_fault, told_right}
 use Rattle.sof_script.proofs.reading.parse.Goals as goal

@@ -1,6 +1,6 @@
 use Rattle.std.proofs.Common.{List, ℕ, inl, inr, subst, sym, ◌∙◌}
 use Rattle.std.proofs.lemmas.List.{drop_all}
-use Rattle.sof_script.specs.Splitting.{StartsToken}
+use Rattle.sof_script.specs.TokenStarts.{StartsToken}
 use Rattle.sof_script.proofs.LineLaws.{Skipped-more, starts}
 use Rattle.sof_script.proofs.scanning.skip_blanks.Goals as goal
 use Rattle.sof_script.proofs.scanning.skip_blanks.Goals.{then-loop-at-test+else-is_separator, else-loop-at-test}

@@ -1,6 +1,6 @@
 use Rattle.std.proofs.Common.{◌≡◌, ◌*◌, ◌≤◌, take}
 use Rattle.std.specs.List.{sum_by}
-use Rattle.sof_script.specs.Ticks.{line_ticks}
+use Rattle.sof_script.specs.ScriptRead.{line_ticks}
 use Rattle.sof_script.proofs.script.ticks.Given as goal
 
 abbrev pub invariant-loop-numbered : goal.invariant-loop-numbered

@@ -5,8 +5,10 @@ use Rattle.sof_io.specs.Bound.{output_slots}
 use Rattle.sof_script.specs.declared.script.Command.TheVariants as commands
 use Rattle.sof_session.specs.Lives.{Seated}
 use Rattle.sof_stress.specs.declared.counts.Counts.{Counts}
-use Rattle.sof_stress.specs.CommandTurns.{CarriedOut, turns_of}
-use Rattle.sof_stress.specs.Draws.{stream_count, openings, drawn, command_by, drawn_commands, stress_commands}
+use Rattle.sof_stress.specs.CommandTurns.{turns_of}
+use Rattle.sof_stress.specs.CarriedTurns.{CarriedOut}
+use Rattle.sof_stress.specs.Draws.{stream_count, drawn, command_by, stress_commands}
+use Rattle.sof_stress.specs.CarriedTurns.{openings, drawn_commands}
 use Rattle.sof_stress.proofs.CarrySteps.{counts-mono, first-under-way, one-carried, stays-under-way, and-then, all-carried}
 use Rattle.sof_stress.proofs.DueCommands.{opened-length}
 use Rattle.sof_stress.proofs.carry.carry_all.Goals as goal

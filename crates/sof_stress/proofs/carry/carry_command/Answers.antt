@@ -1,5 +1,5 @@
 use Rattle.std.proofs.Common.{◌+◌, ◌^◌, ◌∙◌, arith}
-use Rattle.sof_stress.specs.CommandTurns.{earlier_turns}
+use Rattle.sof_script.specs.Ticks.{earlier as earlier_turns}
 use Rattle.sof_stress.proofs.CarrySteps.{counts-mono, turns-on, turns-last}
 use Rattle.sof_stress.proofs.DueCommands.{at-most, earlier-few}
 use Rattle.sof_stress.proofs.carry.carry_command.Goals as goal

@@ -1,8 +1,11 @@
 use Rattle.std.proofs.Common.{◌≡◌, ◌≤◌, ◌-◌, ◌+◌, ◌*◌, ◌++◌, List, ℕ}
-use Rattle.sof_base.specs.Ports.{drained}
+use Rattle.sof_base.specs.DrainedOutputs.{drained}
 use Rattle.sof_io.specs.Bound.{output_slots}
 use Rattle.sof_session.specs.Lives.{Seated}
-use Rattle.sof_stress.specs.CommandTurns.{CommandTurn, AreCountsOf, command_turns, earlier_turns, turns_after}
+use Rattle.sof_stress.specs.CommandTurns.{CommandTurn, command_turns}
+use Rattle.sof_script.specs.Ticks.{earlier as earlier_turns}
+use Rattle.sof_stress.specs.CarriedTurns.{turns_after}
+use Rattle.sof_stress.specs.CarriedTurns.{AreCountsOf}
 use Rattle.sof_stress.specs.CarriedTurns.{CarriesOn}
 use Rattle.sof_stress.proofs.carry.carry_command.Given as goal
 

@@ -3,7 +3,8 @@ use Rattle.std.specs.List.{range_with_len}
 use Rattle.std.proofs.lemmas.List.FromFn.{length-map-range_with_len}
 use Rattle.sof_script.specs.declared.script.Command.{Command}
 use Rattle.sof_stress.specs.CarriedTurns.{CommandsCarried}
-use Rattle.sof_stress.specs.Draws.{next_state, state_at, drawn, command_by, stream_count}
+use Rattle.sof_stress.specs.Draws.{state_at, drawn, command_by, stream_count}
+use Rattle.sof_stress.specs.CarriedTurns.{next_state}
 use Rattle.sof_stress.proofs.Ranges.{map-more}
 use Rattle.sof_stress.proofs.CarrySteps.{counts-mono, none-yet, one-carried, and-then}
 use Rattle.sof_stress.proofs.carry.carry_drawn.Goals as goal

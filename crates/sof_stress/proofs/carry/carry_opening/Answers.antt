@@ -1,6 +1,7 @@
 use Rattle.std.proofs.Common.{◌∷◌, [], ◌+◌, ◌*◌, ◌^◌, arith}
 use Rattle.sof_script.specs.declared.script.Command.TheVariants as commands
-use Rattle.sof_stress.specs.Draws.{host_name, stress_params}
+use Rattle.sof_stress.specs.Draws.{host_name}
+use Rattle.sof_stress.specs.CarriedTurns.{stress_params}
 use Rattle.sof_stress.proofs.CarrySteps.{counts-mono, one-carried, and-then}
 use Rattle.sof_stress.proofs.carry.carry_opening.Goals as goal
 

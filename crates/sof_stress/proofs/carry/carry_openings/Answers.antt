@@ -3,7 +3,8 @@ use Rattle.std.specs.List.{range_with_len}
 use Rattle.std.proofs.lemmas.List.FromFn.{length-range_with_len}
 use Rattle.sof_script.specs.declared.script.Command.{Command}
 use Rattle.sof_stress.specs.CarriedTurns.{CommandsCarried}
-use Rattle.sof_stress.specs.Draws.{opening, openings}
+use Rattle.sof_stress.specs.Draws.{opening}
+use Rattle.sof_stress.specs.CarriedTurns.{openings}
 use Rattle.sof_stress.proofs.Ranges.{flat-more}
 use Rattle.sof_stress.proofs.CarrySteps.{stays-under-way, and-then}
 use Rattle.sof_stress.proofs.DueCommands.{opened-length}

@@ -1,5 +1,5 @@
 use Rattle.sof_stress.specs.CarriedTurns.{CommandsCarried}
-use Rattle.sof_stress.specs.Draws.{openings}
+use Rattle.sof_stress.specs.CarriedTurns.{openings}
 use Rattle.sof_stress.proofs.carry.carry_openings.Given as goal
 
 -- the openings so far were carried out

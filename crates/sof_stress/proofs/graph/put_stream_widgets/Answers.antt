@@ -1,5 +1,5 @@
 use Rattle.std.proofs.Common.{◌++◌, ap, ◌∙◌, append_assoc}
-use Rattle.sof_stress.specs.StressGraph.{up_to_volume, behind_volume}
+use Rattle.sof_stress.specs.GraphParts.{up_to_volume, behind_volume}
 use Rattle.sof_stress.proofs.graph.put_stream_widgets.Goals as goal
 
 pub returns : goal.returns

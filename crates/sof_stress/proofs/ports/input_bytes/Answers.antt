@@ -1,6 +1,7 @@
 use Rattle.std.proofs.Common.{◌≡◌, ◌++◌, ◌∷◌, [], ap, ◌∙◌, map, arith}
 use Rattle.std.specs.List.{range_with_len}
-use Rattle.sof_stress.specs.StressPorts.{input_byte, input_bytes}
+use Rattle.sof_stress.specs.StressPorts.{input_bytes}
+use Rattle.sof_stress.specs.GraphParts.{input_byte}
 use Rattle.sof_stress.proofs.Ranges.{map-next}
 use Rattle.sof_stress.proofs.ports.input_bytes.Goals as goal
 

@@ -1,7 +1,9 @@
 use Rattle.std.proofs.Common.{sym, ap, ◌∙◌, subst, ◌≡◌, false, arith, ◌*◌, length}
 use Rattle.sof_stress.proofs.FreshSlots.{fresh-slot, inputs-more, slots-below, bytes-count, new-there, new-open, new-held, filled-there, loaded}
-use Rattle.sof_io.specs.Bound.{input_slots, has_slot}
-use Rattle.sof_io.specs.Fills.{with_input, held_at, has_ended, filled_at, ended_at}
+use Rattle.sof_io.specs.Bound.{has_slot}
+use Rattle.sof_io.specs.Takes.{input_slots}
+use Rattle.sof_io.specs.Fills.{with_input, filled_at, ended_at}
+use Rattle.sof_io.specs.Takes.{held_at, has_ended}
 use Rattle.sof_stress.specs.StressPorts.{input_bytes, stress_inputs}
 use Rattle.sof_stress.proofs.ports.inputs_of.Goals as goal
 

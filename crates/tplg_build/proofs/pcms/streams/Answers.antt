@@ -1,6 +1,6 @@
 use Rattle.std.proofs.Common.{◌≡◌, length, replicate, ap, ◌∙◌, arith}
 use Rattle.std.proofs.lemmas.List.{replicate-append-replicate}
-use Rattle.tplg_build.specs.PcmForm.{empty_stream}
+use Rattle.tplg_build.specs.Payloads.{empty_stream}
 use Rattle.tplg_build.proofs.pcms.streams.Goals as goal
 
 pub loop-preserved : goal.loop-preserved

@@ -1,5 +1,5 @@
 use Rattle.std.proofs.Common.{◌≡◌, replicate}
-use Rattle.tplg_build.specs.PcmForm.{empty_stream}
+use Rattle.tplg_build.specs.Payloads.{empty_stream}
 use Rattle.tplg_build.proofs.pcms.streams.Given as goal
 
 abbrev pub invariant-loop : goal.invariant-loop

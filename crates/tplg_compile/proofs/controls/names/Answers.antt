@@ -1,7 +1,8 @@
 use Rattle.std.proofs.Common.{◌≡◌, Some, None, get_or, sym, ap, ◌∙◌, arith}
 use Rattle.std.proofs.lemmas.Result.{err_from_is_err_and}
 use Rattle.toml.specs.View.{view}
-use Rattle.tplg_compile.specs.ValueForm.{viewed, each, name_of}
+use Rattle.tplg_compile.specs.ValueForm.{each, name_of}
+use Rattle.tplg_compile.specs.ProgramValues.{viewed}
 use Rattle.tplg_compile.proofs.SeenLaws.{seen-drop, seen-past}
 use Rattle.tplg_compile.proofs.LoopLaws.{behind, each-more, each-lacks, each-end, through}
 use Rattle.tplg_compile.proofs.controls.names.Goals as goal

@@ -1,5 +1,6 @@
 use Rattle.std.proofs.Common.{◌≡◌, drop}
-use Rattle.tplg_compile.specs.ValueForm.{viewed, each, name_of}
+use Rattle.tplg_compile.specs.ValueForm.{each, name_of}
+use Rattle.tplg_compile.specs.ProgramValues.{viewed}
 use Rattle.tplg_compile.proofs.LoopLaws.{behind}
 use Rattle.tplg_compile.proofs.controls.names.Given as goal
 

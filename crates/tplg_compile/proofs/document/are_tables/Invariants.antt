@@ -1,5 +1,5 @@
 use Rattle.std.proofs.Common.{◌≡◌, drop}
-use Rattle.tplg_compile.specs.ValueForm.{viewed}
+use Rattle.tplg_compile.specs.ProgramValues.{viewed}
 use Rattle.tplg_compile.specs.DocumentLists.{are_tables}
 use Rattle.tplg_compile.proofs.document.are_tables.Given as goal
 

@@ -1,6 +1,7 @@
 use Rattle.std.proofs.Common.{◌≡◌, Some, None, get_or, sym, ap, ◌∙◌, arith}
 use Rattle.toml.specs.View.{view}
-use Rattle.tplg_compile.specs.ValueForm.{viewed, in_table}
+use Rattle.tplg_compile.specs.ValueForm.{in_table}
+use Rattle.tplg_compile.specs.ProgramValues.{viewed}
 use Rattle.tplg_compile.specs.InOrder.{entries_read}
 use Rattle.tplg_compile.proofs.SeenLaws.{seen-drop, seen-past}
 use Rattle.tplg_compile.proofs.LoopLaws.{after, after-nothing, told-more, told-lacks, told-end, told_fault}

@@ -1,5 +1,6 @@
 use Rattle.std.proofs.Common.{◌≡◌, drop}
-use Rattle.tplg_compile.specs.ValueForm.{viewed, in_table}
+use Rattle.tplg_compile.specs.ValueForm.{in_table}
+use Rattle.tplg_compile.specs.ProgramValues.{viewed}
 use Rattle.tplg_compile.specs.InOrder.{entries_read}
 use Rattle.tplg_compile.proofs.LoopLaws.{after}
 use Rattle.tplg_compile.proofs.document.records.Given as goal

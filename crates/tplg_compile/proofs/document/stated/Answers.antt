@@ -1,5 +1,5 @@
 use Rattle.std.proofs.Common.{◌<◌, ◌^◌, length, arith}
-use Rattle.tplg_compile.specs.ValueForm.{viewed}
+use Rattle.tplg_compile.specs.ProgramValues.{viewed}
 use Rattle.tplg_compile.proofs.SeenLaws.{seen-count}
 use Rattle.tplg_compile.proofs.document.stated.Goals as goal
 

@@ -2,7 +2,7 @@ use Rattle.std.proofs.Common.{◌≡◌, true, false, Some, refl, sym, arith}
 use Rattle.std.proofs.lemmas.Grind.{common_steps}
 use Rattle.toml.specs.Data.{as_array}
 use Rattle.toml.specs.View.{view, array_view}
-use Rattle.tplg_compile.specs.ValueForm.{viewed}
+use Rattle.tplg_compile.specs.ProgramValues.{viewed}
 use Rattle.tplg_compile.specs.DocumentLists.{are_tables, entries_of}
 use Rattle.tplg_compile.proofs.SeenLaws.{list_of-items}
 use Rattle.tplg_compile.proofs.document.tables.Goals as goal

@@ -1,7 +1,9 @@
 use Rattle.std.proofs.Common.{◌≡◌, ◌++◌}
 use Rattle.toml.specs.View.{members_view}
-use Rattle.tplg_compile.specs.ValueForm.{has_only, slice_texts}
-use Rattle.tplg_compile.specs.KeyTables.{keyed_by, keys_of}
+use Rattle.tplg_compile.specs.ValueForm.{has_only}
+use Rattle.tplg_compile.specs.ProgramValues.{slice_texts}
+use Rattle.tplg_compile.specs.KeyTables.{keys_of}
+use Rattle.tplg_compile.specs.ProgramValues.{keyed_by}
 use Rattle.tplg_compile.proofs.entry.has_only.Given as goal
 
 abbrev pub invariant-loop-key : goal.invariant-loop-key

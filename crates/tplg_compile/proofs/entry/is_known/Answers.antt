@@ -1,7 +1,8 @@
 use Rattle.std.proofs.Common.{◌++◌, arith}
 use Rattle.std.proofs.lemmas.Grind.{common_steps}
-use Rattle.tplg_compile.specs.ValueForm.{slice_texts}
-use Rattle.tplg_compile.specs.KeyTables.{keyed_by, keys_of}
+use Rattle.tplg_compile.specs.ProgramValues.{slice_texts}
+use Rattle.tplg_compile.specs.KeyTables.{keys_of}
+use Rattle.tplg_compile.specs.ProgramValues.{keyed_by}
 use Rattle.tplg_compile.proofs.KeyLaws.{is_among-append}
 use Rattle.tplg_compile.proofs.entry.is_known.Goals as goal
 

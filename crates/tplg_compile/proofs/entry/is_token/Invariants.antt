@@ -1,6 +1,7 @@
 use Rattle.std.proofs.Common.{◌≡◌, drop}
 use Rattle.tplg_compile.specs.ValueForm.{is_one_of}
-use Rattle.tplg_compile.specs.KeyTables.{keyed_by, keys_of}
+use Rattle.tplg_compile.specs.KeyTables.{keys_of}
+use Rattle.tplg_compile.specs.ProgramValues.{keyed_by}
 use Rattle.tplg_compile.proofs.entry.is_token.Given as goal
 
 abbrev pub invariant-loop-one : goal.invariant-loop-one

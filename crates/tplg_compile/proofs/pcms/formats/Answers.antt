@@ -3,7 +3,7 @@ use Rattle.std.proofs.lemmas.Result.{err_from_is_err_and}
 use Rattle.toml.specs.Data.{Data, as_array}
 use Rattle.toml.specs.View.{view, items_view}
 use Rattle.toml.specs.declared.value.Value.{Value}
-use Rattle.tplg_compile.specs.ValueForm.{viewed}
+use Rattle.tplg_compile.specs.ProgramValues.{viewed}
 use Rattle.tplg_compile.specs.Entries.{bit_of, bits_with, formats_of}
 use Rattle.tplg_compile.proofs.SeenLaws.{list_of-items, seen-drop, seen-past}
 use Rattle.tplg_compile.proofs.LoopLaws.{bits-more, bits-lack, bits-end, through}

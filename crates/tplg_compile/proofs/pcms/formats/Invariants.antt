@@ -1,5 +1,5 @@
 use Rattle.std.proofs.Common.{◌≡◌, drop}
-use Rattle.tplg_compile.specs.ValueForm.{viewed}
+use Rattle.tplg_compile.specs.ProgramValues.{viewed}
 use Rattle.tplg_compile.specs.Entries.{bits_with}
 use Rattle.tplg_compile.proofs.pcms.formats.Given as goal
 

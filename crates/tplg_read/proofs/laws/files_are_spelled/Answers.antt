@@ -1,4 +1,4 @@
-use Rattle.tplg_model.specs.File.{topology_cells}
+use Rattle.tplg_model.specs.RecordFaults.{topology_cells}
 use Rattle.tplg_model.proofs.FileLaws.{one_topology, IsFileOf-spelling, topology_take, topology_again, topology_found, topology_only}
 use Rattle.tplg_model.proofs.Literal.{agrees, fits, canonical}
 use Rattle.tplg_read.proofs.laws.files_are_spelled.Goals as goal

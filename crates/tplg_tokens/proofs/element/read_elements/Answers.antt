@@ -1,5 +1,5 @@
 use Rattle.std.proofs.Common.{◌≡◌, suc, ◌+◌, ◌-◌, arith, length, ap, ◌∙◌}
-use Rattle.tplg_model.specs.Arrays.{elements_at}
+use Rattle.tplg_model.specs.ArrayReading.{elements_at}
 use Rattle.tplg_model.proofs.ElementLaws.{length-elements}
 use Rattle.tplg_tokens.proofs.ElementLoops.{Read-more, Read-all}
 use Rattle.tplg_tokens.proofs.element.read_elements.Goals as goal

@@ -1,5 +1,5 @@
 use Rattle.std.proofs.Common.{◌-◌}
-use Rattle.tplg_model.specs.Arrays.{elements_at}
+use Rattle.tplg_model.specs.ArrayReading.{elements_at}
 use Rattle.tplg_tokens.proofs.ElementLoops.{ReadSoFar}
 use Rattle.tplg_tokens.proofs.element.read_elements.Given as goal
 

@@ -1,6 +1,6 @@
 use Rattle.std.proofs.Common.{length, arith, ap, subst}
 use Rattle.tplg_model.specs.declared.block.Body.TheVariants.{Manifests, Widgets, Routes, Pcms}
-use Rattle.tplg_model.specs.Spelling.{IsStorable}
+use Rattle.tplg_model.specs.Storable.{IsStorable}
 use Rattle.tplg_model.proofs.CountLaws.{count_fits}
 use Rattle.tplg_write.proofs.blocks.kind_and_count.Goals as goal
 

@@ -4,7 +4,7 @@ use Rattle.std.specs.Prelude.{vec_len}
 use Rattle.std.specs.Vec.{with_items}
 use Rattle.sof_base.specs.Ports.{InputView}
 use Rattle.sof_io.specs.Round.{round_bytes}
-use Rattle.sof_io.specs.Fills.{fuller_input}
+use Rattle.sof_io.specs.Takes.{fuller_input}
 use Rattle.sof_io.proofs.InputBytes.{held-is}
 use Rattle.sof_io.proofs.RoundBytes.{round-grown}
 use Rattle.sof_io.proofs.input.Input.fill.Goals as goal

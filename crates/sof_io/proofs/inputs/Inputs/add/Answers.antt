@@ -3,7 +3,8 @@ use Rattle.std.specs.Prelude.{All}
 use Rattle.std.specs.List.{position, insert}
 use Rattle.std.specs.List.Sorted.{IsStrictlyIncreasing}
 use Rattle.sof_base.specs.Ports.{InputView}
-use Rattle.sof_io.specs.Bound.{input_slots, has_slot, HasPosition}
+use Rattle.sof_io.specs.Bound.{has_slot}
+use Rattle.sof_io.specs.Takes.{input_slots, HasPosition}
 use Rattle.sof_io.specs.Fills.{with_input}
 use Rattle.sof_io.proofs.Ascending.{ascending_more, ascending_distinct}
 use Rattle.sof_io.proofs.Places.{place, seen_at, place_or_length}

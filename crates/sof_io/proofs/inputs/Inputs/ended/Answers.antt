@@ -1,5 +1,5 @@
 use Rattle.std.proofs.Common.{sym, ap, ◌∙◌}
-use Rattle.sof_io.specs.Fills.{has_ended}
+use Rattle.sof_io.specs.Takes.{has_ended}
 use Rattle.sof_io.proofs.Places.{answer_at}
 use Rattle.sof_io.proofs.InputPlaces.{has_ended-found, has_ended-missing}
 use Rattle.sof_io.proofs.inputs.Inputs.ended.Goals as goal

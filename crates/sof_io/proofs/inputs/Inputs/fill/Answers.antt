@@ -1,7 +1,7 @@
 use Rattle.std.proofs.Common.{ℕ, ◌≤◌, ◌+◌, List, length, sym, ap, subst, ◌∙◌}
 use Rattle.std.specs.Prelude.{All}
 use Rattle.std.specs.List.Sorted.{IsStrictlyIncreasing}
-use Rattle.sof_io.specs.Bound.{input_slots, HasPosition}
+use Rattle.sof_io.specs.Takes.{input_slots, HasPosition}
 use Rattle.sof_io.specs.Takes.{left_at}
 use Rattle.sof_io.specs.Fills.{filled_at}
 use Rattle.sof_io.proofs.Places.{answer_at}

@@ -1,7 +1,8 @@
 use Rattle.std.proofs.Common.{List, is_some, subst, ◌∙◌, ap}
 use Rattle.std.specs.List.Sorted.{IsStrictlyIncreasing}
 use Rattle.sof_base.specs.Ports.{InputView}
-use Rattle.sof_io.specs.Bound.{input_slots, has_slot}
+use Rattle.sof_io.specs.Bound.{has_slot}
+use Rattle.sof_io.specs.Takes.{input_slots}
 use Rattle.sof_io.proofs.Ascending.{ascending_distinct}
 use Rattle.sof_io.proofs.Places.{seen_at, some_place}
 use Rattle.sof_io.proofs.InputPlaces.{is_input, has_input}

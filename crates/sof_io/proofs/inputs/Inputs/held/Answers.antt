@@ -1,5 +1,5 @@
 use Rattle.std.proofs.Common.{length, sym, ap, ◌∙◌}
-use Rattle.sof_io.specs.Fills.{held_at}
+use Rattle.sof_io.specs.Takes.{held_at}
 use Rattle.sof_io.proofs.Places.{answer_at}
 use Rattle.sof_io.proofs.InputPlaces.{left_at-found, left_at-missing}
 use Rattle.sof_io.proofs.inputs.Inputs.held.Goals as goal

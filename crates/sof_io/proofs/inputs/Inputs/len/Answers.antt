@@ -1,7 +1,7 @@
 use Rattle.std.proofs.Common.{List, subst}
 use Rattle.std.specs.List.Sorted.{IsStrictlyIncreasing}
 use Rattle.sof_base.specs.Ports.{InputView}
-use Rattle.sof_io.specs.Bound.{input_slots}
+use Rattle.sof_io.specs.Takes.{input_slots}
 use Rattle.sof_io.proofs.Ascending.{ascending_distinct}
 use Rattle.sof_io.proofs.inputs.Inputs.len.Goals as goal
 

@@ -1,7 +1,7 @@
 use Rattle.std.proofs.Common.{sym, ap, subst, ◌∙◌, length}
 use Rattle.std.specs.Prelude.{All}
 use Rattle.std.specs.List.Sorted.{IsStrictlyIncreasing}
-use Rattle.sof_io.specs.Bound.{input_slots, HasPosition}
+use Rattle.sof_io.specs.Takes.{input_slots, HasPosition}
 use Rattle.sof_io.specs.Takes.{bytes_given, taken}
 use Rattle.sof_io.proofs.Places.{answer_at}
 use Rattle.sof_io.proofs.InputPlaces.{taken-found, given-found, taken-missing, given-missing}

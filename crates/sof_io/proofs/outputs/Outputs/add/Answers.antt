@@ -3,7 +3,7 @@ use Rattle.std.specs.List.{position, insert}
 use Rattle.std.specs.List.Sorted.{IsStrictlyIncreasing}
 use Rattle.sof_base.specs.Ports.{OutputView, HasRoom}
 use Rattle.sof_io.specs.Bound.{output_slots, has_slot}
-use Rattle.sof_io.specs.Puts.{with_slot}
+use Rattle.sof_io.specs.Bound.{with_slot}
 use Rattle.sof_io.proofs.Ascending.{ascending_more}
 use Rattle.sof_io.proofs.Places.{place, seen_at, place_or_length}
 use Rattle.sof_io.proofs.OutputPlaces.{is_above, with_slot-place}

@@ -1,7 +1,8 @@
 use Rattle.std.proofs.Common.{◌≡◌, ◌++◌, take, drop, sym, ap, subst, ◌∙◌, length, arith}
 use Rattle.std.proofs.lemmas.List.{take_at}
 use Rattle.std.specs.List.Sorted.{IsStrictlyIncreasing}
-use Rattle.sof_base.specs.Ports.{HasRoom, drained}
+use Rattle.sof_base.specs.Ports.{HasRoom}
+use Rattle.sof_base.specs.DrainedOutputs.{drained}
 use Rattle.sof_io.specs.Bound.{output_slots}
 use Rattle.sof_io.proofs.OutputLaws.{slots-drained, length-drained}
 use Rattle.sof_io.proofs.RoomLaws.{HasRoom-drained}

@@ -1,0 +1,32 @@
+-- What loaded bytes come to, and how far a course was made.
+use Rattle.std.specs.Prelude.{ℕ, List, Result, MatchResult, ◌<◌, length}
+use Rattle.tplg_model.specs.declared.block.Topology.{Topology}
+use Rattle.tplg_compile.specs.declared.source_fault.SourceFault.{SourceFault}
+use Rattle.tplg_compile.specs.Compiled.{IsCompiled, IsCompileFault}
+use Rattle.sof_desk.specs.Desk.{DeskCall}
+use Rattle.sof_script.specs.Commands.{Read}
+use Rattle.sof_session.specs.Lives.{Turn}
+use Rattle.sof_run.specs.declared.prepare.Halt.{Halt}
+use Rattle.sof_run.specs.Verdicts.{MakeRun, IsHalt}
+use Rattle.sof_run.specs.Calls.{Course, Made}
+use Rattle.sof_run.specs.Checks.{IsRight, IsWrong}
+
+-- what a topology and a script come to
+abbrev pub FilesComeTo : List ℕ → List ℕ → Result (Topology × Read) Halt → Type 0
+FilesComeTo topology script r = MatchResult r (λ run. MakeRun topology script run.0 run.1) (IsHalt topology script)
+
+-- what a topology alone comes to
+abbrev pub TopologyComesTo : List ℕ → Result Topology Halt → Type 0
+TopologyComesTo bytes r = MatchResult r (IsRight bytes) (IsWrong bytes)
+
+-- what a source comes to
+abbrev pub SourceComesTo : List ℕ → Result Topology SourceFault → Type 0
+SourceComesTo text r = MatchResult r (IsCompiled text) (IsCompileFault text)
+
+-- a course was made, or a front of it
+abbrev pub IsMade : Course → List Turn → List DeskCall → ℕ → Type 0
+IsMade c turns calls status = Made c.items c.status turns calls status
+
+-- a topology or a script has more bytes than its limit
+abbrev pub IsLong : List ℕ → Type 0
+IsLong bytes = 1048576 < length bytes

@@ -1,0 +1,12 @@
+-- What is read off the words.
+use Rattle.sof_run.specs.declared.words.Request.{Request as ReadRequest}
+use Rattle.sof_run.specs.declared.words.Request.TheVariants as requests
+use Rattle.sof_run.specs.LineParts.{form, names}
+use Rattle.sof_run.specs.Requests.{Request, Play, Check, Compile, Stress}
+
+-- what the code reads off the words
+abbrev pub request : ReadRequest → Request
+request (requests.Play f) = Play (form f.heap f.topology.now f.script.now)
+request (requests.Check name) = Check name.now
+request (requests.Compile n) = Compile (names n.source.now n.out.now)
+request (requests.Stress seed) = Stress seed

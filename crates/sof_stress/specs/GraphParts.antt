@@ -1,0 +1,37 @@
+-- The widgets of a stress in the parts in which they are put together.
+use Rattle.std.specs.Prelude.{ℕ, ◌+◌, ◌*◌, List, [], ◌∷◌, codes, ◌%◌}
+use Rattle.tplg_build.specs.declared.source.WidgetKind.TheVariants as kind
+use Rattle.tplg_build.specs.declared.source.SourceWidget.{SourceWidget}
+use Rattle.sof_stress.specs.Draws.{numbered_name, host_name, volume_name}
+use Rattle.sof_stress.specs.StressGraph.{plain_widget, buffer, scheduler, volume, equaliser, dai}
+
+-- the widgets of a stream up to its volume
+abbrev pub up_to_volume : ℕ → List SourceWidget
+up_to_volume i =
+    plain_widget kind.AifIn (host_name i) (numbered_name (codes "S") i) (i + 1)
+    ∷ buffer (numbered_name (codes "A") i) 1536 (i + 1)
+    ∷ volume (volume_name i) (i + 1)
+    ∷ []
+
+-- those behind it
+abbrev pub behind_volume : ℕ → List SourceWidget
+behind_volume i =
+    buffer (numbered_name (codes "C") i) 1536 (i + 1)
+    ∷ scheduler (numbered_name (codes "PIPE") i) (host_name i) (1000 * (i + 1)) (i + 1)
+    ∷ []
+
+-- what the streams are mixed into, up to the equaliser
+abbrev pub up_to_equaliser : List SourceWidget
+up_to_equaliser = plain_widget kind.Mixer (codes "MIX") [] 100 ∷ buffer (codes "D0") 768 100 ∷ equaliser ∷ []
+
+-- and behind it
+abbrev pub behind_equaliser : List SourceWidget
+behind_equaliser = buffer (codes "D1") 768 100 ∷ dai ∷ scheduler (codes "PIPEM") (codes "DAI0") 1000 100 ∷ []
+
+-- a stream has five widgets, of which the first is its host
+abbrev pub host_slot : ℕ → ℕ
+host_slot i = 5 * i
+
+-- the j-th byte of a stream's input, from 0
+abbrev pub input_byte : ℕ → ℕ → ℕ
+input_byte i j = (7 * j + i) % 256

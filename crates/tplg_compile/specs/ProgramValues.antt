@@ -1,0 +1,39 @@
+-- The values, the texts and the keys of the program, as those of a source.
+use Rattle.std.specs.Prelude.{ℕ, List, [], ◌∷◌, codes}
+use Rattle.std.specs.Borrow.{Bor}
+use Rattle.toml.specs.Data.{Data}
+use Rattle.toml.specs.View.{view}
+use Rattle.toml.specs.declared.value.Value.{Value}
+use Rattle.tplg_compile.specs.declared.keys.TokenKey.{TokenKey}
+use Rattle.tplg_compile.specs.KeyTables.{Keyed}
+
+-- the values of the program
+abbrev pub viewed : List Value → List Data
+viewed [] = []
+viewed (v ∷ vs) = view v ∷ viewed vs
+
+-- the slice_texts of slices
+abbrev pub slice_texts : List (Bor (List ℕ)) → List (List ℕ)
+slice_texts [] = []
+slice_texts (r ∷ rs) = r.now ∷ slice_texts rs
+
+-- the keys of a table of the program
+abbrev pub keyed_by : List TokenKey → List Keyed
+keyed_by [] = []
+keyed_by (k ∷ ks) = (k.key.now, k.token) ∷ keyed_by ks
+
+-- the keys of a document
+abbrev pub document_keys : List (List ℕ)
+document_keys = codes "widget" ∷ codes "route" ∷ codes "pcm" ∷ []
+
+-- the keys of the control of a pga
+abbrev pub pga_keys : List (List ℕ)
+pga_keys = codes "name" ∷ codes "channels" ∷ codes "min" ∷ codes "max" ∷ codes "tlv_min" ∷ codes "tlv_step" ∷ codes "tlv_mute" ∷ []
+
+-- of a mux
+abbrev pub mux_keys : List (List ℕ)
+mux_keys = codes "name" ∷ codes "items" ∷ []
+
+-- of an effect
+abbrev pub effect_keys : List (List ℕ)
+effect_keys = codes "name" ∷ codes "max" ∷ codes "blob" ∷ []

@@ -2,9 +2,13 @@
 //! Standard output has what was asked for, and standard error why the system did not let it be done.
 #![tactic(auto)]
 
+mod reasons;
+
+use crate::reasons::{reason, tell_waves};
 use fw_core::Firmware;
 use sof_base::NoMemory;
 use sof_desk::{Desk, OsDesk, Subject, Trouble};
+use sof_faults::words_fault;
 use sof_run::run;
 use std::fmt::Display;
 use std::fs::File;
@@ -22,8 +26,8 @@ Forms:
   sof check TOPOLOGY              tells what a topology has and needs
   sof compile SOURCE OUT          makes a topology file from a source in TOML
   sof stress N                    carries out what N draws, from 1 to 1000, and counts it
-  sof --help                      prints this text
-  sof --version                   prints the version
+  sof --help, sof -h              prints this text
+  sof --version, sof -V           prints the version
 
 HEAP is the size of the device's heap in bytes, in decimal, at most 16777216.
 'sof check TOPOLOGY' tells how many bytes a topology needs.
@@ -42,8 +46,8 @@ Statuses:
 
 const VERSION: &str = "sof 0.1.0\n";
 
-// Tells why on standard error; where that fails too, nothing more can be told.
-fn tell<D: Display + Drop>(rt: &HostRuntime, why: D) {
+/// Tells why on standard error; where that fails too, nothing more can be told.
+pub fn tell<D: Display + Drop>(rt: &HostRuntime, why: D) {
     let _ = eprintln!(rt; "sof: {why}");
 }
 
@@ -99,6 +103,24 @@ fn print(rt: &HostRuntime, text: &str) -> u8 {
     }
 }
 
+// Tells why the words led to a status, and what a script binds that is not what it seems; what memory is wanting for is left out.
+fn explain(rt: &HostRuntime, words: &[String], status: u8) -> Result<(), NoMemory> {
+    if status == 1 {
+        if let Some(fault) = words_fault(words, ROOM) {
+            tell(rt, fault);
+        }
+    }
+    if let Some(sentence) = reason(rt, words, status)? {
+        tell(rt, sentence.as_str());
+    }
+    if let [form, _, _, script] = words {
+        if form.as_str() == "play" && status == 0 {
+            return tell_waves(rt, script.as_str());
+        }
+    }
+    Ok(())
+}
+
 // The top call over real files and a firmware.
 fn play(rt: &HostRuntime, words: &[String]) -> Result<u8, NoMemory> {
     let dsp = Firmware::new(rt.alloc(), ROOM)?;
@@ -111,9 +133,7 @@ fn play(rt: &HostRuntime, words: &[String]) -> Result<u8, NoMemory> {
     if let Some(trouble) = desk.trouble() {
         tell(rt, trouble);
     }
-    if status == 1 {
-        tell(rt, "try 'sof --help'");
-    }
+    let _ = explain(rt, words, status);
     Ok(status)
 }
 
@@ -121,8 +141,8 @@ fn play(rt: &HostRuntime, words: &[String]) -> Result<u8, NoMemory> {
 fn status(rt: &HostRuntime, words: &[String]) -> u8 {
     if let [word] = words {
         match word.as_str() {
-            "--help" => return print(rt, HELP),
-            "--version" => return print(rt, VERSION),
+            "--help" | "-h" => return print(rt, HELP),
+            "--version" | "-V" => return print(rt, VERSION),
             _ => {}
         }
     }

@@ -1,0 +1,115 @@
+// Why a run came to its status, read off its files once more.
+ghost use Rattle.std.specs.Prelude.{◌≤◌, length, IfOk, IfSome};
+
+use crate::tell;
+use sof_base::NoMemory;
+use sof_desk::{Desk, LoadFault, OsDesk};
+use sof_faults::{Wave, binding_sentence, script_sentence, source_sentence, topology_sentence};
+use sof_script::parse;
+use std::fs;
+use std::fs::File;
+use std::io::Read;
+
+/// The most bytes of a file that the top call loads.
+const LIMIT: usize = 1048576;
+
+// Whether a name is that of a file whose bytes are there once more: no pipe, and no terminal.
+fn is_kept(rt: &HostRuntime, name: &str) -> bool {
+    match fs::metadata(rt, name) {
+        Ok(about) => about.is_file(),
+        Err(_) => false,
+    }
+}
+
+// The bytes of a file that the run loaded; none where it cannot be loaded again.
+fn loaded(rt: &HostRuntime, name: &str) -> Result<Option<Vec<u8>>, NoMemory>
+    ensures { IfOk result (λ bytes. IfSome bytes (λ b. length b.items ≤ 1048576)) }
+{
+    if !is_kept(rt, name) {
+        return Ok(None);
+    }
+    let mut desk = OsDesk::new(rt, rt.alloc())?;
+    match desk.load(rt.alloc(), name, LIMIT) {
+        Ok(bytes) => Ok(Some(bytes)),
+        Err(LoadFault::OutOfMemory) => Err(NoMemory),
+        Err(_) => Ok(None),
+    }
+}
+
+// What is wrong with the topology file of a name, as a sentence.
+fn topology_reason(rt: &HostRuntime, name: &str) -> Result<Option<String>, NoMemory> {
+    match loaded(rt, name)? {
+        Some(bytes) => topology_sentence(rt.alloc(), name, &bytes),
+        None => Ok(None),
+    }
+}
+
+// What is wrong with the source of a name.
+fn source_reason(rt: &HostRuntime, name: &str) -> Result<Option<String>, NoMemory> {
+    match loaded(rt, name)? {
+        Some(text) => source_sentence(rt.alloc(), name, &text),
+        None => Ok(None),
+    }
+}
+
+// What is wrong with the script of a name, or else with its bindings over the topology of a name.
+fn script_reason(
+    rt: &HostRuntime,
+    topology: &str,
+    script: &str,
+) -> Result<Option<String>, NoMemory> {
+    let Some(lines) = loaded(rt, script)? else {
+        return Ok(None);
+    };
+    let reason = script_sentence(rt.alloc(), script, &lines)?;
+    if reason.is_some() {
+        return Ok(reason);
+    }
+    match loaded(rt, topology)? {
+        Some(bytes) => binding_sentence(rt.alloc(), script, &lines, &bytes),
+        None => Ok(None),
+    }
+}
+
+/// Why the words led to a status that is about a file: found in the files again, when all else is done.
+pub fn reason(rt: &HostRuntime, words: &[String], status: u8) -> Result<Option<String>, NoMemory> {
+    match (status, words) {
+        (2, [_, topology]) => topology_reason(rt, topology.as_str()),
+        (2, [_, _, topology, _]) => topology_reason(rt, topology.as_str()),
+        (4, [_, source, _]) => source_reason(rt, source.as_str()),
+        (4, [_, _, topology, script]) => script_reason(rt, topology.as_str(), script.as_str()),
+        _ => Ok(None),
+    }
+}
+
+// Whether the file of a name begins as a WAV does.
+fn is_wave(rt: &HostRuntime, name: &str) -> bool {
+    if !is_kept(rt, name) {
+        return false;
+    }
+    let Ok(mut file) = File::open(rt, name) else {
+        return false;
+    };
+    let mut head = [0; 12];
+    match file.read(&mut head) {
+        Ok(12) => &head[..4] == b"RIFF".as_slice() && &head[8..] == b"WAVE".as_slice(),
+        _ => false,
+    }
+}
+
+/// Tells of each input of a script that is a WAV, of whose header the program knows nothing.
+pub fn tell_waves(rt: &HostRuntime, script: &str) -> Result<(), NoMemory> {
+    let Some(lines) = loaded(rt, script)? else {
+        return Ok(());
+    };
+    let Ok(script) = parse(rt.alloc(), &lines) else {
+        return Ok(());
+    };
+    for binding in script.bindings.items() {
+        let file = binding.file.as_str();
+        if binding.input && is_wave(rt, file) {
+            tell(rt, Wave(file));
+        }
+    }
+    Ok(())
+}

@@ -1,0 +1,405 @@
+// What is wrong with a source.
+ghost use Rattle.std.specs.Prelude.{◌≤◌, length};
+
+use crate::rule_fault::RuleFault;
+use crate::shown::{Shown, ShownName};
+use sof_base::NoMemory;
+use std::alloc::Global;
+use std::fmt;
+use std::fmt::Display;
+use thiserror::Error;
+use toml::{Table, Value};
+use tplg_compile::keys::{
+    DOCUMENT_KEYS, EFFECT_KEYS, MUX_KEYS, NUMBER_TOKENS, PCM_KEYS, PGA_KEYS, ROUTE_KEYS,
+    TEXT_TOKENS, WIDGET_KEYS,
+};
+use tplg_compile::values::{blob, filled, index, name, number, signed};
+use tplg_compile::{EntryFault, List, SourceFault, compile, kind_named, unruled};
+use tplg_widgets::Wiring;
+
+/// What a key of an entry takes.
+#[derive(Clone, Copy, Debug, Error)]
+enum Takes {
+    #[error("a number from 0 to 4294967295")]
+    Number,
+    #[error("a number from 0 to 65535")]
+    Index,
+    #[error("a number from -2147483648 to 2147483647")]
+    Signed,
+    #[error("a text of at most 43 bytes")]
+    Text,
+    #[error("a text of 1 to 43 bytes")]
+    Filled,
+    #[error("a text of two hex digits for each byte")]
+    Hex,
+    #[error("input, output, mux, mixer, pga, aif_in, aif_out, dai_in, dai_out, buffer, scheduler or effect")]
+    Kind,
+    #[error("an array of s16le, s24le and s32le")]
+    Formats,
+    #[error("an array of 1 to 16 texts of at most 43 bytes")]
+    Items,
+    #[error("a table, for a pga, a mux or an effect")]
+    Control,
+    #[error("an array of tables")]
+    Tables,
+}
+
+impl Takes {
+    // Whether a value is one that is taken, but for what stands in a control.
+    fn takes(self, alloc: Global, value: &Value) -> Result<bool, NoMemory> {
+        let taken = match self {
+            Takes::Number => number(value).is_ok(),
+            Takes::Index => index(value).is_ok(),
+            Takes::Signed => signed(value).is_ok(),
+            Takes::Text => name(value).is_ok(),
+            Takes::Filled => filled(value).is_ok(),
+            Takes::Hex => match blob(alloc, value) {
+                Err(EntryFault::OutOfMemory) => return Err(NoMemory),
+                hex => hex.is_ok(),
+            },
+            Takes::Kind => match filled(value) {
+                Ok(kind) => kind_named(kind.as_bytes()).is_some(),
+                Err(_) => false,
+            },
+            Takes::Formats => are_formats(value),
+            Takes::Items => are_names(value),
+            Takes::Control => value.is_table(),
+            Takes::Tables => are_tables(value),
+        };
+        Ok(taken)
+    }
+}
+
+fn is_name(value: &Value) -> bool {
+    name(value).is_ok()
+}
+
+fn is_format(value: &Value) -> bool {
+    match value.as_str() {
+        Some(text) => matches!(text, "s16le" | "s24le" | "s32le"),
+        None => false,
+    }
+}
+
+// The values of an array; none where a value is no array.
+fn items_of(value: &Value) -> Option<&[Value]> {
+    match value.as_array() {
+        Some(array) => Some(array.as_slice()),
+        None => None,
+    }
+}
+
+fn are_formats(value: &Value) -> bool {
+    let Some(items) = items_of(value) else {
+        return false;
+    };
+    for item in items {
+        if !is_format(item) {
+            return false;
+        }
+    }
+    true
+}
+
+fn are_names(value: &Value) -> bool {
+    let Some(items) = items_of(value) else {
+        return false;
+    };
+    for item in items {
+        if !is_name(item) {
+            return false;
+        }
+    }
+    !items.is_empty() && items.len() <= 16
+}
+
+fn are_tables(value: &Value) -> bool {
+    let Some(items) = items_of(value) else {
+        return false;
+    };
+    for item in items {
+        if !item.is_table() {
+            return false;
+        }
+    }
+    true
+}
+
+/// What is wrong at a key.
+#[derive(Clone, Copy, Debug, Error)]
+enum KeyFault<'a> {
+    #[error("unknown key '{}'", Shown(.0.as_bytes()))]
+    Unknown(&'a str),
+    #[error("the key '{0}' is wanting")]
+    Wanting(&'static str),
+    #[error("'{key}' takes {takes}")]
+    Value { key: &'static str, takes: Takes },
+    #[error("a widget of this kind has no control")]
+    NoControl,
+}
+
+// What a key takes; `max` is signed at a pga's control.
+fn takes_at(keys: &[&str], key: &str) -> Takes {
+    match key {
+        "kind" => Takes::Kind,
+        "name" | "sink" | "source" => Takes::Filled,
+        "index" => Takes::Index,
+        "sname" | "playback" | "capture" | "dai_type" | "format" | "process" => Takes::Text,
+        "control" => Takes::Control,
+        "min" | "tlv_min" => Takes::Signed,
+        "max" if keys.len() == PGA_KEYS.len() => Takes::Signed,
+        "items" => Takes::Items,
+        "blob" => Takes::Hex,
+        "formats" => Takes::Formats,
+        "widget" | "route" | "pcm" => Takes::Tables,
+        _ => Takes::Number,
+    }
+}
+
+// Whether a key that is no token has to stand in its table.
+fn is_required(key: &str) -> bool {
+    !matches!(
+        key,
+        "sname" | "control" | "playback" | "capture" | "widget" | "route" | "pcm"
+    )
+}
+
+// Whether a key is that of a token.
+fn is_token(key: &str) -> bool {
+    NUMBER_TOKENS.iter().any(|token| token.key == key)
+        || TEXT_TOKENS.iter().any(|token| token.key == key)
+}
+
+// What is wrong with the value at a key, where there is one.
+fn value_fault(
+    alloc: Global,
+    table: &Table,
+    keys: &[&'static str],
+    key: &'static str,
+) -> Result<Option<KeyFault<'static>>, NoMemory> {
+    let takes = takes_at(keys, key);
+    match table.get(key) {
+        Some(value) => {
+            if takes.takes(alloc, value)? {
+                Ok(None)
+            } else {
+                Ok(Some(KeyFault::Value { key, takes }))
+            }
+        }
+        None => Ok(None),
+    }
+}
+
+// What is wrong in a table that takes these keys and, if `tokens`, those of tokens.
+fn table_fault<'a>(
+    alloc: Global,
+    table: &'a Table,
+    keys: &[&'static str],
+    tokens: bool,
+) -> Result<Option<KeyFault<'a>>, NoMemory> {
+    for key in table.keys() {
+        let key = key.as_str();
+        if !keys.contains(&key) && !(tokens && is_token(key)) {
+            return Ok(Some(KeyFault::Unknown(key)));
+        }
+    }
+    for key in keys {
+        if is_required(*key) && table.get(*key).is_none() {
+            return Ok(Some(KeyFault::Wanting(*key)));
+        }
+        if let Some(fault) = value_fault(alloc, table, keys, *key)? {
+            return Ok(Some(fault));
+        }
+    }
+    if tokens {
+        for token in NUMBER_TOKENS.iter().chain(TEXT_TOKENS.iter()) {
+            if let Some(fault) = value_fault(alloc, table, keys, token.key)? {
+                return Ok(Some(fault));
+            }
+        }
+    }
+    Ok(None)
+}
+
+// The keys of the control of a widget.
+fn control_keys(widget: &Table) -> Option<&'static [&'static str]> {
+    match widget.get("kind")?.as_str()? {
+        "pga" => Some(&PGA_KEYS),
+        "mux" => Some(&MUX_KEYS),
+        "effect" => Some(&EFFECT_KEYS),
+        _ => None,
+    }
+}
+
+// What is wrong in the control of a widget whose own keys are right.
+fn control_fault(alloc: Global, widget: &Table) -> Result<Option<KeyFault<'_>>, NoMemory> {
+    let Some(control) = widget.get("control") else {
+        return Ok(None);
+    };
+    let Some(keys) = control_keys(widget) else {
+        return Ok(Some(KeyFault::NoControl));
+    };
+    match control.as_table() {
+        Some(control) => table_fault(alloc, control, keys, false),
+        None => Ok(None),
+    }
+}
+
+// What is wrong with an entry of a list.
+fn entry_fault(alloc: Global, list: List, entry: &Table) -> Result<Option<KeyFault<'_>>, NoMemory> {
+    match list {
+        List::Top => table_fault(alloc, entry, &DOCUMENT_KEYS, false),
+        List::Widget => match table_fault(alloc, entry, &WIDGET_KEYS, true)? {
+            Some(fault) => Ok(Some(fault)),
+            None => control_fault(alloc, entry),
+        },
+        List::Route => table_fault(alloc, entry, &ROUTE_KEYS, false),
+        List::Pcm => table_fault(alloc, entry, &PCM_KEYS, false),
+    }
+}
+
+// The key of a list in a document.
+fn list_key(list: List) -> &'static str {
+    match list {
+        List::Top => "",
+        List::Widget => "widget",
+        List::Route => "route",
+        List::Pcm => "pcm",
+    }
+}
+
+// The text at a key, empty where there is none.
+fn text_at<'a>(entry: &'a Table, key: &str) -> &'a str {
+    match entry.get(key) {
+        Some(value) => value.as_str().unwrap_or(""),
+        None => "",
+    }
+}
+
+// An entry by its list, its number, and what it is called.
+#[derive(Clone, Copy)]
+struct EntryName<'a> {
+    list: List,
+    number: u32,
+    entry: &'a Table,
+}
+
+impl Display for EntryName<'_> {
+    fn fmt<W: fmt::Write>(&self, f: &mut fmt::Formatter<W>) -> fmt::Result {
+        let (number, entry) = (self.number, self.entry);
+        match self.list {
+            List::Top => write!(f, "the document"),
+            List::Route => write!(
+                f,
+                "route {number} ({} to {})",
+                Shown(text_at(entry, "source").as_bytes()),
+                Shown(text_at(entry, "sink").as_bytes())
+            ),
+            list => write!(
+                f,
+                "{} {number} ({})",
+                list_key(list),
+                Shown(text_at(entry, "name").as_bytes())
+            ),
+        }
+    }
+}
+
+// The entry of a list and a number in a document.
+fn entry_at(document: &Table, list: List, number: u32) -> Option<&Table> {
+    match list {
+        List::Top => Some(document),
+        list => document
+            .get(list_key(list))?
+            .as_array()?
+            .get(number as usize)?
+            .as_table(),
+    }
+}
+
+// The line of a place in a text, from 1.
+fn line_at(text: &[u8], place: usize) -> usize {
+    text.iter()
+        .take(place)
+        .filter(|byte| **byte == b'\n')
+        .count()
+        .saturating_add(1)
+}
+
+// The sentence of a text that is no TOML.
+fn syntax(alloc: Global, file: &str, text: &[u8]) -> Result<Option<String>, NoMemory> {
+    match toml::table_from_slice(alloc, text) {
+        Ok(_) => Ok(None),
+        Err(error) => {
+            let place = match error.span() {
+                Some(span) => span.start,
+                None => return Err(NoMemory),
+            };
+            let line = line_at(text, place);
+            Ok(Some(format!(in alloc; "{}:{line}: {}", ShownName(file), error.message())?))
+        }
+    }
+}
+
+// The sentence of an entry at fault.
+fn shape(
+    alloc: Global,
+    file: &str,
+    text: &[u8],
+    list: List,
+    number: u32,
+) -> Result<Option<String>, NoMemory> {
+    let Ok(document) = toml::table_from_slice(alloc, text) else {
+        return Ok(None);
+    };
+    let Some(entry) = entry_at(&document, list, number) else {
+        return Ok(None);
+    };
+    let Some(fault) = entry_fault(alloc, list, entry)? else {
+        return Ok(None);
+    };
+    let name = EntryName {
+        list,
+        number,
+        entry,
+    };
+    Ok(Some(format!(in alloc; "{}: {name}: {fault}", ShownName(file))?))
+}
+
+// The sentence of a rule that the topology of a source breaks.
+fn rule(
+    alloc: Global,
+    file: &str,
+    text: &[u8],
+    rule: u8,
+    item: u32,
+) -> Result<Option<String>, NoMemory>
+    requires { length text.now ≤ 1048576 }
+{
+    let topology = match unruled(alloc, text) {
+        Ok(topology) => topology,
+        Err(SourceFault::OutOfMemory) => return Err(NoMemory),
+        Err(_) => return Ok(None),
+    };
+    let wiring = Wiring::of(alloc, &topology)?;
+    let fault = RuleFault {
+        rule,
+        item,
+        topology: &topology,
+        wiring: &wiring,
+    };
+    Ok(Some(format!(in alloc; "{}: {fault}", ShownName(file))?))
+}
+
+/// The sentence of the fault of a source, with the name of its file in front; none where nothing is wrong.
+pub fn source_sentence(alloc: Global, file: &str, text: &[u8]) -> Result<Option<String>, NoMemory>
+    requires { length text.now ≤ 1048576 }
+{
+    match compile(alloc, text) {
+        Ok(_) => Ok(None),
+        Err(SourceFault::Syntax) => syntax(alloc, file, text),
+        Err(SourceFault::Shape { list, entry }) => shape(alloc, file, text, list, entry),
+        Err(SourceFault::Rule { rule: broken, item }) => rule(alloc, file, text, broken, item),
+        Err(SourceFault::OutOfMemory) => Err(NoMemory),
+    }
+}

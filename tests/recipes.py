@@ -17,6 +17,9 @@ A line that begins with '#' is a remark. Several lines of one FILE are joined.
                          channels, with commas between them
   changed FILE AT HEX    FILE with these bytes at a place
   front COUNT FILE       the first COUNT bytes of FILE
+  slice FIRST COUNT FILE COUNT bytes of FILE from byte FIRST on, of which the first is 0
+  masked FILE WIDGET CHANNELS LEAST MOST
+                         the topology FILE with a control of so many masks at a widget, from LEAST to MOST, which no source can state
   graph NAME             tests/graphs/NAME.tplg
   example NAME           examples/NAME
 Of topology.py:
@@ -108,6 +111,12 @@ def bytes_of(recipe, rest, files):
     if recipe == "changed":
         name, at, digits = rest.split()
         return changed(files[name], int(at), bytes.fromhex(digits))
+    if recipe == "slice":
+        first, count, name = rest.split()
+        return files[name][int(first) : int(first) + int(count)]
+    if recipe == "masked":
+        file, *rest = rest.split()
+        return topology.masked(files[file], *rest)
     if recipe == "front":
         count, name = rest.split()
         return files[name][: int(count)]

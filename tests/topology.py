@@ -42,6 +42,21 @@ def widget(kind, index, text, stream="", tokens={}, format_text=None, control=b"
     return block(5, index, [record + private + control])
 
 
+def masked(data, text, channels, least, most):
+    """A topology file with a control of masks at the widget of this name, which is alone in its block and has no control yet."""
+    parts, at = [], 0
+    while at < len(data):
+        kind, _, _, size = struct.unpack_from("<4I", data, at + 12)
+        head, records = data[at : at + 36], data[at + 36 : at + 36 + size]
+        at += 36 + size
+        if kind == 5 and records[8:52] == name(text):
+            control = volume_control("Masks", int(channels), int(least), int(most), ())
+            records = records[:124] + words(1) + records[128:] + control
+            head = head[:24] + words(len(records)) + head[28:]
+        parts.append(head + records)
+    return b"".join(parts)
+
+
 def routes(pairs):
     return block(4, 0, [name(sink) + name("") + name(source) for source, sink in pairs])
 

@@ -247,7 +247,9 @@ module _ {D P : Type 0} (means : DeskMeaning D) (dsp : Meaning P) (words : List 
   checks =
       record {
         alone = untouched;
-        judged = λ name bytes is told. judge name bytes means ran.turns ran.played.calls status old new told (goes_on name is) ran.played.led;
-        heard = λ name bytes is heard. heard_judge name bytes means ran.turns ran.played.calls status old new heard (goes_on name is) ran.played.led;
+        judged = λ name bytes is by. elim by [
+          | inl told ↦ judge name bytes means ran.turns ran.played.calls status old new told (goes_on name is) ran.played.led
+          | inr heard ↦ heard_judge name bytes means ran.turns ran.played.calls status old new heard (goes_on name is) ran.played.led
+        ];
         counted = λ name bytes t is told short right. check_told means name bytes t short (checked_only bytes (Ok t) right) ran.turns ran.played.calls old new status told (goes_on name is) ran.played.led;
       }

@@ -308,8 +308,10 @@ module _ {D P : Type 0} (means : DeskMeaning D) (dsp : Meaning P) (words : List 
   compiles =
       record {
         alone = untouched;
-        judged = λ names text named told. judge names text means ran.turns ran.played.calls status old new told (goes_on names named) ran.played.led;
-        heard = λ names text is heard. heard_judge names text means ran.turns ran.played.calls status old new heard (goes_on names is) ran.played.led;
+        judged = λ names text is by. elim by [
+          | inl told ↦ judge names text means ran.turns ran.played.calls status old new told (goes_on names is) ran.played.led
+          | inr heard ↦ heard_judge names text means ran.turns ran.played.calls status old new heard (goes_on names is) ran.played.led
+        ];
         wrote = λ names text t named told short is. compile_wrote means names text t short (compiled_again text t is) ran.turns ran.played.calls old new status told (goes_on names named) ran.played.led;
         reads_back = λ names text t named told is done. (makes names text t (record { named = named; told = told }) (compiled_again text t is) done, IsFileOf-spelling t);
       }

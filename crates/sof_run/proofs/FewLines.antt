@@ -16,6 +16,7 @@ use Rattle.host_widgets.specs.declared.kept.Record.{Record}
 use Rattle.host_widgets.specs.Kept.{controls_of}
 use Rattle.host_widgets.proofs.NamedIds.{few-widgets}
 use Rattle.sof_session.specs.Show as show
+use Rattle.sof_session.specs.StateLines as state_lines
 use Rattle.sof_session.specs.ShownLines as shown_lines
 
 -- a line that is there has a number below theirs
@@ -43,7 +44,7 @@ module _ (plan : Plan) (sound : IsSound plan) (kept : Record) where
       let ends : StreamPlan → ℕ × Bool = λ s. (s.host, s.capture) in
       omega (arith, length-map plan.streams ends, ap length sound.hosts, few_hosts plan.graph.comps, sound.comps)
 
-  some_streams : length (show.stream_lines plan kept) ≤ 128
+  some_streams : length (state_lines.stream_lines plan kept) ≤ 128
   some_streams =
       omega (arith, length-map (zip plan.streams kept.streams) (show.stream_line plan), length-zip plan.streams kept.streams, min-le_left (length plan.streams) (length kept.streams), few_streams)
 
@@ -53,9 +54,9 @@ module _ (plan : Plan) (sound : IsSound plan) (kept : Record) where
       let edges : List (List ℕ) = map show.edge_line plan.graph.edges in
       omega (
         arith,
-        length-append widgets (edges ++ show.state_lines plan kept),
-        length-append edges (show.state_lines plan kept),
-        length-append (show.stream_lines plan kept) (show.control_lines plan kept),
+        length-append widgets (edges ++ state_lines.state_lines plan kept),
+        length-append edges (state_lines.state_lines plan kept),
+        length-append (state_lines.stream_lines plan kept) (state_lines.control_lines plan kept),
         length-map-range_with_len (show.widget_line plan) 0 (length plan.widgets),
         length-map plan.graph.edges show.edge_line,
         length-map (controls_of plan kept) (show.control_line plan),

@@ -1,16 +1,18 @@
 -- All that `run` ensures, from what it did.
-use Rattle.std.proofs.Common.{◌≡◌, ◌⊎◌, inl, inr, ℕ, List, length, map, take, Option, Some, None, Ok, refl, sym, ap, ◌∙◌, subst, arith, codes}
+use Rattle.std.proofs.Common.{◌≡◌, ◌⊎◌, inl, inr, ℕ, List, [], length, map, take, Option, Some, None, Ok, refl, sym, ap, ◌∙◌, subst, arith, codes}
 use Rattle.std.specs.List.{AllByRecursion}
 use Rattle.sof_desk.specs.Desk.{DeskMeaning, DeskCall, CountRose}
 use Rattle.mbox_link.specs.Calls.{Meaning}
 use Rattle.tplg_model.specs.declared.block.Topology.{Topology}
 use Rattle.tplg_graph.specs.PlanOf.{plan_of}
 use Rattle.sof_script.specs.Commands.{Read}
-use Rattle.sof_session.specs.Written.{Leg}
+use Rattle.sof_session.specs.Written.{Ground, Leg}
+use Rattle.sof_session.specs.Fills.{bytes_read}
 use Rattle.sof_session.specs.RunOver.{RunOver}
-use Rattle.sof_session.specs.Lives.{Bare, Turn, Turns}
+use Rattle.sof_session.specs.Lives.{Bare, Turn, Turns, reads_in}
 use Rattle.sof_run.specs.Todo.{Todo, Says, DoneBy}
 use Rattle.sof_run.specs.Throughout.{Throughout}
+use Rattle.sof_run.specs.Bindings.{bound_files}
 use Rattle.sof_run.specs.Rounds.{Round, rounds_of}
 use Rattle.sof_run.specs.Prepared.{Ready, prepared}
 use Rattle.sof_run.specs.Play.{play}
@@ -21,8 +23,8 @@ use Rattle.sof_run.specs.Requests.{Request, Play, Check, Compile, Stress, reques
 use Rattle.sof_run.specs.Forms.{todo_for, todo_of}
 use Rattle.sof_run.specs.Ends.{IsEarly, Worded}
 use Rattle.sof_run.specs.Verdicts.{MakeRun, Judged}
-use Rattle.sof_run.specs.Plays.{Plays, Unbegun, PlaysWhole, ground_in}
-use Rattle.sof_run.specs.HeardRuns.{heard_ground, PlaysWhatIsHeard}
+use Rattle.sof_run.specs.Plays.{Plays, Unbegun, PlaysWhole, ground_of}
+use Rattle.sof_run.specs.HeardRuns.{PlaysWhatIsHeard}
 use Rattle.sof_run.specs.Todo.{Gave}
 use Rattle.sof_run.specs.Run.{Left}
 use Rattle.sof_run.specs.Findings.{FollowsCourse}
@@ -135,21 +137,22 @@ module _ {D P : Type 0} (means : DeskMeaning D) (dsp : Meaning P) (words : List 
       (subst (λ r. DoneBy (todo_for (dsp.most p) sent r) gave.ran.turns gave.ran.played.calls status) (play_asked (dsp.most p) words form is_form) goes) gave.ran.played.led
 
   pub plays_whole : dsp.on p ≡ None → PlaysWhole means dsp words old new status p gave.last gave.ran.turns
-  plays_whole off run =
+  plays_whole off run told =
       let plan = plan_of run.t in
+      let g : Ground = ground_of run (bound_files plan (means.holds old) [] run.read.bindings) in
       let turns = gave.ran.turns in
       let ready = files_ready run.topology run.script run.t run.read run.make_run in
       let whole = sound_plan run.t run.make_run.file.0 run.make_run.whole in
       let same : todo ≡ play run.form = ap (todo_for (dsp.most p) sent) (play_asked (dsp.most p) words run.form run.is_form) in
       let next : Next means (play run.form) turns status old new = record { calls = gave.ran.played.calls; goes = subst (λ x. DoneBy x turns gave.ran.played.calls status) same goes; led = gave.ran.played.led } in
       let sound = script_sound run.script run.read (omega (arith, run.fit.1)) run.make_run.lines.0 in
-      (elim (play_goes means dsp run.form run.topology run.script plan run.read ready turns status old new p gave.last gave.ran.turned run.is_topology run.is_script run.fit.0 run.fit.1 run.given next) as (λ w. Plays means dsp (ground_in run) (rounds_of run.read.commands) old new status p gave.last turns ⊎ Unbegun means (ground_in run).slots old new status p gave.last) [
+      (elim (play_goes means dsp run.form run.topology run.script plan run.read ready turns status old new p gave.last gave.ran.turned told.0 told.1 run.fit.0 run.fit.1 told.2 next) as (λ w. Plays means dsp g (rounds_of run.read.commands) old new status p gave.last turns ⊎ Unbegun means g.slots old new status p gave.last) [
         | inl b ↦ inl (plays means dsp run.form run.topology run.script plan run.read ready turns status old new p gave.last gave.ran.turned off whole run.make_run.right sound.few b)
         | inr b ↦ inr (before_begun means dsp run.form run.topology run.script plan run.read ready turns status old new p gave.last gave.ran.turned b)
       ])
 
   pub plays_heard : dsp.on p ≡ None → PlaysWhatIsHeard dsp words gave.ran.played.calls gave.ran.turns status p gave.last
-  plays_heard off a =
+  plays_heard off a heard =
       let plan = plan_of a.t in
       let turns = gave.ran.turns in
       let ready = files_ready a.topology a.script a.t a.read a.make_run in
@@ -157,7 +160,7 @@ module _ {D P : Type 0} (means : DeskMeaning D) (dsp : Meaning P) (words : List 
       let sound = script_sound a.script a.read (omega (arith, a.fit.1)) a.make_run.lines.0 in
       let same : todo ≡ play a.form = ap (todo_for (dsp.most p) sent) (play_asked (dsp.most p) words a.form a.is_form) in
       let done : DoneBy (play a.form) turns gave.ran.played.calls status = subst (λ x. DoneBy x turns gave.ran.played.calls status) same goes in
-      (elim (play_heard a.form a.topology a.script plan a.read ready turns status gave.ran.played.calls a.heard done) as (λ w. ((legs : List Leg) × RunOver dsp (heard_ground a turns) (take (length legs) (map (λ (round : Round). round.numbered.command) (rounds_of a.read.commands))) legs p turns gave.last) ⊎ (((status ≡ 3) ⊎ (status ≡ 7)) × (gave.last ≡ Bare p))) [
+      (elim (play_heard a.form a.topology a.script plan a.read ready turns status gave.ran.played.calls heard done) as (λ w. ((legs : List Leg) × RunOver dsp (ground_of a (bytes_read (reads_in turns))) (take (length legs) (map (λ (round : Round). round.numbered.command) (rounds_of a.read.commands))) legs p turns gave.last) ⊎ (((status ≡ 3) ⊎ (status ≡ 7)) × (gave.last ≡ Bare p))) [
         | inl b ↦ inl (
           legs a.form a.topology a.script plan a.read ready turns status dsp p gave.last gave.ran.turned off whole a.make_run.right sound.few b,
           over_is a.form a.topology a.script plan a.read ready turns status dsp p gave.last gave.ran.turned off whole a.make_run.right sound.few b,

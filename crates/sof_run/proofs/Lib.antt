@@ -1,7 +1,6 @@
 pub mod Steps
 pub mod Wanted
 pub mod Refills
-pub mod Numbers
 pub mod Commands
 pub mod BrokenFiles
 pub mod Plays

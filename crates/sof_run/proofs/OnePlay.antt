@@ -11,9 +11,10 @@ use Rattle.sof_session.specs.Lives.{Life, Turn, device_of}
 use Rattle.sof_session.specs.SessionStep.{Calm}
 use Rattle.sof_session.proofs.OneRun.{one-run}
 use Rattle.sof_session.proofs.RankedRuns.{empty-ranks}
+use Rattle.sof_run.specs.Bindings.{bound_files}
 use Rattle.sof_run.specs.Rounds.{Round, rounds_of}
 use Rattle.sof_run.specs.Pieces.{Piece, pieces_of, AreWritten, opened, bytes_of_pieces}
-use Rattle.sof_run.specs.Plays.{Plays, Unbegun, ground_in}
+use Rattle.sof_run.specs.Plays.{Plays, Unbegun, ground_of}
 use Rattle.sof_run.specs.PlayLaws.{PlaysAreOne}
 use Rattle.sof_run.proofs.PlanWords.{sound_plan}
 
@@ -84,6 +85,6 @@ module _ {D P : Type 0} (means : DeskMeaning D) (dsp : Meaning P) where
   by g sound rounds old new other p last end ts us calm still (inr x) y place = not_begun 0 refl x.ended
 
   pub plays_one : PlaysAreOne means dsp
-  plays_one words old new other p q r play a b calm still place =
-      by (ground_in play) (sound_plan play.t play.make_run.file.0 play.make_run.whole) (rounds_of play.read.commands) old new other p a.last b.last a.called.turns b.called.turns
-      (subst (λ (d : P). Calm dsp p d) (sym a.exit.is) calm) (subst (λ (d : P). Calm dsp p d) (sym b.exit.is) still) (a.run play) (b.run play) place
+  plays_one words old new other p q r play told a b calm still place =
+      by (ground_of play (bound_files (plan_of play.t) (means.holds old) [] play.read.bindings)) (sound_plan play.t play.make_run.file.0 play.make_run.whole) (rounds_of play.read.commands) old new other p a.last b.last a.called.turns b.called.turns
+      (subst (λ (d : P). Calm dsp p d) (sym a.exit.is) calm) (subst (λ (d : P). Calm dsp p d) (sym b.exit.is) still) (a.run play told) (b.run play told) place

@@ -24,7 +24,7 @@ use Rattle.sof_run.specs.Play.{bindings_todo}
 use Rattle.sof_run.specs.Pieces.{opened, WroteNone}
 use Rattle.sof_run.specs.LineParts.{IsKeptOrOpened}
 use Rattle.sof_run.specs.Plays.{IsGiven}
-use Rattle.sof_run.specs.Ends.{IsOpening}
+use Rattle.sof_run.specs.Opening.{IsOpeningAct}
 use Rattle.sof_run.proofs.WrittenPieces.{more_none, put_part}
 
 -- ---- slots
@@ -171,10 +171,10 @@ module _ {D : Type 0} (means : DeskMeaning D) where
     pub next : Next todo turns status mid new
     pub acted : Acted means act true old mid
 
-  act_goes : (act : DeskAct) → IsOpening act → (rest : Todo) (turns : List Turn) (status : ℕ) (old new : D) → Next (Do act rest) turns status old new → Done act rest turns status old new ⊎ NotOpened turns status old new
+  act_goes : (act : DeskAct) → IsOpeningAct act → (rest : Todo) (turns : List Turn) (status : ℕ) (old new : D) → Next (Do act rest) turns status old new → Done act rest turns status old new ⊎ NotOpened turns status old new
   act_goes act opens rest turns status old new n = by n.calls n.goes n.led
     where
-      kept : (act : DeskAct) → IsOpening act → (part : List ℕ) (place : DeskPlace) (o : Option (List ℕ)) → written_after act false part place o ≡ o
+      kept : (act : DeskAct) → IsOpeningAct act → (part : List ℕ) (place : DeskPlace) (o : Option (List ℕ)) → written_after act false part place o ≡ o
       kept (Create slot name) opens part place o = refl
       kept (Put to piece) opens part place o = absurd opens
       kept (Open slot name) opens part place o = refl

@@ -1,15 +1,19 @@
 -- What words of each form ask for: no words have two forms.
 use Rattle.std.proofs.Common.{◌≡◌, ℕ, ◌≤◌, nat_le, ◌&&◌, Bool, true, false, List, [], ◌∷◌, Option, Some, None, refl, sym, ◌∙◌, ap, subst, codes, arith, if◌then◌else◌}
-use Rattle.std.specs.Prelude.{option_map}
+use Rattle.std.specs.Prelude.{option_map, Ok, Err}
+use Rattle.std.specs.Result.{result_ok}
 use Rattle.std.specs.Option.{option_or}
 use Rattle.std.specs.Str.{bytes_eq}
-use Rattle.std.proofs.lemmas.Bool.Decides.{nat_tests}
+use Rattle.std.proofs.lemmas.Bool.{and_parts, leb-true}
 use Rattle.std.proofs.lemmas.Slice.Eq.{bytes_eq-Decides}
-use Rattle.sof_run.specs.Words.{Form, at_most, decimal_number, is_file_name, form_with, play_of}
-use Rattle.sof_run.specs.LineParts.{form}
+use Rattle.sof_script.specs.declared.fault_causes.Cause.{Cause}
+use Rattle.sof_script.specs.declared.fault_causes.Cause.TheVariants as causes
+use Rattle.sof_script.specs.ValueForms.{in_range, decimal_value, number_value}
+use Rattle.sof_run.specs.Words.{Form, is_file_name, form_with, play_of}
 use Rattle.sof_run.specs.Checking.{check_of}
 use Rattle.sof_run.specs.Compiling.{CompileNames, compile_of}
-use Rattle.sof_run.specs.Stressing.{at_least_one, stress_of}
+use Rattle.sof_run.specs.Stressing.{stress_of}
+use Rattle.sof_run.specs.LineParts.{form}
 use Rattle.sof_run.specs.Requests.{Request, Play, Check, Compile, Stress, request_of}
 
 -- a value that a test lets through
@@ -43,7 +47,7 @@ pub stress_asked : (room : ℕ) (words : List (List ℕ)) (seed : ℕ) → stres
 stress_asked room [] seed is = absurd (cc is)
 stress_asked room (verb ∷ []) seed is = absurd (cc is)
 stress_asked room (verb ∷ number ∷ []) seed is =
-    let other = not_both verb (some_by (bytes_eq verb (codes "stress")) (at_least_one (at_most 1000 (decimal_number number))) seed is).0 in
+    let other = not_both verb (some_by (bytes_eq verb (codes "stress")) (result_ok (number_value 1 1000 number)) seed is).0 in
     rw (other, is) refl
 stress_asked room (verb ∷ number ∷ more ∷ words) seed is = absurd (cc is)
 
@@ -67,13 +71,13 @@ formless_asked room words no_play no_check no_compile no_stress = rw (no_play, n
 
 -- ---- its numbers
 
-at_most_most : (room : ℕ) (o : Option ℕ) (n : ℕ) → at_most room o ≡ Some n → n ≤ room
-at_most_most room None n is = absurd (cc is)
-at_most_most room (Some m) n is =
-    let test = some_by (nat_le m room) (Some m) n is in
-    let same : m ≡ n = cc test.1 in
-    let le = test.0 in
-    grind (arith, nat_tests, same, le)
+in_range_most : (least most : ℕ) (o : Option ℕ) (n : ℕ) → result_ok (in_range least most o) ≡ Some n → n ≤ most
+in_range_most least most None n is = absurd (cc is)
+in_range_most least most (Some m) n is = by (nat_le least m && nat_le m most) refl is
+  where
+    by : (t : Bool) → (nat_le least m && nat_le m most) ≡ t → result_ok {T = ℕ} {E = Cause} (if t then Ok m else Err causes.Number) ≡ Some n → n ≤ most
+    by true test is = let same : m ≡ n = cc is in subst (λ (k : ℕ). k ≤ most) same (leb-true m most (and_parts (nat_le least m) (nat_le m most) test).1)
+    by false test is = absurd (cc is)
 
 -- the heap of a form is at most the room
 play_most : (room : ℕ) (words : List (List ℕ)) (f : Form) → play_of room words ≡ Some f → f.heap ≤ room
@@ -82,26 +86,21 @@ play_most room (verb ∷ []) f is = absurd (cc is)
 play_most room (verb ∷ heap ∷ []) f is = absurd (cc is)
 play_most room (verb ∷ heap ∷ topology ∷ []) f is = absurd (cc is)
 play_most room (verb ∷ heap ∷ topology ∷ script ∷ []) f is =
-    by (at_most room (decimal_number heap)) refl (some_by (bytes_eq verb (codes "play")) (form_with (at_most room (decimal_number heap)) topology script) f is).1
+    by (result_ok (number_value 0 room heap)) refl (some_by (bytes_eq verb (codes "play")) (form_with (result_ok (number_value 0 room heap)) topology script) f is).1
   where
-    by : (o : Option ℕ) → at_most room (decimal_number heap) ≡ o → form_with o topology script ≡ Some f → f.heap ≤ room
+    by : (o : Option ℕ) → result_ok (number_value 0 room heap) ≡ o → form_with o topology script ≡ Some f → f.heap ≤ room
     by None number is = absurd (cc is)
     by (Some n) number is =
         let same : form n topology script ≡ f = cc (some_by (is_file_name topology && is_file_name script) (Some (form n topology script)) f is).1 in
-        subst (λ (f : Form). f.heap ≤ room) same (at_most_most room (decimal_number heap) n number)
+        subst (λ (f : Form). f.heap ≤ room) same (in_range_most 0 room (decimal_value heap) n number)
 play_most room (verb ∷ heap ∷ topology ∷ script ∷ more ∷ words) f is = absurd (cc is)
 
 -- the number of a stress is at most 1000
-at_least_one_same : (o : Option ℕ) (n : ℕ) → at_least_one o ≡ Some n → o ≡ Some n
-at_least_one_same None n is = is
-at_least_one_same (Some m) n is = (some_by (nat_le 1 m) (Some m) n is).1
-
 pub stress_most : (words : List (List ℕ)) (seed : ℕ) → stress_of words ≡ Some seed → seed ≤ 1000
 stress_most [] seed is = absurd (cc is)
 stress_most (verb ∷ []) seed is = absurd (cc is)
 stress_most (verb ∷ number ∷ []) seed is =
-    let o = at_most 1000 (decimal_number number) in
-    at_most_most 1000 (decimal_number number) seed (at_least_one_same o seed (some_by (bytes_eq verb (codes "stress")) (at_least_one o) seed is).1)
+    in_range_most 1 1000 (decimal_value number) seed (some_by (bytes_eq verb (codes "stress")) (result_ok (number_value 1 1000 number)) seed is).1
 stress_most (verb ∷ number ∷ more ∷ words) seed is = absurd (cc is)
 
 -- heap and number are at most these

@@ -1,7 +1,7 @@
 -- The numbers of a script's commands are in their ranges, and there are at most as many commands as bytes.
 use Rattle.std.proofs.Common.{◌≡◌, refl, sym, subst, ℕ, zero, suc, ◌+◌, ◌≤◌, ◌<◌, ◌^◌, ℤ, pos, negsuc, Bool, true, false, cond, ◌&&◌, List, [], ◌∷◌, length, Option, Some, None, Result, Ok, Err, arith}
 use Rattle.std.specs.Prelude.{IfOk, nat_le, nat_eq, ◌-ℤ◌, codes}
-use Rattle.std.specs.List.{list_all}
+use Rattle.std.specs.List.{list_all, onto_first}
 use Rattle.std.specs.Str.{bytes_eq}
 use Rattle.std.proofs.Math.IntN.{+ℤ_idl}
 use Rattle.std.proofs.lemmas.Bool.{and_parts, and_from, leb-true, lt-ltb, false≢true}
@@ -13,10 +13,10 @@ use Rattle.sof_script.specs.declared.fault_causes.Cause.TheVariants as causes
 use Rattle.sof_script.specs.declared.items.Item.{Item}
 use Rattle.sof_script.specs.declared.items.Item.TheVariants.{Nothing, Bind, Do}
 use Rattle.sof_script.specs.declared.reading.ScriptFault.{ScriptFault}
-use Rattle.sof_script.specs.Splitting.{before_line, lines_of, without_return, is_skipped, all_plain, tokens_of}
+use Rattle.sof_script.specs.Splitting.{lines_of, without_return, is_skipped, all_plain, tokens_of}
 use Rattle.sof_script.specs.TokenStarts.{with_byte}
 use Rattle.sof_script.specs.ValueForms.{name_value, file_value, format_value, hex_value, in_range, decimal_value, number_value, negative, error_value}
-use Rattle.sof_script.specs.Commands.{◌⊛◌, any_number, message_number, number_values, one_name, one_number, alone, bound, params_item, values_item, hex_item, error_item, lag_item, said_by, item_of, line_item, Read, with_item, lines_read, script_of}
+use Rattle.sof_script.specs.Commands.{◌⊛◌, any_number, message_number, number_values, one_value, two_values, alone, params_item, values_item, said_by, item_of, line_item, Read, with_item, lines_read, script_of}
 use Rattle.sof_session.specs.CommandRanges.{is_ahead, is_lag, is_refusal, is_in_range}
 use Rattle.sof_run.specs.Halts.{IsInRange}
 
@@ -68,11 +68,6 @@ in_between least most (Some n) = by_test (nat_le least n && nat_le n most) refl
     by_test true is = is
     by_test false is = tt
 
-one_between : (most : ℕ) (args : List (List ℕ)) → IfOk (one_number most args) (Between 1 most)
-one_between most [] = tt
-one_between most (token ∷ []) = in_between 1 most (decimal_value token)
-one_between most (token ∷ other ∷ args) = tt
-
 below_zero : (n : ℕ) → Between 1 4095 n → is_refusal (pos 0 -ℤ pos n) ≡ true
 below_zero zero is = absurd (false≢true is)
 below_zero (suc n) is =
@@ -96,11 +91,23 @@ alone_fine : (command : Command) (args : List (List ℕ)) → is_in_range comman
 alone_fine command [] is = is
 alone_fine command (token ∷ args) is = tt
 
-bound_fine : (input : Bool) (args : List (List ℕ)) → Fine (bound input args)
-bound_fine input [] = tt
-bound_fine input (endpoint ∷ []) = tt
-bound_fine input (endpoint ∷ file ∷ []) = always_two (Bind input) (name_value endpoint) (file_value file) (λ e f. tt)
-bound_fine input (endpoint ∷ file ∷ other ∷ args) = tt
+one_fine : {A : Type 0} (P : A → Type 0) (read : List ℕ → Result A Cause) (make : A → Command) → ((token : List ℕ) → IfOk (read token) P) → ((v : A) → P v → is_in_range (make v) ≡ true)
+    → (args : List (List ℕ)) → Fine (one_value read make args)
+one_fine P read make reads fine [] = tt
+one_fine P read make reads fine (token ∷ []) = applied P Ranged (Ok (λ v. Do (make v))) (read token) fine (reads token)
+one_fine P read make reads fine (token ∷ other ∷ args) = tt
+
+one_any : {A : Type 0} (read : List ℕ → Result A Cause) (make : A → Command) → ((v : A) → is_in_range (make v) ≡ true) → (args : List (List ℕ)) → Fine (one_value read make args)
+one_any read make fine [] = tt
+one_any read make fine (token ∷ []) = always (λ v. Do (make v)) (read token) fine
+one_any read make fine (token ∷ other ∷ args) = tt
+
+two_any : {A B : Type 0} (first : List ℕ → Result A Cause) (second : List ℕ → Result B Cause) (make : A → B → Item) → ((v : A) (u : B) → Ranged (make v u))
+    → (args : List (List ℕ)) → Fine (two_values first second make args)
+two_any first second make fine [] = tt
+two_any first second make fine (token ∷ []) = tt
+two_any first second make fine (token ∷ other ∷ []) = always_two make (first token) (second other) fine
+two_any first second make fine (token ∷ other ∷ more ∷ args) = tt
 
 params_fine : (args : List (List ℕ)) → Fine (params_item args)
 params_fine [] = tt
@@ -122,14 +129,7 @@ values_fine (control ∷ value ∷ values) =
     let make : List ℕ → List ℕ → Item = λ c vs. Do (commands.Set c vs) in
     fine_if (nat_le (length values) 7) (Ok make ⊛ name_value control ⊛ number_values (value ∷ values)) (Err causes.Count) (always_two make (name_value control) (number_values (value ∷ values)) (λ c vs. refl)) tt
 
-hex_fine : (args : List (List ℕ)) → Fine (hex_item args)
-hex_fine [] = tt
-hex_fine (control ∷ []) = tt
-hex_fine (control ∷ hex ∷ []) =
-    let make : List ℕ → List ℕ → Item = λ c bytes. Do (commands.Bytes c bytes) in always_two make (name_value control) (hex_value hex) (λ c bytes. refl)
-hex_fine (control ∷ hex ∷ other ∷ args) = tt
-
-refuse_fine : (args : List (List ℕ)) → Fine (error_item args)
+refuse_fine : (args : List (List ℕ)) → Fine (two_values message_number error_value (λ k e. Do (commands.Refuse k e)) args)
 refuse_fine [] = tt
 refuse_fine (message ∷ []) = tt
 refuse_fine (message ∷ error ∷ []) =
@@ -140,7 +140,7 @@ refuse_fine (message ∷ error ∷ []) =
     (error_refuses error)
 refuse_fine (message ∷ error ∷ other ∷ args) = tt
 
-lag_fine : (args : List (List ℕ)) → Fine (lag_item args)
+lag_fine : (args : List (List ℕ)) → Fine (two_values message_number (number_value 1 16) (λ k n. Do (commands.Lag k n)) args)
 lag_fine [] = tt
 lag_fine (message ∷ []) = tt
 lag_fine (message ∷ ticks ∷ []) =
@@ -153,28 +153,28 @@ lag_fine (message ∷ ticks ∷ other ∷ args) = tt
 
 said_fine : (word : List ℕ) (args : List (List ℕ)) → Fine (said_by word args)
 said_fine word args =
-    fine_if (bytes_eq word (codes "in")) _ _ (bound_fine true args)
-    (fine_if (bytes_eq word (codes "out")) _ _ (bound_fine false args)
+    fine_if (bytes_eq word (codes "in")) _ _ (two_any name_value file_value (λ e f. Bind true e f) (λ e f. tt) args)
+    (fine_if (bytes_eq word (codes "out")) _ _ (two_any name_value file_value (λ e f. Bind false e f) (λ e f. tt) args)
     (fine_if (bytes_eq word (codes "load")) _ _ (alone_fine commands.Load args refl)
     (fine_if (bytes_eq word (codes "unload")) _ _ (alone_fine commands.Unload args refl)
     (fine_if (bytes_eq word (codes "suspend")) _ _ (alone_fine commands.Suspend args refl)
     (fine_if (bytes_eq word (codes "resume")) _ _ (alone_fine commands.Resume args refl)
     (fine_if (bytes_eq word (codes "show")) _ _ (alone_fine commands.Show args refl)
-    (fine_if (bytes_eq word (codes "open")) _ _ (let make : List ℕ → Item = λ n. Do (commands.Open n) in always make (one_name args) (λ n. refl))
-    (fine_if (bytes_eq word (codes "start")) _ _ (let make : List ℕ → Item = λ n. Do (commands.Start n) in always make (one_name args) (λ n. refl))
-    (fine_if (bytes_eq word (codes "stop")) _ _ (let make : List ℕ → Item = λ n. Do (commands.Stop n) in always make (one_name args) (λ n. refl))
-    (fine_if (bytes_eq word (codes "pause")) _ _ (let make : List ℕ → Item = λ n. Do (commands.Pause n) in always make (one_name args) (λ n. refl))
-    (fine_if (bytes_eq word (codes "release")) _ _ (let make : List ℕ → Item = λ n. Do (commands.Release n) in always make (one_name args) (λ n. refl))
-    (fine_if (bytes_eq word (codes "close")) _ _ (let make : List ℕ → Item = λ n. Do (commands.Close n) in always make (one_name args) (λ n. refl))
-    (fine_if (bytes_eq word (codes "get")) _ _ (let make : List ℕ → Item = λ n. Do (commands.Get n) in always make (one_name args) (λ n. refl))
-    (fine_if (bytes_eq word (codes "read")) _ _ (let make : List ℕ → Item = λ n. Do (commands.Read n) in always make (one_name args) (λ n. refl))
+    (fine_if (bytes_eq word (codes "open")) _ _ (one_any name_value commands.Open (λ n. refl) args)
+    (fine_if (bytes_eq word (codes "start")) _ _ (one_any name_value commands.Start (λ n. refl) args)
+    (fine_if (bytes_eq word (codes "stop")) _ _ (one_any name_value commands.Stop (λ n. refl) args)
+    (fine_if (bytes_eq word (codes "pause")) _ _ (one_any name_value commands.Pause (λ n. refl) args)
+    (fine_if (bytes_eq word (codes "release")) _ _ (one_any name_value commands.Release (λ n. refl) args)
+    (fine_if (bytes_eq word (codes "close")) _ _ (one_any name_value commands.Close (λ n. refl) args)
+    (fine_if (bytes_eq word (codes "get")) _ _ (one_any name_value commands.Get (λ n. refl) args)
+    (fine_if (bytes_eq word (codes "read")) _ _ (one_any name_value commands.Read (λ n. refl) args)
     (fine_if (bytes_eq word (codes "params")) _ _ (params_fine args)
     (fine_if (bytes_eq word (codes "set")) _ _ (values_fine args)
-    (fine_if (bytes_eq word (codes "bytes")) _ _ (hex_fine args)
-    (fine_if (bytes_eq word (codes "tick")) _ _ (let make : ℕ → Item = λ n. Do (commands.Tick n) in always make (one_number 60000 args) (λ n. refl))
+    (fine_if (bytes_eq word (codes "bytes")) _ _ (two_any name_value hex_value (λ c bytes. Do (commands.Bytes c bytes)) (λ c bytes. refl) args)
+    (fine_if (bytes_eq word (codes "tick")) _ _ (one_any (number_value 1 60000) commands.Tick (λ n. refl) args)
     (fine_if (bytes_eq word (codes "refuse")) _ _ (refuse_fine args)
-    (fine_if (bytes_eq word (codes "drop")) _ _ (let make : ℕ → Item = λ n. Do (commands.Drop n) in applied (Between 1 100000) Ranged (Ok make) (one_number 100000 args) (λ n is. is) (one_between 100000 args))
-    (fine_if (bytes_eq word (codes "lose")) _ _ (let make : ℕ → Item = λ n. Do (commands.Lose n) in applied (Between 1 100000) Ranged (Ok make) (one_number 100000 args) (λ n is. is) (one_between 100000 args))
+    (fine_if (bytes_eq word (codes "drop")) _ _ (one_fine (Between 1 100000) (number_value 1 100000) commands.Drop (λ token. in_between 1 100000 (decimal_value token)) (λ n is. is) args)
+    (fine_if (bytes_eq word (codes "lose")) _ _ (one_fine (Between 1 100000) (number_value 1 100000) commands.Lose (λ token. in_between 1 100000 (decimal_value token)) (λ n is. is) args)
     (fine_if (bytes_eq word (codes "lag")) _ _ (lag_fine args)
     tt))))))))))))))))))))))
 
@@ -212,14 +212,14 @@ lines_sound number [] = record { ranges = refl; few = omega arith }
 lines_sound number (line ∷ lines) = more_sound number (length lines) (line_item (without_return line)) (lines_read (number + 1) lines) (line_fine (without_return line)) (lines_sound (number + 1) lines)
 
 -- each line has a byte
-one_more : (b : ℕ) (lines : List (List ℕ)) → length (before_line b lines) ≤ suc (length lines)
+one_more : (b : ℕ) (lines : List (List ℕ)) → length (onto_first b lines) ≤ suc (length lines)
 one_more b [] = omega arith
 one_more b (line ∷ lines) = omega arith
 
 byte_more : (b : ℕ) (lines : List (List ℕ)) → length (with_byte b lines) ≤ suc (length lines)
 byte_more b lines = by_test (nat_eq b 10)
   where
-    by_test : (t : Bool) → length (cond t ([] ∷ lines) (before_line b lines)) ≤ suc (length lines)
+    by_test : (t : Bool) → length (cond t ([] ∷ lines) (onto_first b lines)) ≤ suc (length lines)
     by_test true = omega arith
     by_test false = one_more b lines
 

@@ -8,7 +8,7 @@ use Rattle.sof_run.specs.Lines.{no_memory_line}
 use Rattle.sof_run.specs.Todo.{Todo, End, Stop, Ask, Do, Step, Refill, Free, Says, Over, DoneBy}
 use Rattle.sof_run.specs.Calls.{reading}
 use Rattle.sof_run.specs.Throughout.{Throughout}
-use Rattle.sof_run.specs.Ends.{IsOpening, AreOpening}
+use Rattle.sof_run.specs.Opening.{IsOpeningAct, AreOpening}
 use Rattle.sof_run.proofs.Steps.{no_turns}
 
 module _ (P : ℕ → Type 0) (A : List ℕ → Type 0) where
@@ -55,7 +55,7 @@ abbrev pub OpensNone : Todo → Type 0
 OpensNone End = Unit {0}
 OpensNone (Stop line n) = Unit {0}
 OpensNone (Ask name limit line rest) = (bytes : List ℕ) → OpensNone (rest bytes)
-OpensNone (Do act rest) = (IsOpening act → ⊥) × OpensNone rest
+OpensNone (Do act rest) = (IsOpeningAct act → ⊥) × OpensNone rest
 OpensNone (Step task rest) = (out : Out) → OpensNone (rest out)
 OpensNone (Refill rest) = OpensNone rest
 OpensNone (Free rest) = OpensNone rest
@@ -100,13 +100,13 @@ said_no_loads : (line : List ℕ) (n : ℕ) (turns : List Turn) (calls : List De
 said_no_loads line n turns [] status says loads = says
 said_no_loads line n turns (Load name limit heard ∷ calls) status says loads = says
 said_no_loads line n turns (Read slot size got ∷ calls) status says loads = says
-said_no_loads line n turns (Did act done ∷ calls) status says loads = subst IsOpening says.0 loads.0
+said_no_loads line n turns (Did act done ∷ calls) status says loads = subst IsOpeningAct says.0 loads.0
 
 -- where all calls were loads, creates and opens, there were no reads
 none_read : (reads : List (ℕ × List ℕ)) (failed : Option ℕ) (later : List DeskCall) → AreOpening (reading reads failed ++ later) → (failed ≡ None) × AreOpening later
 none_read [] None later loads = (refl, loads)
-none_read [] (Some slot) later loads = absurd loads
-none_read ((slot, bytes) ∷ reads) failed later loads = absurd loads
+none_read [] (Some slot) later loads = absurd loads.0
+none_read ((slot, bytes) ∷ reads) failed later loads = absurd loads.0
 
 -- once nothing else is loaded, created or opened, a desk that failed did so in another call
 opening_past : (todo : Todo) (turns : List Turn) (calls : List DeskCall) (status : ℕ) → DoneBy todo turns calls status → Throughout IsLate (λ name. ⊥) todo → OpensNone todo → AreOpening calls → status ≡ 3 → ⊥
@@ -116,8 +116,8 @@ opening_past (Ask name limit line rest) turns calls status goes none puts loads 
 opening_past (Do act rest) turns [] status goes none puts loads three = goes
 opening_past (Do act rest) turns (Load name limit heard ∷ calls) status goes none puts loads three = goes
 opening_past (Do act rest) turns (Read n size got ∷ calls) status goes none puts loads three = goes
-opening_past (Do act rest) turns (Did a true ∷ calls) status goes none puts loads three = puts.0 (subst IsOpening goes.0 loads.0)
-opening_past (Do act rest) turns (Did a false ∷ calls) status goes none puts loads three = puts.0 (subst IsOpening goes.0 loads.0)
+opening_past (Do act rest) turns (Did a true ∷ calls) status goes none puts loads three = puts.0 (subst IsOpeningAct goes.0 loads.0)
+opening_past (Do act rest) turns (Did a false ∷ calls) status goes none puts loads three = puts.0 (subst IsOpeningAct goes.0 loads.0)
 opening_past (Step task rest) [] calls status goes none puts loads three = goes
 opening_past (Step task rest) (turn ∷ turns) calls status goes none puts loads three = opening_past (rest turn.out) turns calls status goes.1 (none turn.out) (puts turn.out) loads three
 opening_past (Refill rest) [] calls status goes none puts loads three = goes
@@ -135,7 +135,7 @@ none_asked (Stop line n) turns calls status goes last three loads = no_turns lin
 none_asked (Ask name limit line rest) turns [] status goes last three loads = absurd goes
 none_asked (Ask name limit line rest) turns (Did act done ∷ calls) status goes last three loads = absurd goes
 none_asked (Ask name limit line rest) turns (Read n size got ∷ calls) status goes last three loads = absurd goes
-none_asked (Ask name limit line rest) turns (Load n l (Ok got) ∷ calls) status goes last three loads = none_asked (rest got) turns calls status goes.2 (last got) three loads
+none_asked (Ask name limit line rest) turns (Load n l (Ok got) ∷ calls) status goes last three loads = none_asked (rest got) turns calls status goes.2 (last got) three loads.1
 none_asked (Ask name limit line rest) turns (Load n l (Err TooLong) ∷ calls) status goes last three loads = no_turns line 5 turns calls status goes.2
 none_asked (Ask name limit line rest) turns (Load n l (Err OutOfMemory) ∷ calls) status goes last three loads = no_turns no_memory_line 7 turns calls status goes.2
 none_asked (Ask name limit line rest) turns (Load n l (Err Failed) ∷ calls) status goes last three loads = goes.2.0

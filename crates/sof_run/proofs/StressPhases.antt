@@ -10,7 +10,8 @@ use Rattle.sof_stress.specs.Draws.{stream_count}
 use Rattle.sof_stress.specs.StressPorts.{dai_slot}
 use Rattle.sof_stress.specs.CommandTurns.{CommandTurn, turn_counted, all_counted, no_counts}
 use Rattle.sof_stress.specs.CarriedTurns.{tasks_of}
-use Rattle.sof_stress.specs.StressRun.{sent_in, stress_begins, stress_plan, stress_turns}
+use Rattle.sof_stress.specs.GraphParts.{stress_plan}
+use Rattle.sof_stress.specs.StressRun.{sent_in, stress_begins, stress_turns}
 use Rattle.sof_stress.specs.DeviceStress.{Stresses}
 use Rattle.sof_run.specs.Words.{Form}
 use Rattle.sof_run.specs.Lines.{no_memory_line}

@@ -15,7 +15,8 @@ use Rattle.sof_stress.specs.Draws.{stream_count}
 use Rattle.sof_stress.specs.StressPorts.{dai_slot}
 use Rattle.sof_stress.specs.CommandTurns.{CommandTurn, turn_counted, all_counted, no_counts}
 use Rattle.sof_stress.specs.CarriedTurns.{tasks_of}
-use Rattle.sof_stress.specs.StressRun.{sent_in, stress_begins, stress_counts, stress_ground, stress_plan, stress_turns}
+use Rattle.sof_stress.specs.GraphParts.{stress_plan}
+use Rattle.sof_stress.specs.StressRun.{sent_in, stress_begins, stress_counts, stress_ground, stress_turns}
 use Rattle.sof_stress.proofs.StressOver.{stress-over}
 use Rattle.sof_run.specs.Lines.{no_memory_line, with_newline}
 use Rattle.sof_run.specs.Todo.{Todo, End, Says, DoneBy}

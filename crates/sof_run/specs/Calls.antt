@@ -23,7 +23,7 @@ use Rattle.sof_stress.specs.Draws.{stream_count}
 use Rattle.sof_stress.specs.StressPorts.{dai_slot}
 use Rattle.sof_stress.specs.CommandTurns.{CommandTurn, turn_counted, no_counts}
 use Rattle.sof_stress.specs.StressRun.{stress_begins, stress_turns}
-use Rattle.sof_run.specs.Compiling.{CompileNames, source_line, source_status, wrote_line}
+use Rattle.sof_run.specs.Compiling.{source_line, source_status, wrote_line}
 use Rattle.sof_run.specs.Stressing.{stress_lines}
 use Rattle.sof_run.specs.Requests.{Request, Play, Check, Compile, Stress}
 
@@ -122,15 +122,9 @@ abbrev pub counting : Result Topology Halt → Course
 counting (Ok t) = record { items = map (λ line. saying (with_newline line)) (counts_of t); status = 0 }
 counting (Err why) = last_line (halt_line why) (halt_status why)
 
-abbrev pub checking : List ℕ → Result Topology Halt → List Heard → Course
-checking name topology heard = load_course name 1048576 (codes "too long topology\n") heard (λ heard. before_course (Memory ∷ []) (counting topology))
-
 abbrev pub making : List ℕ → Result Topology SourceFault → Course
 making out (Ok t) = record { items = Calls (Did (Create 0 out) true) ∷ Calls (Did (Put (Slot 0) (spelling t)) true) ∷ saying (with_newline (wrote_line (spelling t))) ∷ []; status = 0 }
 making out (Err fault) = last_line (source_line fault) (source_status fault)
-
-abbrev pub compiling : CompileNames → Result Topology SourceFault → List Heard → Course
-compiling names source heard = load_course names.source 1048576 (codes "too long source\n") heard (λ heard. before_course (Memory ∷ []) (making names.out source))
 
 -- ---- `stress`
 
@@ -152,8 +146,10 @@ stressing room sent seed turns =
 -- the course where this is asked for, or nothing is, over a device of this room; a stress has sent so many messages at its end
 abbrev pub course : ℕ → ℕ → Option Request → Findings → List Heard → List Turn → Course
 course room sent (Some (Play form)) found heard turns = playing form found.run heard turns
-course room sent (Some (Check name)) found heard turns = checking name found.topology heard
-course room sent (Some (Compile names)) found heard turns = compiling names found.source heard
+course room sent (Some (Check name)) found heard turns =
+    load_course name 1048576 (codes "too long topology\n") heard (λ heard. before_course (Memory ∷ []) (counting found.topology))
+course room sent (Some (Compile names)) found heard turns =
+    load_course names.source 1048576 (codes "too long source\n") heard (λ heard. before_course (Memory ∷ []) (making names.out found.source))
 course room sent (Some (Stress seed)) found heard turns = stressing room sent seed turns
 course room sent None found heard turns = last_line (codes "words\n") 1
 

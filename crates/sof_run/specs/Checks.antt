@@ -65,10 +65,8 @@ pub record WroteText {D : Type 0} (means : DeskMeaning D) (text : List ℕ) (old
 pub record Checks {D P : Type 0} (means : DeskMeaning D) (words : List (List ℕ)) (old : D) (p : P) (calls : List DeskCall) (status : ℕ) (new : D) (q : P) : Type 0 where
   -- the device is not touched
   pub alone : (name : List ℕ) → check_of words ≡ Some name → q ≡ p
-  -- where the desk tells the file, the status is by its bytes
-  pub judged : (name bytes : List ℕ) → check_of words ≡ Some name → means.holds old name ≡ Some bytes → CheckVerdict name bytes calls status
-  -- whatever the desk tells, it is by the bytes that the load brought
-  pub heard : (name bytes : List ℕ) → check_of words ≡ Some name → heard_in calls ≡ Ok bytes ∷ [] → CheckVerdict name bytes calls status
+  -- the status is by the file's bytes, where the desk tells them, and, whatever the desk tells, by those that the load brought
+  pub judged : (name bytes : List ℕ) → check_of words ≡ Some name → (means.holds old name ≡ Some bytes) ⊎ (heard_in calls ≡ Ok bytes ∷ []) → CheckVerdict name bytes calls status
   -- of a right topology the counts were said, and nothing else was written
   pub counted : (name bytes : List ℕ) (t : Topology) → check_of words ≡ Some name → means.holds old name ≡ Some bytes → length bytes ≤ 1048576 → IsRight bytes t
       → WroteText means (concat (map with_newline (counts_of t))) old new status

@@ -55,10 +55,10 @@ WroteFile means bytes line old new status =
 pub record Compiles {D P : Type 0} (means : DeskMeaning D) (words : List (List ℕ)) (old : D) (p : P) (calls : List DeskCall) (status : ℕ) (new : D) (q : P) : Type 0 where
   -- the device is not touched
   pub alone : (names : CompileNames) → compile_of words ≡ Some names → q ≡ p
-  -- where the desk tells the source that the words name, the status is by its bytes
-  pub judged : (names : CompileNames) (text : List ℕ) → compile_of words ≡ Some names → means.holds old names.source ≡ Some text → CompileVerdict names text calls status
-  -- whatever the desk tells, it is by the bytes that the load brought
-  pub heard : (names : CompileNames) (text : List ℕ) → compile_of words ≡ Some names → heard_in calls ≡ Ok text ∷ [] → CompileVerdict names text calls status
+  -- the status is by the bytes of the source that the words name, where the desk tells them, and, whatever the desk tells, by those that
+  -- the load brought
+  pub judged : (names : CompileNames) (text : List ℕ) → compile_of words ≡ Some names → (means.holds old names.source ≡ Some text) ⊎ (heard_in calls ≡ Ok text ∷ [])
+      → CompileVerdict names text calls status
   -- of a source within its limit the file of its topology was made, or a front of it, and nothing else was written
   pub wrote : (names : CompileNames) (text : List ℕ) (t : Topology) → compile_of words ≡ Some names → means.holds old names.source ≡ Some text → length text ≤ 1048576 → IsCompiled text t
       → WroteFile means (spelling t) (with_newline (wrote_line (spelling t))) old new status

@@ -1,6 +1,6 @@
 -- How a run ends, whatever its words.
-use Rattle.std.specs.Prelude.{◌≡◌, ◌⊎◌, ℕ, List, [], ◌∷◌, None}
-use Rattle.sof_desk.specs.Desk.{DeskAct, Put, DeskCall, Load, Did, Read}
+use Rattle.std.specs.Prelude.{◌≡◌, ◌⊎◌, ℕ, List, None}
+use Rattle.sof_desk.specs.Desk.{Put, DeskCall, Did, Read}
 use Rattle.sof_run.specs.Words.{play_of}
 use Rattle.sof_run.specs.Checking.{check_of}
 use Rattle.sof_run.specs.Compiling.{compile_of}
@@ -8,17 +8,11 @@ use Rattle.sof_run.specs.Stressing.{stress_of}
 
 -- ---- the calls
 
--- a file is created, or opened
-abbrev pub IsOpening : DeskAct → Type 0
-IsOpening (Put place piece) = ⊥
+-- a call is a load, or creates or opens a file
+abbrev pub IsOpening : DeskCall → Type 0
+IsOpening (Did (Put place piece) done) = ⊥
+IsOpening (Read slot size got) = ⊥
 IsOpening _ = Unit {0}
-
--- the calls were loads, creates and opens alone
-abbrev pub AreOpening : List DeskCall → Type 0
-AreOpening [] = Unit {0}
-AreOpening (Load name limit heard ∷ calls) = AreOpening calls
-AreOpening (Did act done ∷ calls) = IsOpening act × AreOpening calls
-AreOpening (Read slot size got ∷ calls) = ⊥
 
 -- a status that comes before any command: not 0, and not that of a desk that failed
 abbrev pub IsEarly : ℕ → Type 0

@@ -4,7 +4,8 @@ use Rattle.sof_desk.specs.Desk.{DeskMeaning}
 use Rattle.mbox_link.specs.Calls.{Meaning}
 use Rattle.tplg_plan.specs.Sound.{IsSound}
 use Rattle.sof_session.specs.Lives.{Turn}
-use Rattle.sof_stress.specs.StressRun.{sent_in, stress_plan}
+use Rattle.sof_stress.specs.GraphParts.{stress_plan}
+use Rattle.sof_stress.specs.StressRun.{sent_in}
 use Rattle.sof_run.specs.Todo.{Todo, Stop, Gave}
 use Rattle.sof_run.specs.Play.{play}
 use Rattle.sof_run.specs.CheckTodo.{check}

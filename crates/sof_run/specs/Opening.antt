@@ -4,7 +4,8 @@ use Rattle.std.specs.List.{AllByRecursion}
 use Rattle.sof_base.specs.Ports.{InputView, OutputView}
 use Rattle.sof_io.specs.Bound.{output_slots}
 use Rattle.sof_io.specs.Takes.{input_slots}
-use Rattle.sof_desk.specs.Desk.{DeskMeaning}
+use Rattle.sof_desk.specs.Desk.{DeskMeaning, DeskAct, DeskCall, Did}
+use Rattle.sof_run.specs.Ends.{IsOpening}
 
 -- the files of these slots are open to be read
 abbrev pub AreOpened : {D : Type 0} → DeskMeaning D → List ℕ → D → Type 0
@@ -23,3 +24,11 @@ pub record HaveFiles {D : Type 0} (means : DeskMeaning D) (inputs : List InputVi
 pub record SameFiles {D : Type 0} (means : DeskMeaning D) (old new : D) : Type 0 where
   pub opened : (slot : ℕ) → means.opened new slot ≡ means.opened old slot
   pub created : (slot : ℕ) → means.created new slot ≡ means.created old slot
+
+-- a call creates or opens a file
+abbrev pub IsOpeningAct : DeskAct → Type 0
+IsOpeningAct act = IsOpening (Did act true)
+
+-- the calls were loads, creates and opens alone
+abbrev pub AreOpening : List DeskCall → Type 0
+AreOpening calls = AllByRecursion IsOpening calls

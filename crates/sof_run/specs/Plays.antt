@@ -22,29 +22,24 @@ use Rattle.sof_run.specs.Pieces.{Piece, AreWritten, WroteBehind, WroteNone}
 abbrev pub IsGiven : (List ℕ → Option (List ℕ)) → Bound → Type 0
 IsGiven holds b = b.input ≡ true → (bytes : List ℕ) × (holds b.file ≡ Some bytes)
 
--- what is to be played: the words have the form of `play`; the topology, the script and the inputs that they name are told;
--- and topology and script have at most their limits and make a run
-pub record ToPlay (holds : List ℕ → Option (List ℕ)) (room : ℕ) (words : List (List ℕ)) : Type 0 where
+-- what is to be played: the words have the form of `play`, and a topology and a script have at most their limits and make a run
+pub record ToPlay (room : ℕ) (words : List (List ℕ)) : Type 0 where
   pub form : Form
   pub topology : List ℕ
   pub script : List ℕ
   pub t : Topology
   pub read : Read
   pub is_form : play_of room words ≡ Some form
-  pub is_topology : holds form.topology ≡ Some topology
-  pub is_script : holds form.script ≡ Some script
   pub fit : Fit topology script
   pub make_run : MakeRun topology script t read
-  pub given : AllByRecursion (IsGiven holds) read.bindings
 
--- what its run is over: the topology's plan, the words' heap, the bytes of the inputs' files and the slots of the outputs
-abbrev pub ground_in : {holds : List ℕ → Option (List ℕ)} {room : ℕ} {words : List (List ℕ)} → ToPlay holds room words → Ground
-ground_in {holds} play = record {
-  plan = plan_of play.t;
-  heap = play.form.heap;
-  whole = bound_files (plan_of play.t) holds [] play.read.bindings;
-  slots = bound_slots (plan_of play.t) play.read.bindings;
-}
+-- the desk tells the files of topology, script and inputs
+abbrev pub AreFilesTold : {room : ℕ} {words : List (List ℕ)} → (List ℕ → Option (List ℕ)) → ToPlay room words → Type 0
+AreFilesTold holds play = (holds play.form.topology ≡ Some play.topology) × (holds play.form.script ≡ Some play.script) × AllByRecursion (IsGiven holds) play.read.bindings
+
+-- what its run is over: the topology's plan, the words' heap, these bytes of the inputs and the slots of the outputs
+abbrev pub ground_of : {room : ℕ} {words : List (List ℕ)} → ToPlay room words → List (ℕ × List ℕ) → Ground
+ground_of play whole = record { plan = plan_of play.t; heap = play.form.heap; whole = whole; slots = bound_slots (plan_of play.t) play.read.bindings }
 
 -- ---- what was played
 
@@ -70,9 +65,9 @@ pub record Unbegun {D P : Type 0} (means : DeskMeaning D) (slots : List ℕ) (ol
   pub wanting : status ≡ 7 → (slot : ℕ) → means.wrote new (Slot slot) ≡ means.wrote old (Slot slot)
   pub device : last ≡ Bare p
 
--- what is to be played is played, or ended before it was begun
+-- what is to be played, of files that the desk tells, is played over the whole files of its inputs, or ended before it was begun
 abbrev pub PlaysWhole : {D P : Type 0} → DeskMeaning D → Meaning P → List (List ℕ) → D → D → ℕ → P → Life P → List Turn → Type 0
 PlaysWhole means dsp words old new status p last turns =
-    (play : ToPlay (means.holds old) (dsp.most p) words)
-    → Plays means dsp (ground_in play) (rounds_of play.read.commands) old new status p last turns
-    ⊎ Unbegun means (ground_in play).slots old new status p last
+    (play : ToPlay (dsp.most p) words) → AreFilesTold (means.holds old) play
+    → let g = ground_of play (bound_files (plan_of play.t) (means.holds old) [] play.read.bindings) in
+    Plays means dsp g (rounds_of play.read.commands) old new status p last turns ⊎ Unbegun means g.slots old new status p last

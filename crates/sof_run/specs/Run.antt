@@ -8,7 +8,7 @@ use Rattle.sof_stress.specs.StressRun.{sent_in}
 use Rattle.sof_run.specs.TopologyBytes.{BringsBytes}
 use Rattle.sof_run.specs.Calls.{heard_in}
 use Rattle.sof_run.specs.Findings.{FollowsCourse}
-use Rattle.sof_run.specs.Ends.{AreOpening, IsEarly, Worded}
+use Rattle.sof_run.specs.Ends.{IsOpening, IsEarly, Worded}
 use Rattle.sof_run.specs.Verdicts.{Judged}
 use Rattle.sof_run.specs.Plays.{PlaysWhole}
 use Rattle.sof_run.specs.HeardRuns.{PlaysWhatIsHeard}
@@ -33,7 +33,7 @@ pub record Left {P : Type 0} (dsp : Meaning P) (p q : P) (last : Life P) (calls 
   pub is : device_of last ≡ q
   pub exit : Exit dsp p last
   pub untouched : IsEarly status → last ≡ Bare p
-  pub unasked : status ≡ 3 → AreOpening calls → last ≡ Bare p
+  pub unasked : status ≡ 3 → AllByRecursion IsOpening calls → last ≡ Bare p
 
 -- all that is said of `run`
 pub record Whole {D P : Type 0} (means : DeskMeaning D) (dsp : Meaning P) (words : List (List ℕ)) (old : D) (p : P) (status : ℕ) (new : D) (q : P) : Type 0 where

@@ -1,20 +1,16 @@
 -- The words of `stress`, and the numbers that it says.
-use Rattle.std.specs.Prelude.{ℕ, nat_le, List, [], ◌∷◌, Option, Some, None, codes, if◌then◌else◌}
+use Rattle.std.specs.Prelude.{ℕ, List, [], ◌∷◌, Option, None, codes, if◌then◌else◌}
+use Rattle.std.specs.Result.{result_ok}
 use Rattle.std.specs.Str.{bytes_eq}
 use Rattle.sof_stress.specs.declared.counts.Counts.{Counts}
-use Rattle.sof_run.specs.Words.{at_most, decimal_number}
+use Rattle.sof_script.specs.ValueForms.{number_value}
 use Rattle.sof_run.specs.Checking.{count_line}
 
 -- ---- the words
 
--- a number, where it is not 0
-abbrev pub at_least_one : Option ℕ → Option ℕ
-at_least_one None = None
-at_least_one (Some n) = if nat_le 1 n then Some n else None
-
 -- `stress N`, of a number from 1 to 1000
 abbrev pub stress_of : List (List ℕ) → Option ℕ
-stress_of (verb ∷ number ∷ []) = if bytes_eq verb (codes "stress") then at_least_one (at_most 1000 (decimal_number number)) else None
+stress_of (verb ∷ number ∷ []) = if bytes_eq verb (codes "stress") then result_ok (number_value 1 1000 number) else None
 stress_of _ = None
 
 -- ---- what is said

@@ -1,13 +1,17 @@
 // The form of the words.
 ghost use Rattle.std.specs.Prelude.{◌≡◌, ◌≤◌, map, MatchOption, IfSome, codes, string_bytes};
+ghost use Rattle.std.specs.Result.{result_ok};
 ghost use Rattle.std.specs.Str.{bytes_eq};
-ghost use Rattle.sof_run.specs.Words.{play_of, decimal_number, at_most, is_file_name};
+ghost use Rattle.sof_script.specs.ValueForms.{number_value};
+ghost use Rattle.sof_run.specs.Words.{play_of, is_file_name};
 ghost use Rattle.sof_run.specs.LineParts.{form, names};
 ghost use Rattle.sof_run.specs.Checking.{check_of};
 ghost use Rattle.sof_run.specs.Compiling.{compile_of};
 ghost use Rattle.sof_run.specs.Stressing.{stress_of};
 ghost use Rattle.sof_run.specs.Requests.{request_of};
 ghost use Rattle.sof_run.specs.ReadRequests.{request};
+
+use sof_script::values::number;
 
 /// What `play` is given: the heap in bytes, and the names of its two files.
 #[derive(Clone, Copy, Debug)]
@@ -17,28 +21,15 @@ pub struct Form<'a> {
     pub script: &'a str,
 }
 
-/// A decimal number without a needless leading zero, at most `room`.
-pub fn number(word: &[u8], room: u32) -> Option<u32>
-    ensures value { result ≡ at_most room (decimal_number word.now) }
-    ensures most { IfSome result (λ n. n ≤ room) }
+// A decimal number without a needless leading zero, from `least` to `most`.
+fn number_in(word: &[u8], least: u32, most: u32) -> Option<u32>
+    ensures value { result ≡ result_ok (number_value least most word.now) }
+    ensures most { IfSome result (λ n. n ≤ most) }
 {
-    if word.is_empty() {
-        return None;
+    match number(word, least, most) {
+        Ok(n) => Some(n),
+        Err(_cause) => None,
     }
-    if word[0] == b'0' {
-        return if word.len() == 1 { Some(0) } else { None };
-    }
-    let mut value = 0u64;
-    for digit in word {
-        if *digit < b'0' || *digit > b'9' {
-            return None;
-        }
-        value = value * 10 + (*digit - b'0') as u64;
-        if value > room as u64 {
-            return None;
-        }
-    }
-    Some(value as u32)
 }
 
 fn is_file_name(name: &str) -> bool
@@ -67,7 +58,7 @@ fn read_play<'a>(words: &'a [String], room: u32) -> Option<Form<'a>>
     if !is_play(words[0].as_str()) {
         return None;
     }
-    let Some(heap) = number(words[1].as_bytes(), room) else {
+    let Some(heap) = number_in(words[1].as_bytes(), 0, room) else {
         return None;
     };
     if !is_file_name(topology) {
@@ -161,11 +152,7 @@ fn read_stress(words: &[String]) -> Option<u32>
     if !is_stress(words[0].as_str()) {
         return None;
     }
-    let seed = number(words[1].as_bytes(), 1000)?;
-    if seed == 0 {
-        return None;
-    }
-    Some(seed)
+    number_in(words[1].as_bytes(), 1, 1000)
 }
 
 /// What the words of a command line ask for.

@@ -18,7 +18,8 @@ use Rattle.sof_script.specs.Splitting.{all_plain}
 use Rattle.sof_script.specs.TokenStarts.{texts}
 use Rattle.sof_script.specs.Causes.{cause_number}
 use Rattle.sof_script.specs.ValueForms.{decimal_value, in_range, negative, number_value, error_value, format_value, name_value, file_value}
-use Rattle.sof_script.specs.Commands.{alone, one_name, one_number, bound, params_item, values_item, hex_item, error_item, lag_item, number_values, any_number, ◌⊛◌}
+use Rattle.sof_script.specs.Commands.{alone, params_item, values_item, number_values, any_number, ◌⊛◌}
+use Rattle.sof_script.specs.ArgumentForms.{one_name, one_number, bound, hex_item, error_item, lag_item}
 
 -- ---- a wrong count
 

@@ -2,7 +2,8 @@
 use Rattle.std.proofs.Common.{◌≡◌, ◌≢◌, ◌⊎◌, inl, inr, ℕ, suc, ◌+◌, ◌-◌, ◌<◌, ◌≤◌, true, false, nat_eq, List, [], ◌∷◌, ◌++◌, length, take, drop, get_or, refl, sym, ap, ◌∙◌, arith, append-nil}
 use Rattle.std.proofs.lemmas.List.{take_more, drop_more, drop_all, take_all}
 use Rattle.std.proofs.lemmas.Grind.{common_steps}
-use Rattle.sof_script.specs.Splitting.{before_line, lines_of, without_return, is_blank, is_plain_byte, all_plain, is_skipped, tokens_from, tokens_of, byte_kind, Blank}
+use Rattle.std.specs.List.{onto_first}
+use Rattle.sof_script.specs.Splitting.{lines_of, without_return, is_blank, is_plain_byte, all_plain, is_skipped, tokens_from, tokens_of, byte_kind, Blank}
 use Rattle.sof_script.specs.TokenStarts.{StartsToken, with_byte}
 
 -- ---- lines
@@ -10,20 +11,20 @@ use Rattle.sof_script.specs.TokenStarts.{StartsToken, with_byte}
 -- bytes in front of the first of lines
 abbrev pub onto_line : List ℕ → List (List ℕ) → List (List ℕ)
 onto_line [] rest = rest
-onto_line (b ∷ front) rest = before_line b (onto_line front rest)
+onto_line (b ∷ front) rest = onto_first b (onto_line front rest)
 
-pub onto_line-more : (front : List ℕ) (b : ℕ) (rest : List (List ℕ)) → onto_line (front ++ b ∷ []) rest ≡ onto_line front (before_line b rest)
+pub onto_line-more : (front : List ℕ) (b : ℕ) (rest : List (List ℕ)) → onto_line (front ++ b ∷ []) rest ≡ onto_line front (onto_first b rest)
 onto_line-more [] b rest = refl
-onto_line-more (a ∷ front) b rest = ap (before_line a) (onto_line-more front b rest)
+onto_line-more (a ∷ front) b rest = ap (onto_first a) (onto_line-more front b rest)
 
 pub onto_line-first : (front line : List ℕ) (rest : List (List ℕ)) → onto_line front (line ∷ rest) ≡ (front ++ line) ∷ rest
 onto_line-first [] line rest = refl
-onto_line-first (a ∷ front) line rest = ap (before_line a) (onto_line-first front line rest)
+onto_line-first (a ∷ front) line rest = ap (onto_first a) (onto_line-first front line rest)
 
 pub onto_line-none : (front : List ℕ) → 0 < length front → onto_line front [] ≡ front ∷ []
 onto_line-none [] some = absurd (omega (arith, some))
 onto_line-none (a ∷ []) some = refl
-onto_line-none (a ∷ b ∷ front) some = ap (before_line a) (onto_line-none (b ∷ front) (omega arith))
+onto_line-none (a ∷ b ∷ front) some = ap (onto_first a) (onto_line-none (b ∷ front) (omega arith))
 
 -- the bytes before a place are on the first line
 pub record OnLine (bytes : List ℕ) (end : ℕ) : Type 0 where
@@ -41,7 +42,7 @@ pub OnLine-more : (bytes : List ℕ) (end : ℕ) → OnLine bytes end → end < 
 OnLine-more bytes end on more other =
     let b = get_or bytes end 0 in
     let rest = lines_of (drop (end + 1) bytes) in
-    let plain : with_byte b rest ≡ before_line b rest = grind (arith, common_steps) in
+    let plain : with_byte b rest ≡ onto_first b rest = grind (arith, common_steps) in
     record {
       lines = on.lines ∙ ap (onto_line (take end bytes)) (lines_step bytes end more ∙ plain) ∙ sym (onto_line-more (take end bytes) b rest) ∙ ap (λ (f : List ℕ). onto_line f rest) (sym (take_more bytes end 0 more));
       within = omega arith;

@@ -2,8 +2,8 @@
 use Rattle.std.proofs.Common.{◌≡◌, ◌⊎◌, inl, inr, ℕ, zero, suc, ◌+◌, ◌<◌, ◌≤◌, List, [], ◌∷◌, ◌++◌, length, take, Option, Some, None, slice_set, refl, sym, ap, ◌∙◌, arith, append_assoc, append-nil}
 use Rattle.std.proofs.lemmas.List.{take_all, take_more_set, length-append, length-take}
 use Rattle.std.specs.Borrow.{Bor}
-use Rattle.sof_script.specs.Splitting.{tokens_from, tokens_of, first_token}
-use Rattle.sof_script.specs.TokenStarts.{texts, StartsToken}
+use Rattle.sof_script.specs.Splitting.{tokens_from, tokens_of}
+use Rattle.sof_script.specs.TokenStarts.{texts, StartsToken, first_token}
 
 texts-append : (xs ys : List (Bor (List ℕ))) → texts (xs ++ ys) ≡ texts xs ++ texts ys
 texts-append [] ys = refl

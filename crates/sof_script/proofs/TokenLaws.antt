@@ -3,29 +3,29 @@ use Rattle.std.proofs.Common.{◌≡◌, ◌≢◌, ◌⊎◌, inl, inr, ℕ, �
 use Rattle.std.proofs.lemmas.List.{take_more, drop_more, drop_all}
 use Rattle.std.proofs.lemmas.Grind.{common_steps}
 use Rattle.std.specs.Borrow.{Bor}
-use Rattle.sof_script.specs.Splitting.{is_blank, tokens_from, tokens_of, byte_kind, Kind, Blank, Quote, Other, TokenPlace, Inside, Quoted, Behind, first_token, onto_first}
-use Rattle.sof_script.specs.TokenStarts.{StartsToken, IsBare}
+use Rattle.sof_script.specs.Splitting.{is_blank, tokens_from, tokens_of, byte_kind, Kind, Blank, Quote, Other, TokenPlace, Inside, Quoted, Behind}
+use Rattle.sof_script.specs.TokenStarts.{StartsToken, IsBare, first_token, onto_token}
 
 -- bytes in front of the first of tokens
 abbrev pub onto : List ℕ → Option (List (List ℕ)) → Option (List (List ℕ))
 onto [] tokens = tokens
-onto (b ∷ front) tokens = onto_first b (onto front tokens)
+onto (b ∷ front) tokens = onto_token b (onto front tokens)
 
-onto-more : (front : List ℕ) (b : ℕ) (tokens : Option (List (List ℕ))) → onto (front ++ b ∷ []) tokens ≡ onto front (onto_first b tokens)
+onto-more : (front : List ℕ) (b : ℕ) (tokens : Option (List (List ℕ))) → onto (front ++ b ∷ []) tokens ≡ onto front (onto_token b tokens)
 onto-more [] b tokens = refl
-onto-more (a ∷ front) b tokens = ap (onto_first a) (onto-more front b tokens)
+onto-more (a ∷ front) b tokens = ap (onto_token a) (onto-more front b tokens)
 
 onto-none : (front : List ℕ) → onto front None ≡ None
 onto-none [] = refl
-onto-none (a ∷ front) = ap (onto_first a) (onto-none front)
+onto-none (a ∷ front) = ap (onto_token a) (onto-none front)
 
-one : (b : ℕ) (token : List ℕ) (tokens : Option (List (List ℕ))) → onto_first b (first_token token tokens) ≡ first_token (b ∷ token) tokens
+one : (b : ℕ) (token : List ℕ) (tokens : Option (List (List ℕ))) → onto_token b (first_token token tokens) ≡ first_token (b ∷ token) tokens
 one b token None = refl
 one b token (Some tokens) = refl
 
 onto-first : (front token : List ℕ) (tokens : Option (List (List ℕ))) → onto front (first_token token tokens) ≡ first_token (front ++ token) tokens
 onto-first [] token tokens = refl
-onto-first (a ∷ front) token tokens = ap (onto_first a) (onto-first front token tokens) ∙ one a (front ++ token) tokens
+onto-first (a ∷ front) token tokens = ap (onto_token a) (onto-first front token tokens) ∙ one a (front ++ token) tokens
 
 -- the bytes before an end are of the first token, which begins at a place
 pub record Within (place : TokenPlace) (bytes : List ℕ) (end : ℕ) : Type 0 where
@@ -36,7 +36,7 @@ pub Within-none : (place : TokenPlace) (bytes : List ℕ) → Within place bytes
 Within-none place bytes = record { tokens = refl; within = omega arith }
 
 -- a byte that belongs to the first token
-pub Within-more : (place : TokenPlace) (bytes : List ℕ) (end : ℕ) → Within place bytes end → end < length bytes → ((rest : List ℕ) → tokens_from place (get_or bytes end 0 ∷ rest) ≡ onto_first (get_or bytes end 0) (tokens_from place rest)) → Within place bytes (end + 1)
+pub Within-more : (place : TokenPlace) (bytes : List ℕ) (end : ℕ) → Within place bytes end → end < length bytes → ((rest : List ℕ) → tokens_from place (get_or bytes end 0 ∷ rest) ≡ onto_token (get_or bytes end 0) (tokens_from place rest)) → Within place bytes (end + 1)
 Within-more place bytes end w more keeps =
     let b = get_or bytes end 0 in
     let rest = drop (end + 1) bytes in
@@ -59,7 +59,7 @@ kind_other b is unlike = let other : nat_eq b 34 ≡ false = grind (arith, commo
 
 -- ---- a token without quotes
 
-inside_other : (b : ℕ) (rest : List ℕ) (k : Kind) → byte_kind b ≡ k → k ≢ Blank → tokens_from Inside (b ∷ rest) ≡ onto_first b (tokens_from Inside rest)
+inside_other : (b : ℕ) (rest : List ℕ) (k : Kind) → byte_kind b ≡ k → k ≢ Blank → tokens_from Inside (b ∷ rest) ≡ onto_token b (tokens_from Inside rest)
 unfolding tokens_from
 inside_other b rest Blank is unlike = absurd (unlike refl)
 inside_other b rest Quote is unlike = rw (is, tokens_from) refl
@@ -68,7 +68,7 @@ inside_other b rest Other is unlike = rw (is, tokens_from) refl
 not_blank : (b : ℕ) → is_blank b ≡ false → byte_kind b ≢ Blank
 not_blank b unlike = λ is. (elim (nat_eq b 34) as (λ t. cond (is_blank b) Blank (cond t Quote Other) ≡ Blank → ⊥) [ true ↦ λ e. cc (sym (rw unlike at e)) | false ↦ λ e. cc (sym (rw unlike at e)) ]) is
 
-pub inside_keeps : (b : ℕ) → is_blank b ≡ false → (rest : List ℕ) → tokens_from Inside (b ∷ rest) ≡ onto_first b (tokens_from Inside rest)
+pub inside_keeps : (b : ℕ) → is_blank b ≡ false → (rest : List ℕ) → tokens_from Inside (b ∷ rest) ≡ onto_token b (tokens_from Inside rest)
 inside_keeps b unlike rest = inside_other b rest (byte_kind b) refl (not_blank b unlike)
 
 pub bare_begins : (bytes : List ℕ) → IsBare bytes → tokens_of bytes ≡ tokens_from Inside bytes
@@ -102,7 +102,7 @@ bare_whole bytes end is w ends =
 
 -- ---- a quoted token
 
-quoted_kind : (b : ℕ) (rest : List ℕ) (k : Kind) → byte_kind b ≡ k → k ≢ Quote → tokens_from Quoted (b ∷ rest) ≡ onto_first b (tokens_from Quoted rest)
+quoted_kind : (b : ℕ) (rest : List ℕ) (k : Kind) → byte_kind b ≡ k → k ≢ Quote → tokens_from Quoted (b ∷ rest) ≡ onto_token b (tokens_from Quoted rest)
 unfolding tokens_from
 quoted_kind b rest Blank is unlike = rw (is, tokens_from) refl
 quoted_kind b rest Quote is unlike = absurd (unlike refl)
@@ -113,7 +113,7 @@ not_quote b unlike =
     let other : nat_eq b 34 ≡ false = grind (arith, common_steps) in
     λ is. (elim (is_blank b) as (λ t. cond t Blank (cond (nat_eq b 34) Quote Other) ≡ Quote → ⊥) [ true ↦ λ e. cc e | false ↦ λ e. cc (sym (rw other at e)) ]) is
 
-pub quoted_keeps : (b : ℕ) → b ≢ 34 → (rest : List ℕ) → tokens_from Quoted (b ∷ rest) ≡ onto_first b (tokens_from Quoted rest)
+pub quoted_keeps : (b : ℕ) → b ≢ 34 → (rest : List ℕ) → tokens_from Quoted (b ∷ rest) ≡ onto_token b (tokens_from Quoted rest)
 quoted_keeps b unlike rest = quoted_kind b rest (byte_kind b) refl (not_quote b unlike)
 
 pub quoted_open : (bytes : List ℕ) (end : ℕ) → Within Quoted bytes end → length bytes ≤ end → tokens_from Quoted bytes ≡ None

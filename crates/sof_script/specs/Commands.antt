@@ -42,20 +42,15 @@ abbrev pub alone : Command → List (List ℕ) → Result Item Cause
 alone command [] = Ok (Do command)
 alone command _ = Err causes.Count
 
--- one token, a name
-abbrev pub one_name : List (List ℕ) → Result (List ℕ) Cause
-one_name (name ∷ []) = name_value name
-one_name _ = Err causes.Count
+-- one token, and the command that its value makes
+abbrev pub one_value : {A : Type 0} → (List ℕ → Result A Cause) → (A → Command) → List (List ℕ) → Result Item Cause
+one_value read make (token ∷ []) = Ok (λ value. Do (make value)) ⊛ read token
+one_value read make _ = Err causes.Count
 
--- one token, a number from 1 on
-abbrev pub one_number : ℕ → List (List ℕ) → Result ℕ Cause
-one_number most (number ∷ []) = number_value 1 most number
-one_number most _ = Err causes.Count
-
--- `in` and `out`: an endpoint and a file
-abbrev pub bound : Bool → List (List ℕ) → Result Item Cause
-bound input (endpoint ∷ file ∷ []) = Ok (λ e f. Bind input e f) ⊛ name_value endpoint ⊛ file_value file
-bound input _ = Err causes.Count
+-- two tokens, and what their values make
+abbrev pub two_values : {A B : Type 0} → (List ℕ → Result A Cause) → (List ℕ → Result B Cause) → (A → B → Item) → List (List ℕ) → Result Item Cause
+two_values first second make (token ∷ other ∷ []) = Ok make ⊛ first token ⊛ second other
+two_values first second make _ = Err causes.Count
 
 -- `params`: a stream, frames a second, channels, and the format of a sample
 abbrev pub params_item : List (List ℕ) → Result Item Cause
@@ -72,47 +67,32 @@ values_item (control ∷ value ∷ values) =
     else Err causes.Count
 values_item _ = Err causes.Count
 
--- `bytes`: a control and hex
-abbrev pub hex_item : List (List ℕ) → Result Item Cause
-hex_item (control ∷ hex ∷ []) = Ok (λ c bytes. Do (command.Bytes c bytes)) ⊛ name_value control ⊛ hex_value hex
-hex_item _ = Err causes.Count
-
--- `refuse`: a message and an error number
-abbrev pub error_item : List (List ℕ) → Result Item Cause
-error_item (message ∷ error ∷ []) = Ok (λ k e. Do (command.Refuse k e)) ⊛ message_number message ⊛ error_value error
-error_item _ = Err causes.Count
-
--- `lag`: a message and ticks
-abbrev pub lag_item : List (List ℕ) → Result Item Cause
-lag_item (message ∷ ticks ∷ []) = Ok (λ k n. Do (command.Lag k n)) ⊛ message_number message ⊛ number_value 1 16 ticks
-lag_item _ = Err causes.Count
-
 -- what a first token and the tokens behind it say; a first token that is none of these words is a fault
 abbrev pub said_by : List ℕ → List (List ℕ) → Result Item Cause
 said_by word args =
-    if bytes_eq word (codes "in") then bound true args
-    else if bytes_eq word (codes "out") then bound false args
+    if bytes_eq word (codes "in") then two_values name_value file_value (λ e f. Bind true e f) args
+    else if bytes_eq word (codes "out") then two_values name_value file_value (λ e f. Bind false e f) args
     else if bytes_eq word (codes "load") then alone command.Load args
     else if bytes_eq word (codes "unload") then alone command.Unload args
     else if bytes_eq word (codes "suspend") then alone command.Suspend args
     else if bytes_eq word (codes "resume") then alone command.Resume args
     else if bytes_eq word (codes "show") then alone command.Show args
-    else if bytes_eq word (codes "open") then Ok (λ n. Do (command.Open n)) ⊛ one_name args
-    else if bytes_eq word (codes "start") then Ok (λ n. Do (command.Start n)) ⊛ one_name args
-    else if bytes_eq word (codes "stop") then Ok (λ n. Do (command.Stop n)) ⊛ one_name args
-    else if bytes_eq word (codes "pause") then Ok (λ n. Do (command.Pause n)) ⊛ one_name args
-    else if bytes_eq word (codes "release") then Ok (λ n. Do (command.Release n)) ⊛ one_name args
-    else if bytes_eq word (codes "close") then Ok (λ n. Do (command.Close n)) ⊛ one_name args
-    else if bytes_eq word (codes "get") then Ok (λ n. Do (command.Get n)) ⊛ one_name args
-    else if bytes_eq word (codes "read") then Ok (λ n. Do (command.Read n)) ⊛ one_name args
+    else if bytes_eq word (codes "open") then one_value name_value command.Open args
+    else if bytes_eq word (codes "start") then one_value name_value command.Start args
+    else if bytes_eq word (codes "stop") then one_value name_value command.Stop args
+    else if bytes_eq word (codes "pause") then one_value name_value command.Pause args
+    else if bytes_eq word (codes "release") then one_value name_value command.Release args
+    else if bytes_eq word (codes "close") then one_value name_value command.Close args
+    else if bytes_eq word (codes "get") then one_value name_value command.Get args
+    else if bytes_eq word (codes "read") then one_value name_value command.Read args
     else if bytes_eq word (codes "params") then params_item args
     else if bytes_eq word (codes "set") then values_item args
-    else if bytes_eq word (codes "bytes") then hex_item args
-    else if bytes_eq word (codes "tick") then Ok (λ n. Do (command.Tick n)) ⊛ one_number 60000 args
-    else if bytes_eq word (codes "refuse") then error_item args
-    else if bytes_eq word (codes "drop") then Ok (λ n. Do (command.Drop n)) ⊛ one_number 100000 args
-    else if bytes_eq word (codes "lose") then Ok (λ n. Do (command.Lose n)) ⊛ one_number 100000 args
-    else if bytes_eq word (codes "lag") then lag_item args
+    else if bytes_eq word (codes "bytes") then two_values name_value hex_value (λ c bytes. Do (command.Bytes c bytes)) args
+    else if bytes_eq word (codes "tick") then one_value (number_value 1 60000) command.Tick args
+    else if bytes_eq word (codes "refuse") then two_values message_number error_value (λ k e. Do (command.Refuse k e)) args
+    else if bytes_eq word (codes "drop") then one_value (number_value 1 100000) command.Drop args
+    else if bytes_eq word (codes "lose") then one_value (number_value 1 100000) command.Lose args
+    else if bytes_eq word (codes "lag") then two_values message_number (number_value 1 16) (λ k n. Do (command.Lag k n)) args
     else Err causes.Word
 
 -- tokens; none where the quotes of the line are broken

@@ -3,6 +3,7 @@ pub mod TokenStarts
 pub mod Causes
 pub mod ValueForms
 pub mod Commands
+pub mod ArgumentForms
 pub mod Words
 pub mod ScriptRead
 pub mod Faults

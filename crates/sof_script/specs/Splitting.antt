@@ -1,17 +1,13 @@
 -- The lines of bytes and the tokens of a line.
 use Rattle.std.specs.Prelude.{ℕ, Bool, true, ◌||◌, ◌&&◌, nat_eq, nat_le, if◌then◌else◌, List, [], ◌∷◌, Option, Some, None, option_map}
+use Rattle.std.specs.List.{list_all, onto_first}
 
 -- ---- lines
-
--- a byte in front of the first of lines
-abbrev pub before_line : ℕ → List (List ℕ) → List (List ℕ)
-before_line b [] = (b ∷ []) ∷ []
-before_line b (line ∷ rest) = (b ∷ line) ∷ rest
 
 -- lines: each ends with its newline (10), which the last may lack; another byte belongs to the first line
 unfoldable pub lines_of : List ℕ → List (List ℕ)
 lines_of [] = []
-lines_of (b ∷ bytes) = if nat_eq b 10 then [] ∷ lines_of bytes else before_line b (lines_of bytes)
+lines_of (b ∷ bytes) = if nat_eq b 10 then [] ∷ lines_of bytes else onto_first b (lines_of bytes)
 
 -- a line without the one carriage return (13) that it may end with
 unfoldable pub without_return : List ℕ → List ℕ
@@ -31,8 +27,7 @@ is_plain_byte b = (nat_le 32 b && nat_le b 126) || nat_eq b 9
 
 -- each byte may
 unfoldable pub all_plain : List ℕ → Bool
-all_plain [] = true
-all_plain (b ∷ bytes) = is_plain_byte b && all_plain bytes
+all_plain bytes = list_all is_plain_byte bytes
 
 -- a line is skipped that has no token, or whose first token begins with `#` (35)
 unfoldable pub is_skipped : List ℕ → Bool
@@ -55,26 +50,17 @@ pub data TokenPlace : Type 0 where
   Quoted : TokenPlace
   Behind : TokenPlace
 
--- a token before others; none where those are none
-abbrev pub first_token : List ℕ → Option (List (List ℕ)) → Option (List (List ℕ))
-first_token token tokens = option_map (λ rest. token ∷ rest) tokens
-
--- bytes in front of the first of tokens
-abbrev pub onto_first : ℕ → Option (List (List ℕ)) → Option (List (List ℕ))
-onto_first b None = None
-onto_first b (Some []) = Some ((b ∷ []) ∷ [])
-onto_first b (Some (token ∷ tokens)) = Some ((b ∷ token) ∷ tokens)
-
--- the tokens from a byte on that stands at a place, by those from the place that the byte leads to
+-- The tokens from a byte on that stands at a place, by those from the place that the byte leads to: a byte of a token stands in front of
+-- the first of them, and an empty token begins where one ends.
 abbrev pub tokens_by : TokenPlace → Kind → ℕ → (TokenPlace → Option (List (List ℕ))) → Option (List (List ℕ))
 tokens_by Between Blank b from = from Between
 tokens_by Between Quote b from = from Quoted
-tokens_by Inside Blank b from = first_token [] (from Between)
+tokens_by Inside Blank b from = option_map (λ tokens. [] ∷ tokens) (from Between)
 tokens_by Quoted Quote b from = from Behind
-tokens_by Quoted _ b from = onto_first b (from Quoted)
-tokens_by Behind Blank b from = first_token [] (from Between)
+tokens_by Quoted _ b from = option_map (onto_first b) (from Quoted)
+tokens_by Behind Blank b from = option_map (λ tokens. [] ∷ tokens) (from Between)
 tokens_by Behind _ b from = None
-tokens_by _ _ b from = onto_first b (from Inside)
+tokens_by _ _ b from = option_map (onto_first b) (from Inside)
 
 -- the tokens from a place on, the first of which may have begun; none where a quote is not closed, or no blank follows it
 unfoldable pub tokens_from : TokenPlace → List ℕ → Option (List (List ℕ))

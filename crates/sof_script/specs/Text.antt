@@ -1,6 +1,7 @@
 -- The line of a command.
 use Rattle.std.specs.Prelude.{ℕ, List, [], ◌∷◌, ◌++◌, codes, decimal}
 use Rattle.std.specs.Fmt.{signed_decimal}
+use Rattle.std.specs.List.{flat_map}
 use Rattle.hex.specs.Hex.{encode_lower}
 use Rattle.host_widgets.specs.declared.answers.Answer.{Answer}
 use Rattle.host_widgets.specs.declared.answers.Answer.TheVariants as answer
@@ -11,8 +12,7 @@ use Rattle.host_widgets.specs.declared.kept.Found.TheVariants as found
 
 -- each number in decimal, after a blank
 abbrev pub values_words : List ℕ → List ℕ
-values_words [] = []
-values_words (value ∷ values) = codes " " ++ decimal value ++ values_words values
+values_words values = flat_map (λ value. codes " " ++ decimal value) values
 
 -- bytes in hex, in lower case; `-` where there are none
 abbrev pub bytes_word : List ℕ → List ℕ

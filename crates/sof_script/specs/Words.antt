@@ -8,7 +8,8 @@ use Rattle.sof_script.specs.declared.items.Item.{Item}
 use Rattle.sof_script.specs.declared.items.Item.TheVariants.{Do}
 use Rattle.sof_script.specs.declared.fault_causes.Cause.{Cause}
 use Rattle.sof_script.specs.declared.fault_causes.Cause.TheVariants as causes
-use Rattle.sof_script.specs.Commands.{◌⊛◌, alone, one_name, one_number, bound, params_item, values_item, hex_item, error_item, lag_item}
+use Rattle.sof_script.specs.Commands.{◌⊛◌, alone, params_item, values_item}
+use Rattle.sof_script.specs.ArgumentForms.{one_name, one_number, bound, hex_item, error_item, lag_item}
 
 -- the word that a token is
 abbrev pub word_named : List ℕ → Option Word

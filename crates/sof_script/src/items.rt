@@ -2,7 +2,8 @@
 ghost use Rattle.std.specs.Prelude.{◌≡◌, ◌≤◌, length};
 ghost use Rattle.sof_script.specs.TokenStarts.{texts};
 ghost use Rattle.sof_script.specs.Words.{worded_item};
-ghost use Rattle.sof_script.specs.Commands.{line_item, said_by, alone, one_name, one_number, bound, params_item, values_item, hex_item, error_item, lag_item, number_values};
+ghost use Rattle.sof_script.specs.Commands.{line_item, said_by, alone, params_item, values_item, number_values};
+ghost use Rattle.sof_script.specs.ArgumentForms.{one_name, one_number, bound, hex_item, error_item, lag_item};
 
 use crate::fault_causes::Cause;
 use crate::file_name::FileName;

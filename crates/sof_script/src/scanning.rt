@@ -1,7 +1,7 @@
 // The tokens of a line.
 ghost use Rattle.std.specs.Prelude.{◌≡◌, ◌⊎◌, ◌+◌, ◌<◌, ◌≤◌, [], length, true, false, MatchOption, None, Some, if◌then◌else◌};
-ghost use Rattle.sof_script.specs.Splitting.{tokens_of, tokens_from, Quoted, Behind, first_token, is_blank, is_plain_byte, all_plain, is_skipped};
-ghost use Rattle.sof_script.specs.TokenStarts.{IsBare, StartsToken};
+ghost use Rattle.sof_script.specs.Splitting.{tokens_of, tokens_from, Quoted, Behind, is_blank, is_plain_byte, all_plain, is_skipped};
+ghost use Rattle.sof_script.specs.TokenStarts.{IsBare, StartsToken, first_token};
 
 // A blank or a tab.
 fn is_separator(byte: u8) -> bool

@@ -58,8 +58,9 @@ use Rattle.host_ctl.specs.ControlAsks.{named_control}
 use Rattle.host_ctl.specs.ControlOrders.{setting_order, installing_order, reading_order, ask_acts, named_at}
 use Rattle.sof_script.specs.declared.script.Command.{Command}
 use Rattle.sof_script.specs.declared.script.Command.TheVariants as commands
-use Rattle.sof_session.specs.CommandTests.{asking, stream_fault, fault_of}
-use Rattle.sof_session.specs.Commands.{Known, Came, is_plan, asked_order, order_of, carried, tested, next}
+use Rattle.sof_session.specs.CommandTests.{asking, fault_of}
+use Rattle.sof_session.specs.AskedOrders.{stream_fault, asked_order}
+use Rattle.sof_session.specs.Commands.{Known, Came, is_plan, order_of, carried, tested, next}
 use Rattle.sof_session.proofs.SameNext.{is-planned, is-tested}
 use Rattle.sof_session.proofs.InputMoves.{IsInRange, AllInRange, ticks_in, all-append, ticks-append, lag-in-range, lag-ticks}
 

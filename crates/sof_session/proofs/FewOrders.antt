@@ -12,7 +12,8 @@ use Rattle.host_ctl.specs.ControlOrders.{bytes_order}
 use Rattle.sof_script.specs.declared.script.Command.{Command}
 use Rattle.sof_script.specs.declared.script.Command.TheVariants as commands
 use Rattle.sof_session.specs.CommandTests.{asking, fault_of}
-use Rattle.sof_session.specs.Commands.{asked_order, order_of}
+use Rattle.sof_session.specs.AskedOrders.{asked_order}
+use Rattle.sof_session.specs.Commands.{order_of}
 use Rattle.sof_session.specs.CommandRanges.{most_sent}
 use Rattle.sof_session.proofs.SentOrders.{few-sent, few-stream}
 use Rattle.sof_session.proofs.ControlCalls.{sent-set, sent-get, sent-read, sent-bytes}

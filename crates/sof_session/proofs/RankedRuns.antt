@@ -36,7 +36,8 @@ use Rattle.host_ctl.specs.ControlOrders.{setting_order, installing_order, readin
 use Rattle.sof_script.specs.declared.script.Command.{Command}
 use Rattle.sof_script.specs.declared.script.Command.TheVariants as commands
 use Rattle.sof_session.specs.CommandTests.{asking, fault_of}
-use Rattle.sof_session.specs.Commands.{Known, Came, is_plan, asked_order, order_of, carried, tested, next}
+use Rattle.sof_session.specs.AskedOrders.{asked_order}
+use Rattle.sof_session.specs.Commands.{Known, Came, is_plan, order_of, carried, tested, next}
 use Rattle.sof_session.specs.RunLaws.{HasRanks}
 use Rattle.sof_session.proofs.SameNext.{is-planned, is-tested}
 

@@ -14,8 +14,7 @@ use Rattle.sof_session.specs.Seat.{Seat}
 -- where the record says that the power is on, the device is on in a state that keeps it; else it is off
 abbrev pub Powered : {P : Type 0} → Meaning P → Seat P → Power → Type 0
 Powered means seat On = (f : FwState) × (means.on seat.link.device ≡ Some f) × KeepsRecord seat.plan seat.heap seat.kept f
-Powered means seat Off = means.on seat.link.device ≡ None
-Powered means seat Unloaded = means.on seat.link.device ≡ None
+Powered means seat _ = means.on seat.link.device ≡ None
 
 -- what is planned has a meaning, all lags are at most 16 ticks, and the link has lost and refused no more messages than were sent
 pub record IsFated {P : Type 0} (wire : Wire P) : Type 0 where

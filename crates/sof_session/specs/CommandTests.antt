@@ -1,5 +1,6 @@
 -- The tests of each command before any message, in their order.
 use Rattle.std.specs.Prelude.{ℕ, List, Option, Some, None}
+use Rattle.std.specs.Option.{option_and_then}
 use Rattle.tplg_plan.specs.declared.plans.Plan.{Plan}
 use Rattle.host_widgets.specs.declared.answers.HostFault.{HostFault}
 use Rattle.host_widgets.specs.declared.kept.Record.{Record}
@@ -24,10 +25,6 @@ asking (commands.Release name) = Some (name, Triggering triggers.Release)
 asking (commands.Close name) = Some (name, Closing)
 asking command = None
 
-abbrev pub stream_fault : Plan → Record → Option (List ℕ × Ask) → Option HostFault
-stream_fault plan kept None = None
-stream_fault plan kept (Some (name, ask)) = early_fault plan kept name ask
-
 -- the first test that fails
 abbrev pub fault_of : Plan → Record → Command → Option HostFault
 fault_of plan kept commands.Load = fault_of_load kept.power
@@ -38,4 +35,4 @@ fault_of plan kept (commands.Set name values) = set_fault plan kept name values
 fault_of plan kept (commands.Bytes name blob) = bytes_fault plan kept name blob
 fault_of plan kept (commands.Get name) = get_fault plan kept name
 fault_of plan kept (commands.Read name) = read_fault plan kept name
-fault_of plan kept command = stream_fault plan kept (asking command)
+fault_of plan kept command = option_and_then (λ (asked : List ℕ × Ask). early_fault plan kept asked.0 asked.1) (asking command)

@@ -1,5 +1,6 @@
 -- What a command makes of what the host and the link know, with its answer and the moments of the device.
 use Rattle.std.specs.Prelude.{ℕ, ◌+◌, List, [], ◌++◌, Bool, true, false, Option, Some, None, Ok, Err}
+use Rattle.std.specs.Option.{option_map_or}
 use Rattle.stream_law.specs.Past.{Moment}
 use Rattle.mbox_link.specs.declared.fates.Fate.TheVariants as fates
 use Rattle.mbox_link.specs.declared.fates.Entry.{Entry}
@@ -32,11 +33,7 @@ first_known plan = record { kept = first_record plan; queue = record { sent = 0;
 
 -- ---- what is done where no test fails
 
--- a command that asks nothing of a stream does nothing
-abbrev pub asked_order : Plan → Record → Option (List ℕ × Ask) → Order
-asked_order plan kept None = quiet answers.Done
-asked_order plan kept (Some (name, ask)) = stream_order plan kept name ask
-
+-- a command that asks nothing of a stream, and is none of the others, does nothing
 abbrev pub order_of : Plan → Record → Command → Order
 order_of plan kept commands.Load = loading plan kept
 order_of plan kept commands.Unload = unloading plan kept
@@ -48,7 +45,7 @@ order_of plan kept (commands.Set name values) = set_order plan kept name values
 order_of plan kept (commands.Bytes name blob) = bytes_order plan kept name blob
 order_of plan kept (commands.Get name) = get_order plan kept name
 order_of plan kept (commands.Read name) = read_order plan kept name
-order_of plan kept command = asked_order plan kept (asking command)
+order_of plan kept command = option_map_or (λ (asked : List ℕ × Ask). stream_order plan kept asked.0 asked.1) (asking command) (quiet answers.Done)
 
 -- ---- all of it
 

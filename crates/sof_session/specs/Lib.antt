@@ -1,8 +1,10 @@
 pub mod Show
+pub mod StateLines
 pub mod ShownLines
 pub mod Seat
 pub mod CommandTests
 pub mod CommandRanges
+pub mod AskedOrders
 pub mod Commands
 pub mod Written
 pub mod SessionStep

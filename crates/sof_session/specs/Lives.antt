@@ -1,5 +1,6 @@
 -- A device before a session and in it, and the turns of a program over it.
-use Rattle.std.specs.Prelude.{◌≡◌, ℕ, List, [], ◌∷◌, ◌++◌, Option}
+use Rattle.std.specs.Prelude.{◌≡◌, ℕ, List, [], ◌∷◌, Option}
+use Rattle.std.specs.List.{flat_map}
 use Rattle.sof_base.specs.Ports.{InputView, OutputView}
 use Rattle.mbox_link.specs.Calls.{Meaning, world}
 use Rattle.tplg_plan.specs.declared.plans.Plan.{Plan}
@@ -54,15 +55,11 @@ pub record Carries {P : Type 0} (means : Meaning P) (command : Command) (out : O
 -- a turn: a session is begun over a bare device, has its inputs filled and stays as it is, or carries out a command
 abbrev pub Turned : {P : Type 0} → Meaning P → Task → Out → Life P → Life P → Type 0
 Turned means (Begin plan heap inputs slots) out (Bare dsp) new = new ≡ Seated (new_seat plan heap dsp) inputs slots
-Turned means (Begin plan heap inputs slots) out (Seated seat i s) new = ⊥
-Turned means (Fill reads next) out (Bare dsp) new = ⊥
-Turned means (Fill reads next) out (Seated seat inputs slots) (Bare dsp) = ⊥
 Turned means (Fill reads next) out (Seated seat inputs slots) (Seated seat' inputs' slots') =
     (seat' ≡ seat) × (slots' ≡ slots) × FilledBy reads inputs inputs' × (next_read inputs' ≡ next)
-Turned means (Carry command) out (Bare dsp) new = ⊥
-Turned means (Carry command) out (Seated seat inputs slots) (Bare dsp) = ⊥
 Turned means (Carry command) out (Seated seat inputs slots) (Seated seat' inputs' slots') =
     (slots' ≡ slots) × Carries means command out seat seat' inputs inputs' slots
+Turned means _ out old new = ⊥
 
 -- turns, one after another
 abbrev pub Turns : {P : Type 0} → Meaning P → Life P → List Turn → Life P → Type 0
@@ -72,19 +69,16 @@ Turns {P} means p (turn ∷ turns) q = (m : Life P) × Turned means turn.task tu
 -- ---- what turns read and answered
 
 abbrev pub reads_by : Task → List (ℕ × List ℕ)
-reads_by (Begin plan heap inputs slots) = []
 reads_by (Fill reads next) = reads
-reads_by (Carry command) = []
+reads_by _ = []
 
 -- all reads of turns, in their order
 abbrev pub reads_in : List Turn → List (ℕ × List ℕ)
-reads_in [] = []
-reads_in (turn ∷ turns) = reads_by turn.task ++ reads_in turns
+reads_in turns = flat_map (λ (turn : Turn). reads_by turn.task) turns
 
 abbrev pub with_out : Task → Out → List Out → List Out
-with_out (Begin plan heap inputs slots) out outs = outs
-with_out (Fill reads next) out outs = outs
 with_out (Carry command) out outs = out ∷ outs
+with_out _ out outs = outs
 
 -- what the turns that carried out commands answered
 abbrev pub carried_outs : List Turn → List Out

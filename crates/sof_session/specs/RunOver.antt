@@ -27,13 +27,11 @@ EndsAt means g (Seated seat inputs slots) moments at = IsAt means g seat inputs 
 
 -- a turn whose messages met these doings of the device: at their numbers they are those of the session's step
 abbrev pub TurnedBy : {P : Type 0} → Meaning P → Doing → Task → Out → Life P → Life P → Type 0
-TurnedBy means doing (Begin plan heap inputs slots) out old new = Turned means (Begin plan heap inputs slots) out old new
-TurnedBy means doing (Fill reads next) out old new = Turned means (Fill reads next) out old new
-TurnedBy means doing (Carry command) out (Bare dsp) new = ⊥
-TurnedBy means doing (Carry command) out (Seated seat inputs slots) (Bare dsp) = ⊥
 TurnedBy means doing (Carry command) out (Seated seat inputs slots) (Seated seat' inputs' slots') =
     (slots' ≡ slots)
     × ((c : Carries means command out seat seat' inputs inputs' slots) × ((number : ℕ) → seat.link.sent < number → number ≤ seat'.link.sent → doing number ≡ c.stepped.doing number))
+TurnedBy means doing (Carry command) out old new = ⊥
+TurnedBy means doing task out old new = Turned means task out old new
 
 -- turns, one after another, all by the same doings
 abbrev pub TurnsBy : {P : Type 0} → Meaning P → Doing → Life P → List Turn → Life P → Type 0

@@ -15,8 +15,6 @@ use Rattle.tplg_plan.specs.declared.plans.StreamPlan.{StreamPlan}
 use Rattle.host_widgets.specs.declared.kept.Power.{Power}
 use Rattle.host_widgets.specs.declared.kept.Power.TheVariants.{Unloaded, On, Off}
 use Rattle.host_widgets.specs.declared.kept.Found.{Found}
-use Rattle.host_widgets.specs.declared.kept.Found.TheVariants.{Closed, Open, Prepared, Running, Paused}
-use Rattle.host_widgets.specs.declared.kept.Found.TheVariants as founds
 use Rattle.host_widgets.specs.declared.kept.StreamRec.{StreamRec}
 use Rattle.host_widgets.specs.declared.kept.ControlRec.{ControlRec}
 use Rattle.host_widgets.specs.declared.kept.Record.{Record}
@@ -27,7 +25,7 @@ use Rattle.host_widgets.specs.Kept.{controls_of}
 use Rattle.host_widgets.specs.Acts.{widget_ids, pipe_by_id}
 use Rattle.sof_script.specs.declared.script.Command.{Command}
 use Rattle.sof_script.specs.declared.script.Command.TheVariants as commands
-use Rattle.sof_script.specs.Text.{values_words, bytes_word}
+use Rattle.sof_script.specs.Text.{values_words, bytes_word, found_word}
 
 -- ---- words
 
@@ -61,23 +59,12 @@ kind_words Demux = codes "demux"
 abbrev pub name_of : Plan → ℕ → List ℕ
 name_of plan id = get_or plan.names id []
 
--- a component: its id, its kind, the index of its pipeline, and its name
-abbrev pub comp_line : ℕ → Comp → List ℕ → List ℕ
-comp_line id c name = codes "comp " ++ decimal id ++ codes " " ++ kind_words c.kind ++ codes " pipe " ++ decimal c.pipe ++ codes " " ++ name
-
--- a buffer: its id, its size in bytes, the index of its pipeline, and its name
-abbrev pub buffer_line : ℕ → Edge → List ℕ → List ℕ
-buffer_line id e name = codes "buffer " ++ decimal id ++ codes " size " ++ decimal e.size ++ codes " pipe " ++ decimal e.pipe ++ codes " " ++ name
-
--- a pipeline: its id, its index, its period in µs, and its name
-abbrev pub pipe_line : ℕ → Pipe → List ℕ → List ℕ
-pipe_line id p name = codes "pipe " ++ decimal id ++ codes " index " ++ decimal p.index ++ codes " period " ++ decimal p.period ++ codes " " ++ name
-
--- an id names a component, or else a buffer, or else a pipeline; an id that names nothing, which no plan has, has an empty line
+-- An id names a component: its kind and the index of its pipeline; or else a buffer: its size in bytes and that index; or else a pipeline:
+-- its index and its period in µs. Its name comes last. An id that names nothing, which no plan has, has an empty line.
 abbrev pub named_line : Option Comp → Option Edge → Option Pipe → ℕ → List ℕ → List ℕ
-named_line (Some c) e p id name = comp_line id c name
-named_line None (Some e) p id name = buffer_line id e name
-named_line None None (Some p) id name = pipe_line id p name
+named_line (Some c) e p id name = codes "comp " ++ decimal id ++ codes " " ++ kind_words c.kind ++ codes " pipe " ++ decimal c.pipe ++ codes " " ++ name
+named_line None (Some e) p id name = codes "buffer " ++ decimal id ++ codes " size " ++ decimal e.size ++ codes " pipe " ++ decimal e.pipe ++ codes " " ++ name
+named_line None None (Some p) id name = codes "pipe " ++ decimal id ++ codes " index " ++ decimal p.index ++ codes " period " ++ decimal p.period ++ codes " " ++ name
 named_line None None None id name = []
 
 -- the line of the widget of an id
@@ -97,12 +84,7 @@ edge_line e = codes "edge " ++ end_words e.source ++ codes " " ++ decimal e.buff
 
 -- how far a stream is, after a blank
 abbrev pub found_words : Found → List ℕ
-found_words Closed = codes " closed"
-found_words Open = codes " open"
-found_words Prepared = codes " prepared"
-found_words Running = codes " running"
-found_words Paused = codes " paused"
-found_words founds.On = codes " on"
+found_words found = codes " " ++ found_word found
 
 -- frames a second, channels and format, each after a blank; nothing where there are no parameters
 abbrev pub params_words : Option Params → List ℕ
@@ -126,31 +108,16 @@ control_line plan (k, c) = codes "control " ++ name_of plan k.comp ++ control_wo
 
 -- ---- all lines
 
--- the streams, in the order of the plan
-abbrev pub stream_lines : Plan → Record → List (List ℕ)
-stream_lines plan kept = map (stream_line plan) (zip plan.streams kept.streams)
-
--- the live controls, by component
-abbrev pub control_lines : Plan → Record → List (List ℕ)
-control_lines plan kept = map (control_line plan) (controls_of plan kept)
-
--- the streams, and then the controls
-abbrev pub state_lines : Plan → Record → List (List ℕ)
-state_lines plan kept = stream_lines plan kept ++ control_lines plan kept
-
--- the edges, and then these
-abbrev pub edge_lines : Plan → Record → List (List ℕ)
-edge_lines plan kept = map edge_line plan.graph.edges ++ state_lines plan kept
-
--- the widgets by id, the edges by buffer id, the streams, and the live controls
+-- the widgets by id, the edges by buffer id, the streams in the order of the plan, and the live controls by component
 abbrev pub loaded_lines : Plan → Record → List (List ℕ)
-loaded_lines plan kept = map (widget_line plan) (widget_ids plan) ++ edge_lines plan kept
+loaded_lines plan kept =
+    map (widget_line plan) (widget_ids plan) ++ (map edge_line plan.graph.edges
+    ++ (map (stream_line plan) (zip plan.streams kept.streams) ++ map (control_line plan) (controls_of plan kept)))
 
 -- nothing more where nothing is loaded
 abbrev pub lines_by : Power → Plan → Record → List (List ℕ)
 lines_by Unloaded plan kept = []
-lines_by On plan kept = loaded_lines plan kept
-lines_by Off plan kept = loaded_lines plan kept
+lines_by _ plan kept = loaded_lines plan kept
 
 -- the lines that `show` says, in order
 abbrev pub show_lines : Plan → Record → List (List ℕ)

@@ -1,9 +1,10 @@
 -- The written run: command by command what host and link know, the moments of the device, and the bytes that the stream equations
 -- give for them. No state of a firmware stands in it; a device stands beside it.
-use Rattle.std.specs.Prelude.{◌≡◌, ℕ, zero, suc, List, [], ◌∷◌, ◌++◌, drop, map, length}
+use Rattle.std.specs.Prelude.{◌≡◌, ℕ, zero, suc, List, [], ◌∷◌, drop, map, length}
+use Rattle.std.specs.List.{flat_map, fold}
 use Rattle.sof_base.specs.Ports.{OutputView}
 use Rattle.stream_law.specs.Table.{list_of}
-use Rattle.stream_law.specs.Past.{Moment, Boot, Cut, Now, Tick, Past, Leads, start}
+use Rattle.stream_law.specs.Past.{Moment, Boot, Past, Leads, start}
 use Rattle.mbox_link.specs.Exchange.{more}
 use Rattle.mbox_link.specs.Meetings.{Doing}
 use Rattle.tplg_plan.specs.declared.plans.Plan.{Plan}
@@ -107,21 +108,17 @@ IsRun g doing (command ∷ commands) old (leg ∷ legs) = IsLeg g doing command 
 
 -- where it is at its end
 abbrev pub end_of : At → List Leg → At
-end_of at [] = at
-end_of at (leg ∷ legs) = end_of leg.at legs
+end_of at legs = fold (λ (at : At) (leg : Leg). leg.at) at legs
 
 -- all its moments
 abbrev pub moments_of : List Leg → List Moment
-moments_of [] = []
-moments_of (leg ∷ legs) = leg.moments ++ moments_of legs
+moments_of legs = flat_map (λ (leg : Leg). leg.moments) legs
 
 -- how often it boots
 abbrev pub boots_in : List Moment → ℕ
 boots_in [] = 0
 boots_in (Boot ∷ moments) = suc (boots_in moments)
-boots_in (Cut ∷ moments) = boots_in moments
-boots_in (Now view fresh ∷ moments) = boots_in moments
-boots_in (Tick ∷ moments) = boots_in moments
+boots_in (_ ∷ moments) = boots_in moments
 
 -- a count of boots after so many more, up to its last value
 abbrev pub raised : ℕ → ℕ → ℕ

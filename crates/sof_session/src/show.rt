@@ -4,6 +4,7 @@ ghost use Rattle.std.specs.Option.{option_copied};
 ghost use Rattle.stream_law.specs.Ways as ways;
 ghost use Rattle.host_widgets.specs.Acts.{pipe_by_id};
 ghost use Rattle.sof_session.specs.Show as show;
+ghost use Rattle.sof_session.specs.StateLines as state_lines;
 ghost use Rattle.sof_session.specs.ShownLines as shown_lines;
 
 use crate::words::{say_end, say_format, say_found, say_kind, say_params, write_power};
@@ -25,7 +26,7 @@ fn name_of(plan: &Plan, id: u32) -> &[u8]
 
 fn write_comp(id: u32, comp: &Comp, name: &[u8], line: &mut Line)
     requires { length name.now < 44 }
-    ensures said { line.new ≡ show.comp_line id comp.now name.now }
+    ensures said { line.new ≡ state_lines.comp_line id comp.now name.now }
     ensures short { length line.new < 2304 }
 {
     line.clear();
@@ -41,7 +42,7 @@ fn write_comp(id: u32, comp: &Comp, name: &[u8], line: &mut Line)
 
 fn write_buffer(id: u32, edge: &Edge, name: &[u8], line: &mut Line)
     requires { length name.now < 44 }
-    ensures said { line.new ≡ show.buffer_line id edge.now name.now }
+    ensures said { line.new ≡ state_lines.buffer_line id edge.now name.now }
     ensures short { length line.new < 2304 }
 {
     line.clear();
@@ -57,7 +58,7 @@ fn write_buffer(id: u32, edge: &Edge, name: &[u8], line: &mut Line)
 
 fn write_pipe(id: u32, pipe: &Pipe, name: &[u8], line: &mut Line)
     requires { length name.now < 44 }
-    ensures said { line.new ≡ show.pipe_line id pipe.now name.now }
+    ensures said { line.new ≡ state_lines.pipe_line id pipe.now name.now }
     ensures short { length line.new < 2304 }
 {
     line.clear();
@@ -138,7 +139,7 @@ fn write_stream(plan: &Plan, stream: &StreamPlan, kept: &StreamRec, line: &mut L
 
 // Writes the k-th of the lines of the streams, and answers whether there is one.
 fn write_kth_stream(plan: &Plan, kept: &Record, k: usize, line: &mut Line) -> bool
-    ensures line { shown_lines.IsLineAt (show.stream_lines plan.now kept.now) k result line.new }
+    ensures line { shown_lines.IsLineAt (state_lines.stream_lines plan.now kept.now) k result line.new }
     ensures short { result ≡ true → length line.new < 2304 }
 {
     let Some(stream) = plan.streams.items().get(k) else {
@@ -173,7 +174,7 @@ fn write_control(plan: &Plan, control: &ControlPlan, held: &ControlRec, line: &m
 
 // Writes the k-th of the lines of the live controls, and answers whether there is one.
 fn write_kth_control(plan: &Plan, kept: &Record, k: usize, line: &mut Line) -> bool
-    ensures line { shown_lines.IsLineAt (show.control_lines plan.now kept.now) k result line.new }
+    ensures line { shown_lines.IsLineAt (state_lines.control_lines plan.now kept.now) k result line.new }
     ensures short { result ≡ true → length line.new < 2304 }
 {
     let Some(control) = plan.controls.items().get(k) else {
@@ -188,7 +189,7 @@ fn write_kth_control(plan: &Plan, kept: &Record, k: usize, line: &mut Line) -> b
 
 // The same of the lines of the streams and then of the live controls.
 fn write_kth_state(plan: &Plan, kept: &Record, k: usize, line: &mut Line) -> bool
-    ensures line { shown_lines.IsLineAt (show.state_lines plan.now kept.now) k result line.new }
+    ensures line { shown_lines.IsLineAt (state_lines.state_lines plan.now kept.now) k result line.new }
     ensures short { result ≡ true → length line.new < 2304 }
 {
     let streams = plan.streams.items().len().min(kept.streams.items().len());
@@ -200,7 +201,7 @@ fn write_kth_state(plan: &Plan, kept: &Record, k: usize, line: &mut Line) -> boo
 
 // The same of the lines of the edges and then of these.
 fn write_kth_edge(plan: &Plan, kept: &Record, k: usize, line: &mut Line) -> bool
-    ensures line { shown_lines.IsLineAt (show.edge_lines plan.now kept.now) k result line.new }
+    ensures line { shown_lines.IsLineAt (state_lines.edge_lines plan.now kept.now) k result line.new }
     ensures short { result ≡ true → length line.new < 2304 }
 {
     let edges = plan.graph.edges.items();

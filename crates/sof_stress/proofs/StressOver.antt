@@ -20,7 +20,8 @@ use Rattle.sof_stress.specs.CommandTurns.{CommandTurn, turns_of}
 use Rattle.sof_script.specs.Ticks.{earlier as earlier_turns}
 use Rattle.sof_stress.specs.CarriedTurns.{turns_after}
 use Rattle.sof_stress.specs.CarriedTurns.{IsDue, tasks_of}
-use Rattle.sof_stress.specs.StressRun.{stress_begins, stress_ground, stress_plan, stress_turns}
+use Rattle.sof_stress.specs.GraphParts.{stress_plan}
+use Rattle.sof_stress.specs.StressRun.{stress_begins, stress_ground, stress_turns}
 use Rattle.sof_stress.specs.CarriedTurns.{commands_of}
 use Rattle.sof_stress.proofs.DueCommands.{at-most, earlier-few, all-due, few-commands}
 

@@ -1,5 +1,5 @@
 -- All of a stress, put together from its session.
-use Rattle.std.proofs.Common.{◌≡◌, ℕ, List, [], sym, ◌∙◌, subst}
+use Rattle.std.proofs.Common.{◌≡◌, ℕ, List, [], ◌∷◌, sym, ◌∙◌, subst}
 use Rattle.sof_base.specs.Ports.{InputView}
 use Rattle.mbox_link.specs.Calls.{Meaning}
 use Rattle.tplg_plan.specs.declared.plans.Plan.{Plan}
@@ -10,14 +10,15 @@ use Rattle.sof_session.specs.Seat.{Seat, new_seat}
 use Rattle.sof_session.specs.Lives.{Seated}
 use Rattle.sof_stress.specs.declared.counts.Counts.{Counts}
 use Rattle.sof_stress.specs.Draws.{stream_count}
-use Rattle.sof_stress.specs.StressPorts.{dai_slot, stress_inputs, stress_slots}
+use Rattle.sof_stress.specs.StressPorts.{dai_slot, stress_inputs}
 use Rattle.sof_stress.specs.CommandTurns.{no_counts}
 use Rattle.sof_stress.specs.CarriedTurns.{CarriedOut}
-use Rattle.sof_stress.specs.StressRun.{stress_heap, stress_plan, stress_turns}
+use Rattle.sof_stress.specs.GraphParts.{stress_heap, stress_plan}
+use Rattle.sof_stress.specs.StressRun.{stress_turns}
 use Rattle.sof_stress.specs.DeviceStress.{Stresses}
 
 module _ {P : Type 0} (means : Meaning P) (seed : ℕ) (p q : P) (plan : Plan) (heap slot sent : ℕ) (inputs inputs' : List InputView) (slots slots' : List ℕ) (seat seat' : Seat P) (counts : Counts) where
-  pub whole : IsSound plan → plan ≡ stress_plan seed → heap ≡ stress_heap (means.most p) seed → slot ≡ dai_slot (stream_count seed) → inputs ≡ stress_inputs (stream_count seed) → slots ≡ stress_slots (stream_count seed) →
+  pub whole : IsSound plan → plan ≡ stress_plan seed → heap ≡ stress_heap (means.most p) seed → slot ≡ dai_slot (stream_count seed) → inputs ≡ stress_inputs (stream_count seed) → slots ≡ dai_slot (stream_count seed) ∷ [] →
       seat ≡ new_seat plan heap p → CarriedOut means slot (stress_turns seed) (Seated seat inputs slots) no_counts (Seated seat' inputs' slots') counts →
       q ≡ seat'.link.device → AreAgreed means seat' → sent ≡ seat'.link.sent → Stresses means seed p (record counts { messages = sent }) q
   whole sound plan_is heap_is slot_is inputs_are slots_are seat_is carried device agreed sent_is =

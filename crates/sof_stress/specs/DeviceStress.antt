@@ -6,7 +6,8 @@ use Rattle.sof_session.specs.Written.{Out}
 use Rattle.sof_session.specs.Lives.{Life, Bare, Turn, Turns, device_of, Exit}
 use Rattle.sof_stress.specs.declared.counts.Counts.{Counts}
 use Rattle.sof_stress.specs.CarriedTurns.{tasks_of}
-use Rattle.sof_stress.specs.StressRun.{stress_plan, stress_begins, stress_turns, sent_in, stress_counts}
+use Rattle.sof_stress.specs.GraphParts.{stress_plan}
+use Rattle.sof_stress.specs.StressRun.{stress_begins, stress_turns, sent_in, stress_counts}
 
 -- The device was handed in bare and is handed back after the turns of the stress, in their order and no others; the numbers are
 -- those of what each came to. The plan is sound.

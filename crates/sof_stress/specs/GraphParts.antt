@@ -1,9 +1,13 @@
--- The widgets of a stress in the parts in which they are put together.
-use Rattle.std.specs.Prelude.{ℕ, ◌+◌, ◌*◌, List, [], ◌∷◌, codes, ◌%◌}
+-- The parts of a stress as code puts them together: widgets, routes, the plan and its heap.
+use Rattle.std.specs.Prelude.{ℕ, ◌+◌, ◌*◌, min, List, [], ◌∷◌, codes, ◌%◌}
 use Rattle.tplg_build.specs.declared.source.WidgetKind.TheVariants as kind
 use Rattle.tplg_build.specs.declared.source.SourceWidget.{SourceWidget}
-use Rattle.sof_stress.specs.Draws.{numbered_name, host_name, volume_name}
-use Rattle.sof_stress.specs.StressGraph.{plain_widget, buffer, scheduler, volume, equaliser, dai}
+use Rattle.tplg_build.specs.declared.source.SourceRoute.{SourceRoute}
+use Rattle.tplg_plan.specs.declared.plans.Plan.{Plan}
+use Rattle.tplg_graph.specs.PlanOf.{plan_of}
+use Rattle.tplg_graph.specs.TopologyNeed.{need_of}
+use Rattle.sof_stress.specs.Draws.{numbered_name, host_name, volume_name, stream_count}
+use Rattle.sof_stress.specs.StressGraph.{plain_widget, buffer, scheduler, volume, equaliser, dai, along, stress_topology}
 
 -- the widgets of a stream up to its volume
 abbrev pub up_to_volume : ℕ → List SourceWidget
@@ -35,3 +39,19 @@ host_slot i = 5 * i
 -- the j-th byte of a stream's input, from 0
 abbrev pub input_byte : ℕ → ℕ → ℕ
 input_byte i j = (7 * j + i) % 256
+
+-- the plan of a stress, by its seed
+abbrev pub stress_plan : ℕ → Plan
+stress_plan seed = plan_of (stress_topology (stream_count seed))
+
+-- and its heap, on a device of this room
+abbrev pub stress_heap : ℕ → ℕ → ℕ
+stress_heap room seed = min (need_of (stress_topology (stream_count seed))) room
+
+-- a route
+abbrev pub source_route : List ℕ → List ℕ → SourceRoute
+source_route source sink = record { source = source; sink = sink }
+
+-- the routes from the mixer to the DAI
+abbrev pub mixed_routes : List SourceRoute
+mixed_routes = along (codes "MIX" ∷ codes "D0" ∷ codes "EQ0" ∷ codes "D1" ∷ codes "DAI0" ∷ [])

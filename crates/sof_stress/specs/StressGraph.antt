@@ -48,12 +48,9 @@ volume name index = widget_with_control (Volume (codes "Master") 2 (pos 0) (pos 
 
 -- ---- routes
 
-abbrev pub source_route : List ℕ → List ℕ → SourceRoute
-source_route source sink = record { source = source; sink = sink }
-
 -- from each of these names to the next
 abbrev pub along : List (List ℕ) → List SourceRoute
-along (source ∷ sink ∷ names) = source_route source sink ∷ along (sink ∷ names)
+along (source ∷ sink ∷ names) = record { source = source; sink = sink } ∷ along (sink ∷ names)
 along _ = []
 
 -- ---- a stream
@@ -94,16 +91,13 @@ mixed_widgets =
     plain_widget kind.Mixer (codes "MIX") [] 100 ∷ buffer (codes "D0") 768 100 ∷ equaliser
     ∷ buffer (codes "D1") 768 100 ∷ dai ∷ scheduler (codes "PIPEM") (codes "DAI0") 1000 100 ∷ []
 
-abbrev pub mixed_routes : List SourceRoute
-mixed_routes = along (codes "MIX" ∷ codes "D0" ∷ codes "EQ0" ∷ codes "D1" ∷ codes "DAI0" ∷ [])
-
 -- ---- all of it
 
 -- over so many streams
 abbrev pub stress_source : ℕ → TopologySource
 stress_source streams = record {
   widgets = flat_map stream_widgets (range_with_len 0 streams) ++ mixed_widgets;
-  routes = flat_map stream_routes (range_with_len 0 streams) ++ mixed_routes;
+  routes = flat_map stream_routes (range_with_len 0 streams) ++ along (codes "MIX" ∷ codes "D0" ∷ codes "EQ0" ∷ codes "D1" ∷ codes "DAI0" ∷ []);
   pcms = map stream_pcm (range_with_len 0 streams);
 }
 

@@ -1,5 +1,5 @@
 -- The inputs of a stress, by the ids of the hosts, and the slot of its one output, which is the DAI's id.
-use Rattle.std.specs.Prelude.{ℕ, true, ◌+◌, ◌*◌, ◌%◌, List, [], ◌∷◌, map}
+use Rattle.std.specs.Prelude.{ℕ, true, ◌+◌, ◌*◌, ◌%◌, List, map}
 use Rattle.std.specs.List.{range_with_len}
 use Rattle.sof_base.specs.Ports.{InputView}
 
@@ -18,7 +18,3 @@ stream_input i = record { slot = 5 * i; position = 0; left = input_bytes i; ende
 -- those of each
 abbrev pub stress_inputs : ℕ → List InputView
 stress_inputs streams = map stream_input (range_with_len 0 streams)
-
--- the slots of the outputs
-abbrev pub stress_slots : ℕ → List ℕ
-stress_slots streams = dai_slot streams ∷ []

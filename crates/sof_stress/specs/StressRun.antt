@@ -1,7 +1,6 @@
 -- A stress over a device: the turns of its session, and its five numbers.
-use Rattle.std.specs.Prelude.{ℕ, min, List, map}
+use Rattle.std.specs.Prelude.{ℕ, min, List, [], ◌∷◌, map}
 use Rattle.sof_base.specs.Ports.{InputView}
-use Rattle.tplg_plan.specs.declared.plans.Plan.{Plan}
 use Rattle.tplg_graph.specs.PlanOf.{plan_of}
 use Rattle.tplg_graph.specs.TopologyNeed.{need_of}
 use Rattle.sof_session.specs.Written.{Out, Ground}
@@ -9,34 +8,28 @@ use Rattle.sof_session.specs.Lives.{Life, Bare, Seated, Task, Begin}
 use Rattle.sof_stress.specs.declared.counts.Counts.{Counts}
 use Rattle.sof_stress.specs.Draws.{stream_count, stress_commands}
 use Rattle.sof_stress.specs.StressGraph.{stress_topology}
-use Rattle.sof_stress.specs.StressPorts.{dai_slot, stress_inputs, stress_slots}
+use Rattle.sof_stress.specs.StressPorts.{dai_slot, stress_inputs}
 use Rattle.sof_stress.specs.CommandTurns.{CommandTurn, turns_of, no_counts, all_counted}
 
 -- ---- what it is over, by its seed
 
-abbrev pub stress_plan : ℕ → Plan
-stress_plan seed = plan_of (stress_topology (stream_count seed))
+-- On a device of this room: the plan, a heap of what the topology needs, where the device has room for it, the inputs' bytes and the slot
+-- of the output.
+abbrev pub stress_ground : ℕ → ℕ → Ground
+stress_ground room seed = record {
+  plan = plan_of (stress_topology (stream_count seed));
+  heap = min (need_of (stress_topology (stream_count seed))) room;
+  whole = map (λ (input : InputView). (input.slot, input.left)) (stress_inputs (stream_count seed));
+  slots = dai_slot (stream_count seed) ∷ [];
+}
 
--- the heap: what the topology needs, where the device has room for it
-abbrev pub stress_heap : ℕ → ℕ → ℕ
-stress_heap room seed = min (need_of (stress_topology (stream_count seed))) room
-
--- a session is begun over the plan, the heap, the inputs and the slot of the output
+-- a session is begun over these
 abbrev pub stress_begins : ℕ → ℕ → Task
-stress_begins room seed = Begin (stress_plan seed) (stress_heap room seed) (stress_inputs (stream_count seed)) (stress_slots (stream_count seed))
+stress_begins room seed = let g = stress_ground room seed in Begin g.plan g.heap (stress_inputs (stream_count seed)) g.slots
 
 -- and carries out the commands, turn by turn
 abbrev pub stress_turns : ℕ → List CommandTurn
 stress_turns seed = turns_of (stress_commands seed)
-
--- what its run is over, on a device of this room
-abbrev pub stress_ground : ℕ → ℕ → Ground
-stress_ground room seed = record {
-  plan = stress_plan seed;
-  heap = stress_heap room seed;
-  whole = map (λ (input : InputView). (input.slot, input.left)) (stress_inputs (stream_count seed));
-  slots = stress_slots (stream_count seed);
-}
 
 -- ---- the five numbers
 

@@ -188,7 +188,7 @@ fn put_mixed_widgets(alloc: Global, widgets: &mut Items<SourceWidget>) -> Result
 fn route(source: &[u8], sink: &[u8]) -> SourceRoute
     requires source { is_name source.now ≡ true }
     requires sink { is_name sink.now ≡ true }
-    ensures { result ≡ law.source_route source.now sink.now }
+    ensures { result ≡ parts.source_route source.now sink.now }
 {
     SourceRoute {
         source: named(source),
@@ -216,7 +216,7 @@ fn put_stream_routes(i: u32, routes: &mut Items<SourceRoute>) -> Result<(), NoMe
 // The routes from the mixer to the DAI.
 #[tactic(auto, unfolding(sof_base::specs::Slots::has_zero))]
 fn put_mixed_routes(routes: &mut Items<SourceRoute>) -> Result<(), NoMemory>
-    ensures { OnOk result (routes.new ≡ routes.old ++ law.mixed_routes) }
+    ensures { OnOk result (routes.new ≡ routes.old ++ parts.mixed_routes) }
 {
     routes.push(route(b"MIX", b"D0"))?;
     routes.push(route(b"D0", b"EQ0"))?;

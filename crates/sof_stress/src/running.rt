@@ -8,7 +8,7 @@ ghost use Rattle.tplg_graph.specs.TopologyNeed.{need_of};
 ghost use Rattle.sof_stress.specs.Draws as draws;
 ghost use Rattle.sof_stress.specs.StressGraph.{stress_topology};
 ghost use Rattle.sof_stress.specs.StressPorts.{dai_slot as slot_of, stress_inputs};
-ghost use Rattle.sof_stress.specs.StressRun.{stress_heap, stress_plan};
+ghost use Rattle.sof_stress.specs.GraphParts.{stress_heap, stress_plan};
 ghost use Rattle.sof_stress.specs.DeviceStress.{Stresses};
 
 use crate::carry::carry_all;

@@ -12,7 +12,8 @@ use Rattle.tplg_compile.specs.Outcomes as found
 use Rattle.tplg_compile.specs.EntryOutcomes.{Lacks}
 use Rattle.tplg_compile.specs.DocumentLists.{are_tables}
 use Rattle.tplg_compile.specs.Results as told
-use Rattle.tplg_compile.specs.ValueForm.{each, perhaps}
+use Rattle.tplg_compile.specs.ValueForm.{each, optional_at}
+use Rattle.tplg_compile.specs.ProgramValues.{perhaps}
 use Rattle.tplg_compile.specs.KeyTables.{Keyed}
 use Rattle.tplg_compile.specs.Entries.{tuples_at, bit_of, bits_with}
 use Rattle.tplg_compile.specs.InOrder.{entries_read, entry_fault_at as told_of}
@@ -56,11 +57,11 @@ module _ {A : Type 0} (tuple : ℕ → Data → Option A) (entry : Members) wher
   step done (Some x) o = next done x o
 
   pub tuples-more : (done : List A) (k : Keyed) (ks : List Keyed) (r : Option A) → perhaps (tuple k.1) (get_member k.0 entry) ≡ Some r → behind done (tuples_at tuple (k ∷ ks) entry) ≡ behind (done ++ option_to_list r) (tuples_at tuple ks entry)
-  unfolding tuples_at
+  unfolding tuples_at optional_at
   tuples-more done k ks r is = rw is (step done r (tuples_at tuple ks entry))
 
   pub tuples-lack : (done : List A) (k : Keyed) (ks : List Keyed) → perhaps (tuple k.1) (get_member k.0 entry) ≡ None → behind done (tuples_at tuple (k ∷ ks) entry) ≡ None
-  unfolding tuples_at
+  unfolding tuples_at optional_at
   tuples-lack done k ks is = rw is refl
 
   pub tuples-end : (done : List A) → behind done (tuples_at tuple [] entry) ≡ Some done

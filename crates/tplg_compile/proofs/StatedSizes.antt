@@ -1,6 +1,6 @@
 -- What a text of at most 1048576 bytes states is within the limits of the builder.
 use Rattle.std.proofs.Common.{◌≡◌, ℕ, suc, ◌+◌, ◌*◌, ◌≤◌, ◌%◌, Bool, true, ◌==◌, List, [], ◌∷◌, ◌++◌, length, length-append, Option, Some, None, Result, Ok, Err, codes, nat_cmp, refl, sym, ◌∙◌, subst, arith}
-use Rattle.std.specs.Prelude.{nat_le}
+use Rattle.std.specs.Prelude.{nat_le, option_map}
 use Rattle.std.specs.List.{list_all}
 use Rattle.std.specs.Option.{option_to_list, option_map_or}
 use Rattle.std.specs.Result.{result_ok}
@@ -20,9 +20,9 @@ use Rattle.tplg_build.specs.declared.source.TopologySource.{TopologySource}
 use Rattle.tplg_build.specs.TopologyForm.{topology_stated}
 use Rattle.tplg_build.specs.SmallSource.{is_small_control, is_small_widget, is_small_source}
 use Rattle.tplg_compile.specs.Outcomes.{◌>>=◌}
-use Rattle.tplg_compile.specs.ValueForm.{blob_of, item_list, each, in_table, required_at, perhaps, optional_at, only, number_of, signed_of, filled_of, name_of, index_of}
+use Rattle.tplg_compile.specs.ValueForm.{blob_of, item_list, each, in_table, required_at, optional_at, only, number_of, signed_of, filled_of, name_of, index_of}
 use Rattle.tplg_compile.specs.KeyTables.{Keyed, number_tokens, text_tokens, widget_keys}
-use Rattle.tplg_compile.specs.ProgramValues.{pga_keys, mux_keys, effect_keys, document_keys}
+use Rattle.tplg_compile.specs.ProgramValues.{pga_keys, mux_keys, effect_keys, document_keys, perhaps}
 use Rattle.tplg_compile.specs.DocumentLists.{Lists, are_tables, entries_of, entries_at, lists_of}
 use Rattle.tplg_compile.specs.NumberedEntries.{HasNumberedEntries}
 use Rattle.tplg_compile.specs.Entries.{tuples_at, stated_number, stated_text, stated_volume, stated_choice, stated_blob, stated_control, stated_kind, stated_widget, stated_route, items_of}
@@ -74,7 +74,7 @@ every-item None = omega arith
 every-item (Some x) = omega arith
 
 tuples-few : {A : Type 0} (read : ℕ → Data → Option A) (ks : List Keyed) (entry : Members) → Holds (λ xs. length xs ≤ length ks) (tuples_at read ks entry)
-unfolding tuples_at
+unfolding tuples_at optional_at
 tuples-few read [] entry = there _ (omega arith)
 tuples-few {A} read (k ∷ ks) entry =
     after-any (λ (xs : List A). length xs ≤ suc (length ks)) (perhaps (read k.1) (get_member k.0 entry)) _ (λ (found : Option A).
@@ -148,8 +148,9 @@ module _ (b : ℕ) where
   entries-bounded : (d : Data) → IsWithin b d → Holds IsBoundedList (entries_of d)
   unfolding entries_of
   entries-bounded d h =
-      after AreFewItems IsBoundedList (as_array d) _ (array-within d h) (λ ds few.
-      holds-if IsBoundedList (are_tables (item_list ds)) (Some (item_list ds)) None (there IsBoundedList (omega (arith, list-count ds, few.0), list-within ds few.1)) (missing _))
+      after IsBoundedList IsBoundedList (option_map item_list (as_array d)) _
+      (holds-map AreFewItems IsBoundedList item_list (as_array d) (array-within d h) (λ ds few. (omega (arith, list-count ds, few.0), list-within ds few.1)))
+      (λ ds bounded. holds-if IsBoundedList (are_tables ds) (Some ds) None (there IsBoundedList bounded) (missing _))
 
   absent-bounded : (o : Option Data) → Holds (IsWithin b) o → Holds IsBoundedList (option_map_or entries_of o (Some []))
   absent-bounded None h = there IsBoundedList (omega arith, tt)

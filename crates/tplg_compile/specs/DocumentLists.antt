@@ -1,9 +1,9 @@
 -- The three lists of a document: widgets, routes and PCMs.
-use Rattle.std.specs.Prelude.{Bool, if◌then◌else◌, is_some, List, [], ◌∷◌, codes, ℕ, Option, Some, None}
+use Rattle.std.specs.Prelude.{Bool, is_some, List, [], ◌∷◌, codes, ℕ, Option, Some, option_map}
 use Rattle.std.specs.List.{list_all}
 use Rattle.std.specs.Option.{option_map_or}
 use Rattle.toml.specs.Data.{Data, Members, get_member, as_array, as_table}
-use Rattle.tplg_compile.specs.ValueForm.{item_list, only}
+use Rattle.tplg_compile.specs.ValueForm.{found_where, item_list, only}
 use Rattle.tplg_compile.specs.Outcomes.{◌>>=◌}
 
 -- each value is a table
@@ -12,9 +12,7 @@ are_tables ds = list_all (λ d. is_some (as_table d)) ds
 
 -- the entries of an array of tables
 unfoldable pub entries_of : Data → Option (List Data)
-entries_of d = do
-  ds ← as_array d
-  if are_tables (item_list ds) then Some (item_list ds) else None
+entries_of d = found_where are_tables (option_map item_list (as_array d))
 
 -- those of a list that may be absent
 unfoldable pub entries_at : List ℕ → Members → Option (List Data)

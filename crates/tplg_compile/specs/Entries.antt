@@ -2,7 +2,7 @@
 use Rattle.std.specs.Prelude.{ℕ, ◌&&◌, nat_le, if◌then◌else◌, List, [], ◌∷◌, ◌++◌, length, codes, bit_or, Option, Some, None, unwrap_or}
 use Rattle.std.specs.Option.{option_to_list}
 use Rattle.std.specs.Str.{bytes_eq}
-use Rattle.toml.specs.Data.{Data, Members, get_member, as_str, as_array}
+use Rattle.toml.specs.Data.{Data, Members, as_str, as_array}
 use Rattle.tplg_model.specs.declared.tokens.NumberTuple.{NumberTuple}
 use Rattle.tplg_model.specs.declared.tokens.TextTuple.{TextTuple}
 use Rattle.tplg_build.specs.declared.source.WidgetKind.{WidgetKind}
@@ -15,7 +15,7 @@ use Rattle.tplg_build.specs.declared.source.PcmLimits.{PcmLimits}
 use Rattle.tplg_build.specs.declared.source.SourcePcm.{SourcePcm}
 use Rattle.tplg_build.specs.WidgetForm.{text_tuple}
 use Rattle.tplg_compile.specs.Outcomes.{◌>>=◌}
-use Rattle.tplg_compile.specs.ValueForm.{number_of, index_of, signed_of, name_of, filled_of, blob_of, item_list, each, required_at, perhaps, optional_at, in_table, only}
+use Rattle.tplg_compile.specs.ValueForm.{found_where, number_of, index_of, signed_of, name_of, filled_of, blob_of, item_list, each, required_at, optional_at, in_table, only}
 use Rattle.tplg_compile.specs.KeyTables.{Keyed, kind_named, number_tokens, text_tokens, widget_keys, pcm_keys}
 
 -- ---- tokens
@@ -24,7 +24,7 @@ use Rattle.tplg_compile.specs.KeyTables.{Keyed, kind_named, number_tokens, text_
 unfoldable pub tuples_at : {A : Type 0} → (ℕ → Data → Option A) → List Keyed → Members → Option (List A)
 tuples_at read [] entry = Some []
 tuples_at read (k ∷ ks) entry = do
-  first ← perhaps (read k.1) (get_member k.0 entry)
+  first ← optional_at (read k.1) k.0 entry
   more ← tuples_at read ks entry
   Some (option_to_list first ++ more)
 
@@ -56,9 +56,7 @@ names_of d = as_array d >>= λ ds. each name_of (item_list ds)
 
 -- 1 to 16 of them
 unfoldable pub items_of : Data → Option (List (List ℕ))
-items_of d = do
-  texts ← names_of d
-  if nat_le 1 (length texts) && nat_le (length texts) 16 then Some texts else None
+items_of d = found_where (λ texts. nat_le 1 (length texts) && nat_le (length texts) 16) (names_of d)
 
 -- the choice of a mux
 unfoldable pub stated_choice : Members → Option SourceControl

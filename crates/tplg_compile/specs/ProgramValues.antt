@@ -1,5 +1,6 @@
 -- The values, the texts and the keys of the program, as those of a source.
-use Rattle.std.specs.Prelude.{ℕ, List, [], ◌∷◌, codes}
+use Rattle.std.specs.Prelude.{ℕ, List, [], ◌∷◌, codes, Option, Some, None, option_map}
+use Rattle.std.specs.Option.{option_map_or}
 use Rattle.std.specs.Borrow.{Bor}
 use Rattle.toml.specs.Data.{Data}
 use Rattle.toml.specs.View.{view}
@@ -37,3 +38,7 @@ mux_keys = codes "name" ∷ codes "items" ∷ []
 -- of an effect
 abbrev pub effect_keys : List (List ℕ)
 effect_keys = codes "name" ∷ codes "max" ∷ codes "blob" ∷ []
+
+-- a value read, where there is one
+abbrev pub perhaps : {A : Type 0} → (Data → Option A) → Option Data → Option (Option A)
+perhaps read found = option_map_or (λ d. option_map Some (read d)) found (Some None)

@@ -1,5 +1,6 @@
 -- How a value of a source is read, and what stands at a key. Nothing where it is of another type or outside its range.
-use Rattle.std.specs.Prelude.{ℕ, ℤ, pos, negsuc, Bool, true, ◌&&◌, nat_lt, nat_le, ◌==◌, int_le, if◌then◌else◌, List, [], ◌∷◌, length, Option, Some, None, option_map}
+use Rattle.std.specs.Prelude.{ℕ, ℤ, pos, negsuc, Bool, true, not, ◌&&◌, nat_lt, nat_le, ◌==◌, int_le, if◌then◌else◌, List, [], ◌∷◌, length, Option, Some, None, option_map}
+use Rattle.std.specs.Option.{option_map_or}
 use Rattle.std.specs.List.{list_any}
 use Rattle.std.specs.Str.{bytes_eq}
 use Rattle.std.specs.Result.{result_ok}
@@ -7,6 +8,10 @@ use Rattle.sof_base.specs.Slots.{is_name}
 use Rattle.hex.specs.Hex.{decode_of}
 use Rattle.toml.specs.Data.{Data, Items, no_items, item, Members, no_members, member, get_member, as_str, as_integer, as_table}
 use Rattle.tplg_compile.specs.Outcomes.{◌>>=◌}
+
+-- what is found, where it passes a test
+abbrev pub found_where : {A : Type 0} → (A → Bool) → Option A → Option A
+found_where test found = found >>= λ x. if test x then Some x else None
 
 -- ---- values
 
@@ -21,27 +26,19 @@ number_of d = as_integer d >>= natural
 
 -- a number from 0 to 65535
 unfoldable pub index_of : Data → Option ℕ
-index_of d = do
-  n ← number_of d
-  if nat_le n 65535 then Some n else None
+index_of d = found_where (λ n. nat_le n 65535) (number_of d)
 
 -- a number from -2147483648 to 2147483647
 unfoldable pub signed_of : Data → Option ℤ
-signed_of d = do
-  z ← as_integer d
-  if int_le (negsuc 2147483647) z && int_le z (pos 2147483647) then Some z else None
+signed_of d = found_where (λ z. int_le (negsuc 2147483647) z && int_le z (pos 2147483647)) (as_integer d)
 
 -- a text of at most 43 bytes, none of them 0
 unfoldable pub name_of : Data → Option (List ℕ)
-name_of d = do
-  text ← as_str d
-  if is_name text then Some text else None
+name_of d = found_where is_name (as_str d)
 
 -- such a text that is not empty
 unfoldable pub filled_of : Data → Option (List ℕ)
-filled_of d = do
-  text ← name_of d
-  if length text == 0 then None else Some text
+filled_of d = found_where (λ text. not (length text == 0)) (name_of d)
 
 -- the bytes of an even number of hex digits
 unfoldable pub blob_of : Data → Option (List ℕ)
@@ -72,14 +69,9 @@ in_table read d = as_table d >>= read
 unfoldable pub required_at : {A : Type 0} → (Data → Option A) → List ℕ → Members → Option A
 required_at read key entry = get_member key entry >>= read
 
--- a value read, where there is one
-abbrev pub perhaps : {A : Type 0} → (Data → Option A) → Option Data → Option (Option A)
-perhaps read None = Some None
-perhaps read (Some d) = option_map Some (read d)
-
 -- the value at a key that may be absent
 unfoldable pub optional_at : {A : Type 0} → (Data → Option A) → List ℕ → Members → Option (Option A)
-optional_at read key entry = perhaps read (get_member key entry)
+optional_at read key entry = option_map_or (λ d. option_map Some (read d)) (get_member key entry) (Some None)
 
 -- a key is one of these
 abbrev pub is_one_of : List ℕ → List (List ℕ) → Bool

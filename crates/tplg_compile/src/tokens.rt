@@ -3,9 +3,8 @@ ghost use Rattle.std.specs.Prelude.{ℕ, Option};
 ghost use Rattle.toml.specs.Data.{Data, get_member};
 ghost use Rattle.toml.specs.View.{view, table_view};
 ghost use Rattle.tplg_compile.specs.EntryOutcomes.{Finds};
-ghost use Rattle.tplg_compile.specs.ValueForm.{perhaps};
 ghost use Rattle.tplg_compile.specs.KeyTables.{number_tokens, text_tokens};
-ghost use Rattle.tplg_compile.specs.ProgramValues.{keyed_by};
+ghost use Rattle.tplg_compile.specs.ProgramValues.{keyed_by, perhaps};
 ghost use Rattle.tplg_compile.specs.Entries as entries;
 
 use crate::entry::value_at;

@@ -4,6 +4,7 @@ use Rattle.std.specs.Option.{option_map}
 use Rattle.std.specs.List.{zip}
 use Rattle.std.proofs.lemmas.Option.{slice_get-map, slice_get_past, slice_get_read}
 use Rattle.sof_session.specs.Show as show
+use Rattle.sof_session.specs.StateLines as state_lines
 use Rattle.sof_session.proofs.LinesAt.{get-zip, get-zip_first, get-zip_second, IsLineAt-none, IsLineAt-map}
 use Rattle.sof_session.proofs.show.write_kth_control.Goals as goal
 
@@ -14,7 +15,7 @@ returns-in_default-clause-line c =
     let k = c.args.k in
     let at = rw c.items.ensures at c.in_default.ensures.lookup in
     let past : length plan.controls ≤ k = grind (arith, nat_tests, at.0) in
-    IsLineAt-none (show.control_lines plan c.args.kept.now) k c.args.line.now
+    IsLineAt-none (state_lines.control_lines plan c.args.kept.now) k c.args.line.now
     (slice_get-map (show.control_line plan) (zip plan.controls found) k ∙ ap (option_map (show.control_line plan)) (get-zip_first plan.controls found k (slice_get_past plan.controls k past)))
 
 pub returns-in_default-get-clause-line : goal.returns-in_default-get-clause-line
@@ -24,7 +25,7 @@ returns-in_default-get-clause-line c =
     let k = c.args.k in
     let at = rw c.items-2.ensures at c.in_default-get.ensures.lookup in
     let past : length found ≤ k = grind (arith, nat_tests, at.0) in
-    IsLineAt-none (show.control_lines plan c.args.kept.now) k c.args.line.now
+    IsLineAt-none (state_lines.control_lines plan c.args.kept.now) k c.args.line.now
     (slice_get-map (show.control_line plan) (zip plan.controls found) k ∙ ap (option_map (show.control_line plan)) (get-zip_second plan.controls found k (slice_get_past found k past)))
 
 pub returns-clause-line : goal.returns-clause-line

@@ -1,4 +1,4 @@
-use Rattle.std.proofs.Common.{◌≡◌, ◌∙◌, sym, ap}
+use Rattle.std.proofs.Common.{◌∙◌, sym, ap}
 use Rattle.tplg_build.specs.SmallSource.{is_small_source}
 use Rattle.sof_stress.specs.StressGraph.{stress_topology}
 use Rattle.sof_stress.proofs.SmallStress.{stress-small}

@@ -2,8 +2,7 @@ use Rattle.std.proofs.Common.{get_or, sym, ap, ◌∙◌, arith}
 use Rattle.std.proofs.lemmas.Result.{err_from_is_err_and}
 use Rattle.toml.specs.Data.{get_member}
 use Rattle.toml.specs.View.{members_view}
-use Rattle.tplg_compile.specs.ValueForm.{perhaps}
-use Rattle.tplg_compile.specs.ProgramValues.{keyed_by}
+use Rattle.tplg_compile.specs.ProgramValues.{keyed_by, perhaps}
 use Rattle.tplg_compile.specs.Entries.{tuples_at}
 use Rattle.tplg_compile.proofs.SeenLaws.{no_key, told-drop, told-past}
 use Rattle.tplg_compile.proofs.LoopLaws.{behind, tuples-more, tuples-lack, tuples-end, through}

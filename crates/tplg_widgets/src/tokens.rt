@@ -81,7 +81,7 @@ pub fn number_of(arrays: &[TokenArray], token: u32) -> Option<u32>
 }
 
 /// The bytes before the first 0, or all.
-fn before_zero(bytes: &[u8]) -> &[u8]
+pub fn before_zero(bytes: &[u8]) -> &[u8]
     ensures { result.now ≡ until_zero bytes.now }
 {
     for i in 0..bytes.len() {
@@ -160,7 +160,8 @@ fn named_process(text: &[u8]) -> Process
     }
 }
 
-fn process_token(arrays: &[TokenArray]) -> Process
+/// What a widget says of what it does; `Other` where it says nothing.
+pub fn process_token(arrays: &[TokenArray]) -> Process
     ensures { result ≡ law.process_token (values.text_of arrays.now PROCESS_TYPE) }
 {
     match text_of(arrays, token_number::PROCESS_TYPE) {

@@ -1,0 +1,3 @@
+pub mod CapsLimits
+pub mod SamePlan
+pub mod SameTest

@@ -1,0 +1,100 @@
+// A whole picture.
+ghost use Rattle.std.specs.Prelude.{◌≡◌, ◌++◌, ◌∷◌, [], map, IfOk, OnOk};
+ghost use Rattle.std.specs.List.{flat_map};
+ghost use Rattle.tplg_picture.specs.Labels as parts;
+ghost use Rattle.tplg_picture.specs.Picture as law;
+
+use crate::lines::{cluster_line, edge_statement, line_of, node_statement, title_line};
+use sof_base::{Items, NoMemory};
+use std::alloc::Global;
+use stream_law::{Comp, Pipe};
+use tplg_plan::Plan;
+
+// A component, where it is of this pipeline.
+#[tactic(auto, unfolding(crate::specs::Labels::node_statement))]
+fn put_node(
+    alloc: Global,
+    plan: &Plan,
+    index: u32,
+    comp: &Comp,
+    lines: &mut Items<Items<u8>>,
+) -> Result<(), NoMemory>
+    ensures { OnOk result (lines.new ≡ lines.old ++ law.nodes_in plan.now index comp.now) }
+{
+    if comp.pipe != index {
+        return Ok(());
+    }
+    lines.push(node_statement(alloc, plan, comp)?)
+}
+
+// The components of a pipeline.
+fn put_nodes(
+    alloc: Global,
+    plan: &Plan,
+    index: u32,
+    lines: &mut Items<Items<u8>>,
+) -> Result<(), NoMemory>
+    ensures { OnOk result (lines.new ≡ lines.old ++ flat_map (law.nodes_in plan.now index) plan.now.graph.comps) }
+{
+    for comp in plan.graph.comps.items() {
+        put_node(alloc, plan, index, comp, lines)?;
+    }
+    Ok(())
+}
+
+// A pipeline with its components.
+fn put_cluster(
+    alloc: Global,
+    plan: &Plan,
+    pipe: &Pipe,
+    lines: &mut Items<Items<u8>>,
+) -> Result<(), NoMemory>
+    ensures { OnOk result (lines.new ≡ lines.old ++ law.cluster_lines plan.now pipe.now) }
+{
+    lines.push(cluster_line(alloc, pipe)?)?;
+    lines.push(title_line(alloc, plan, pipe)?)?;
+    put_nodes(alloc, plan, pipe.index, lines)?;
+    lines.push(line_of(alloc, b"}\n")?)
+}
+
+// All pipelines.
+fn put_clusters(alloc: Global, plan: &Plan, lines: &mut Items<Items<u8>>) -> Result<(), NoMemory>
+    ensures { OnOk result (lines.new ≡ lines.old ++ flat_map (law.cluster_lines plan.now) plan.now.graph.pipes) }
+{
+    for pipe in plan.graph.pipes.items() {
+        put_cluster(alloc, plan, pipe, lines)?;
+    }
+    Ok(())
+}
+
+// All buffers.
+fn put_edges(alloc: Global, plan: &Plan, lines: &mut Items<Items<u8>>) -> Result<(), NoMemory>
+    ensures { OnOk result (lines.new ≡ lines.old ++ map (law.edge_statement plan.now) plan.now.graph.edges) }
+{
+    for edge in plan.graph.edges.items() {
+        lines.push(edge_statement(alloc, plan, edge)?)?;
+    }
+    Ok(())
+}
+
+// The first lines.
+fn put_head(alloc: Global, lines: &mut Items<Items<u8>>) -> Result<(), NoMemory>
+    ensures { OnOk result (lines.new ≡ lines.old ++ parts.head_lines) }
+{
+    lines.push(line_of(alloc, b"digraph topology {\n")?)?;
+    lines.push(line_of(alloc, b"rankdir=LR;\n")?)?;
+    lines.push(line_of(alloc, b"node [shape=box];\n")?)
+}
+
+/// The lines of a plan's picture, each with its newline.
+#[tactic(auto, using(crate::proofs::Lists::followed))]
+pub fn picture(alloc: Global, plan: &Plan) -> Result<Items<Items<u8>>, NoMemory>
+    ensures { IfOk result (λ lines. lines ≡ law.picture_of plan.now) }
+{
+    let mut lines = Items::new(alloc);
+    put_head(alloc, &mut lines)?;
+    put_clusters(alloc, plan, &mut lines)?;
+    put_edges(alloc, plan, &mut lines)?;
+    lines.push(line_of(alloc, b"}\n")?)?;
+    Ok(lines)
+}

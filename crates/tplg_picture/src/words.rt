@@ -1,0 +1,90 @@
+// What stands on a line.
+ghost use Rattle.std.specs.Prelude.{◌≡◌, ◌++◌, decimal, OnOk};
+ghost use Rattle.std.specs.List.{flat_map};
+ghost use Rattle.sof_session.specs.Show as show;
+ghost use Rattle.tplg_picture.specs.Picture as law;
+
+use itoa::Buffer;
+use sof_base::{Format, NoMemory};
+use stream_law::Kind;
+
+/// Bytes behind those of a line.
+pub fn say(line: &mut Vec<u8>, piece: &[u8]) -> Result<(), NoMemory>
+    ensures { OnOk result (line.new.items ≡ line.old.items ++ piece.now) }
+{
+    line.extend_from_slice(piece)?;
+    Ok(())
+}
+
+/// A number in decimal digits behind the bytes of a line.
+pub fn say_number(line: &mut Vec<u8>, number: u32) -> Result<(), NoMemory>
+    ensures { OnOk result (line.new.items ≡ line.old.items ++ decimal number) }
+{
+    let mut digits = Buffer::new();
+    say(line, digits.format(number).as_bytes())
+}
+
+/// The component at an end of a buffer, as the line of an edge has it.
+pub fn say_end(line: &mut Vec<u8>, end: Option<u32>) -> Result<(), NoMemory>
+    ensures { OnOk result (line.new.items ≡ line.old.items ++ show.end_words end) }
+{
+    match end {
+        Some(id) => say_number(line, id),
+        None => say(line, b"-"),
+    }
+}
+
+// A byte of a label.
+fn say_escaped_byte(line: &mut Vec<u8>, byte: u8) -> Result<(), NoMemory>
+    ensures { OnOk result (line.new.items ≡ line.old.items ++ law.escaped_byte byte) }
+{
+    match byte {
+        b'"' => say(line, b"\\\""),
+        b'\\' => say(line, b"\\\\"),
+        b'&' => say(line, b"&amp;"),
+        _ => say(line, &[byte]),
+    }
+}
+
+/// A text in a label.
+pub fn say_escaped(line: &mut Vec<u8>, text: &[u8]) -> Result<(), NoMemory>
+    ensures { OnOk result (line.new.items ≡ line.old.items ++ flat_map law.escaped_byte text.now) }
+{
+    for byte in text {
+        say_escaped_byte(line, *byte)?;
+    }
+    Ok(())
+}
+
+fn say_format(line: &mut Vec<u8>, format: Format) -> Result<(), NoMemory>
+    ensures { OnOk result (line.new.items ≡ line.old.items ++ show.format_words format) }
+{
+    match format {
+        Format::S16 => say(line, b"s16"),
+        Format::S24 => say(line, b"s24"),
+        Format::S32 => say(line, b"s32"),
+    }
+}
+
+/// A component's kind, with the format of a DAI.
+pub fn say_kind(line: &mut Vec<u8>, kind: Kind) -> Result<(), NoMemory>
+    ensures { OnOk result (line.new.items ≡ line.old.items ++ show.kind_words kind) }
+{
+    match kind {
+        Kind::HostPlay => say(line, b"host-play"),
+        Kind::HostCapture => say(line, b"host-capture"),
+        Kind::DaiPlay(format) => {
+            say(line, b"dai-play ")?;
+            say_format(line, format)
+        }
+        Kind::DaiCapture(format) => {
+            say(line, b"dai-capture ")?;
+            say_format(line, format)
+        }
+        Kind::Volume => say(line, b"volume"),
+        Kind::Mixer => say(line, b"mixer"),
+        Kind::Mux => say(line, b"mux"),
+        Kind::Eq => say(line, b"eq"),
+        Kind::Demux => say(line, b"demux"),
+    }
+}

@@ -12,7 +12,8 @@ use Rattle.ipc3_trace.specs.declared.entry.Next.TheVariants.{End, One}
 use Rattle.ipc3_trace.specs.declared.fault.TraceFault.{TraceFault}
 use Rattle.ipc3_trace.specs.declared.fault.TraceFault.TheVariants.{Short, Kind, Size}
 use Rattle.ipc3_trace.specs.Kinds.{record_number, record_numbered, takes_size}
-use Rattle.ipc3_trace.specs.Records.{record_kind, content_of, IsEntry, IsNext}
+use Rattle.ipc3_trace.specs.Records.{record_kind, content_of, IsEntry}
+use Rattle.ipc3_trace.specs.RecordsAt.{IsNext}
 use Rattle.ipc3_trace.specs.TraceFaults.{HasKind, IsFaultAt}
 use Rattle.ipc3_trace.specs.Reading.{entry_in, whole_in, sized_in, headed_in, next_in}
 use Rattle.ipc3_trace.proofs.Stands.{Stands, stands, stood, length-spelled, known-again, takes-entry, entry-again, Made, made}

@@ -9,9 +9,11 @@ use Rattle.ipc3_trace.specs.declared.entry.Entry.{Entry}
 use Rattle.ipc3_trace.specs.declared.entry.Next.{Next}
 use Rattle.ipc3_trace.specs.declared.entry.Next.TheVariants.{End, One}
 use Rattle.ipc3_trace.specs.declared.fault.TraceFault.{TraceFault}
-use Rattle.ipc3_trace.specs.Records.{record_kind, content_of, record_bytes, records_bytes, IsEntry, IsRecordAt}
-use Rattle.ipc3_trace.specs.WholeTraces.{IsOverAt, IsTraceOf, StandFrom, found_then, found_from, trace_in}
-use Rattle.ipc3_trace.specs.Reading.{next_in}
+use Rattle.ipc3_trace.specs.Records.{record_kind, content_of, record_bytes, records_bytes, IsEntry}
+use Rattle.ipc3_trace.specs.RecordsAt.{IsRecordAt}
+use Rattle.ipc3_trace.specs.TraceFaults.{IsFaultAt}
+use Rattle.ipc3_trace.specs.WholeTraces.{IsOverAt, IsTraceOf}
+use Rattle.ipc3_trace.specs.Reading.{next_in, found_then, found_from, trace_in}
 use Rattle.ipc3_trace.proofs.Stands.{length-spelled}
 use Rattle.ipc3_trace.proofs.RecordLaws.{IsRight, next-right, found, faulted}
 
@@ -41,6 +43,11 @@ pub one-record : (b : List ℕ) (at : ℕ) (e f : Entry) (m n : ℕ) → IsRecor
 one-record b at e f m n h k = same-record e f m n (same-next (One e m) (One f n) (sym (found b at (One e m) h) ∙ found b at (One f n) k))
 
 -- ---- records from a place on
+
+-- these records stand one after the other from a place on, up to the end or to the first fault
+abbrev pub StandFrom : List ℕ → ℕ → List Entry → Option TraceFault → Type 0
+StandFrom bytes at [] fault = IsOverAt bytes at fault
+StandFrom bytes at (e ∷ es) fault = (next : ℕ) × IsRecordAt bytes at e next × StandFrom bytes next es fault
 
 -- what is next where bytes end or are at fault
 ended : (b : List ℕ) (at : ℕ) (end : Option TraceFault) → IsOverAt b at end → Result Next TraceFault
@@ -167,3 +174,19 @@ ends-here b at es x y h k = one-from b at es [] x y h k
 
 pub next-within : (b : List ℕ) (at : ℕ) (e : Entry) (next : ℕ) → at ≤ length b → IsRecordAt b at e next → (at < next) × (next ≤ length b)
 next-within b at e next within r = let place = record-within b at e next within r in (omega (arith, place.0), place.1)
+
+-- from a place on bytes end so
+abbrev pub EndFrom : List ℕ → ℕ → Option TraceFault → Type 0
+EndFrom b at end = (es : List Entry) × StandFrom b at es end
+
+pub end-first : (b : List ℕ) → IsBytes b → EndFrom b 0 (trace_in b).1
+end-first b is = ((trace_in b).0, stands-in b is)
+
+pub end-more : (b : List ℕ) (at : ℕ) (e : Entry) (next : ℕ) (x : Option TraceFault) → EndFrom b at x → IsRecordAt b at e next → EndFrom b next x
+end-more b at e next x left r = let on = goes-on b at left.0 x e next left.1 r in (on.0, on.2)
+
+pub end-none : (b : List ℕ) (at : ℕ) (x : Option TraceFault) → EndFrom b at x → at ≡ length b → None ≡ x
+end-none b at x left here = sym (ends-here b at left.0 x None left.1 here).1
+
+pub end-fault : (b : List ℕ) (at : ℕ) (x : Option TraceFault) (fault : TraceFault) → EndFrom b at x → at ≤ length b → IsFaultAt b at fault → Some fault ≡ x
+end-fault b at x fault left within is = sym (ends-here b at left.0 x (Some fault) left.1 (within, is)).1

@@ -1,6 +1,6 @@
 -- What a reader finds at a place, test by test. No public clause rests on this alone: it is proved to be what `Records` and
 -- `TraceFaults` say.
-use Rattle.std.specs.Prelude.{ℕ, ◌+◌, List, length, nat_lt, ◌==◌, Option, Some, None, Result, Ok, Err, if◌then◌else◌}
+use Rattle.std.specs.Prelude.{ℕ, zero, suc, ◌+◌, List, [], ◌∷◌, length, nat_lt, ◌==◌, Option, Some, None, Result, Ok, Err, if◌then◌else◌}
 use Rattle.sof_base.specs.Slots.{word_at, part}
 use Rattle.ipc3_trace.specs.declared.kind.RecordKind.{RecordKind}
 use Rattle.ipc3_trace.specs.declared.kind.RecordKind.TheVariants as kinds
@@ -38,3 +38,20 @@ headed_in b at = if nat_lt (length b) (at + 8) then Err (Short at) else sized_in
 -- what stands at a place
 unfoldable pub next_in : List ℕ → ℕ → Result Next TraceFault
 next_in b at = if at == length b then Ok End else headed_in b at
+
+-- ---- as a whole trace
+
+-- a record, and those behind it
+abbrev pub found_then : Result Next TraceFault → (ℕ → List Entry × Option TraceFault) → List Entry × Option TraceFault
+found_then (Ok End) more = ([], None)
+found_then (Ok (One e next)) more = let rest = more next in (e ∷ rest.0, rest.1)
+found_then (Err fault) more = ([], Some fault)
+
+-- what is found from a place on, in at most so many readings
+unfoldable pub found_from : ℕ → List ℕ → ℕ → List Entry × Option TraceFault
+found_from zero bytes at = ([], None)
+found_from (suc n) bytes at = found_then (next_in bytes at) (λ next. found_from n bytes next)
+
+-- the records of bytes up to their end or their first fault, which is told; each takes eight bytes at least
+abbrev pub trace_in : List ℕ → List Entry × Option TraceFault
+trace_in bytes = found_from (suc (length bytes)) bytes 0

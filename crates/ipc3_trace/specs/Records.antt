@@ -1,13 +1,10 @@
 -- The records of a trace as bytes, in the project's own format: u32 kind, u32 size, and that many bytes.
-use Rattle.std.specs.Prelude.{◌≡◌, ℕ, ◌+◌, ◌<◌, ◌≤◌, ◌^◌, List, [], ◌++◌, flat_map, length}
+use Rattle.std.specs.Prelude.{ℕ, ◌<◌, ◌≤◌, ◌^◌, List, [], ◌++◌, flat_map, length}
 use Rattle.std.specs.Int.{w32, to_le_bytes}
-use Rattle.sof_base.specs.Slots.{part}
 use Rattle.ipc3_trace.specs.declared.kind.RecordKind.{RecordKind}
 use Rattle.ipc3_trace.specs.declared.kind.RecordKind.TheVariants as kinds
 use Rattle.ipc3_trace.specs.declared.entry.Entry.{Entry}
 use Rattle.ipc3_trace.specs.declared.entry.Entry.TheVariants.{Boot, Cut, Request, Reply, Tick, Lost}
-use Rattle.ipc3_trace.specs.declared.entry.Next.{Next}
-use Rattle.ipc3_trace.specs.declared.entry.Next.TheVariants.{End, One}
 use Rattle.ipc3_trace.specs.Kinds.{record_number}
 
 -- ---- how a record is spelled
@@ -50,16 +47,3 @@ IsEntry (Request message) = length message ≤ 384
 IsEntry (Reply message) = (12 ≤ length message) × (length message ≤ 384)
 IsEntry Tick = Unit {0}
 IsEntry Lost = Unit {0}
-
--- ---- what stands at a place of bytes
-
--- a record stands at a place, and `next` is the place behind it
-pub record IsRecordAt (bytes : List ℕ) (at : ℕ) (e : Entry) (next : ℕ) : Type 0 where
-  pub is : IsEntry e
-  pub stands : part bytes at (length (record_bytes e)) ≡ record_bytes e
-  pub behind : next ≡ at + length (record_bytes e)
-
--- the bytes end there, or a record stands there
-abbrev pub IsNext : List ℕ → ℕ → Next → Type 0
-IsNext bytes at End = at ≡ length bytes
-IsNext bytes at (One e next) = IsRecordAt bytes at e next

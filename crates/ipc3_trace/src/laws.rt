@@ -1,8 +1,10 @@
 //! What holds of all bytes and of all calls. Nothing runs here.
 ghost use Rattle.std.specs.Prelude.{◌≡◌, ◌<◌, ◌+◌, ◌++◌, ℕ, List, Option, None, length, slice_index};
 ghost use Rattle.std.specs.List.{AllByRecursion};
-ghost use Rattle.ipc3_trace.specs.Records.{IsEntry, IsRecordAt, record_bytes, records_bytes};
-ghost use Rattle.ipc3_trace.specs.WholeTraces.{IsTraceOf, trace_in};
+ghost use Rattle.ipc3_trace.specs.Records.{IsEntry, record_bytes, records_bytes};
+ghost use Rattle.ipc3_trace.specs.RecordsAt.{IsRecordAt};
+ghost use Rattle.ipc3_trace.specs.WholeTraces.{IsTraceOf};
+ghost use Rattle.ipc3_trace.specs.Reading.{trace_in};
 ghost use Rattle.ipc3_trace.specs.CallRecords.{HoldsRecords, FitsRecords, TracerIsDevice, RecordsLead, RepliesAreFirmware};
 ghost use Rattle.ipc3_trace.specs.StepsAlike.{StepsAreAlike, TicksAreAlike};
 ghost use Rattle.ipc3_trace.specs.declared.entry.Entry.{Entry as Record};

@@ -18,5 +18,5 @@ pub use entry::{Entry, Next};
 pub use fault::TraceFault;
 pub use kind::RecordKind;
 pub use laws::{alike_laws, held_law, leading_laws, traces_are_read};
-pub use reading::record_at;
+pub use reading::{first_fault, record_at};
 pub use tracer::Tracer;

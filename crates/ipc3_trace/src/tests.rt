@@ -1,5 +1,5 @@
 // Records of a trace and their lines, and traces that are cut or changed.
-use crate::{Entry, Next, TraceFault, describe, record_at};
+use crate::{Entry, Next, TraceFault, describe, first_fault, record_at};
 use ipc3_codec::{CompWords, Message, encode};
 use sof_base::{Bounded, Line};
 use std::fmt::Debug;
@@ -57,6 +57,7 @@ fn a_trace_that_is_cut_is_told(rt: HostRuntime) {
         };
         let bytes = TRACE.get(..length).unwrap_or(&[]);
         same(&rt, length, &records(bytes), &(count, want));
+        same(&rt, length, &first_fault(bytes), &want);
     }
 }
 

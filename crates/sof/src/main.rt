@@ -8,14 +8,14 @@ use crate::reasons::{reason, tell_waves};
 use fw_core::Firmware;
 use sof_base::NoMemory;
 use sof_desk::{Desk, OsDesk, Subject, Trouble};
-use sof_faults::words_fault;
+use sof_faults::{ShownName, words_fault};
 use sof_run::run;
 use std::fmt::Display;
 use std::fs::File;
 use std::io::ErrorKind;
 use std::os::fd::{AsRawFd, IntoRawFd};
 use std::process::ExitCode;
-use std::{env, io};
+use std::{env, fmt, io};
 
 /// The greatest heap of the firmware, in bytes.
 const ROOM: u32 = 16777216;
@@ -24,8 +24,11 @@ const HELP: &str = "\
 Forms:
   sof play HEAP TOPOLOGY SCRIPT   plays a script over the graph of a topology
   sof check TOPOLOGY              tells what a topology has and needs
+  sof graph TOPOLOGY              draws a topology, for Graphviz
   sof compile SOURCE OUT          makes a topology file from a source in TOML
+  sof source TOPOLOGY OUT         makes the source of a topology file, in TOML
   sof stress N                    carries out what N draws, from 1 to 1000, and counts it
+  sof decode TRACE                tells the records of a trace in words, one a line
   sof --help, sof -h              prints this text
   sof --version, sof -V           prints the version
 
@@ -35,7 +38,8 @@ HEAP is the size of the device's heap in bytes, in decimal, at most 16777216.
 Statuses:
   0  all was carried out; the transcript tells which commands were refused
   1  the words have none of the forms
-  2  TOPOLOGY is no topology file, or it breaks a rule
+  2  TOPOLOGY is no topology file, it breaks a rule, or no source carries it; or
+     TRACE has a fault
   3  a file or standard output failed; standard error tells which and why
   4  a line of SCRIPT or an entry of SOURCE is at fault
   5  a file is longer than its limit
@@ -45,6 +49,19 @@ Statuses:
 ";
 
 const VERSION: &str = "sof 0.1.0\n";
+
+// A trouble with the name of its file as a terminal may show it.
+#[derive(Clone, Copy)]
+struct ShownTrouble<'a>(&'a Trouble);
+
+impl Display for ShownTrouble<'_> {
+    fn fmt<W: fmt::Write>(&self, f: &mut fmt::Formatter<W>) -> fmt::Result {
+        match &self.0.subject {
+            Subject::File(name) => write!(f, "{}: {}", ShownName(name.as_str()), self.0.reason),
+            _ => write!(f, "{}", self.0),
+        }
+    }
+}
 
 /// Tells why on standard error; where that fails too, nothing more can be told.
 pub fn tell<D: Display + Drop>(rt: &HostRuntime, why: D) {
@@ -131,7 +148,7 @@ fn play(rt: &HostRuntime, words: &[String]) -> Result<u8, NoMemory> {
         status = 3;
     }
     if let Some(trouble) = desk.trouble() {
-        tell(rt, trouble);
+        tell(rt, ShownTrouble(trouble));
     }
     let _ = explain(rt, words, status);
     Ok(status)

@@ -4,14 +4,20 @@ ghost use Rattle.std.specs.Prelude.{◌≤◌, length, IfOk, IfSome};
 use crate::tell;
 use sof_base::NoMemory;
 use sof_desk::{Desk, LoadFault, OsDesk};
-use sof_faults::{Wave, binding_sentence, script_sentence, source_sentence, topology_sentence};
+use sof_faults::{
+    Wave, binding_sentence, no_source_sentence, script_sentence, source_sentence,
+    topology_sentence, trace_sentence,
+};
 use sof_script::parse;
 use std::fs;
 use std::fs::File;
 use std::io::Read;
 
-/// The most bytes of a file that the top call loads.
+/// The most bytes of a topology, a script and a source that the top call loads.
 const LIMIT: usize = 1048576;
+
+/// And those of a trace.
+const TRACE_LIMIT: usize = 16777216;
 
 // Whether a name is that of a file whose bytes are there once more: no pipe, and no terminal.
 fn is_kept(rt: &HostRuntime, name: &str) -> bool {
@@ -21,15 +27,15 @@ fn is_kept(rt: &HostRuntime, name: &str) -> bool {
     }
 }
 
-// The bytes of a file that the run loaded; none where it cannot be loaded again.
-fn loaded(rt: &HostRuntime, name: &str) -> Result<Option<Vec<u8>>, NoMemory>
-    ensures { IfOk result (λ bytes. IfSome bytes (λ b. length b.items ≤ 1048576)) }
+// The bytes of a file that the run loaded, at most so many; none where it cannot be loaded again.
+fn loaded(rt: &HostRuntime, name: &str, limit: usize) -> Result<Option<Vec<u8>>, NoMemory>
+    ensures { IfOk result (λ bytes. IfSome bytes (λ b. length b.items ≤ limit)) }
 {
     if !is_kept(rt, name) {
         return Ok(None);
     }
     let mut desk = OsDesk::new(rt, rt.alloc())?;
-    match desk.load(rt.alloc(), name, LIMIT) {
+    match desk.load(rt.alloc(), name, limit) {
         Ok(bytes) => Ok(Some(bytes)),
         Err(LoadFault::OutOfMemory) => Err(NoMemory),
         Err(_) => Ok(None),
@@ -38,15 +44,35 @@ fn loaded(rt: &HostRuntime, name: &str) -> Result<Option<Vec<u8>>, NoMemory>
 
 // What is wrong with the topology file of a name, as a sentence.
 fn topology_reason(rt: &HostRuntime, name: &str) -> Result<Option<String>, NoMemory> {
-    match loaded(rt, name)? {
+    match loaded(rt, name, LIMIT)? {
         Some(bytes) => topology_sentence(rt.alloc(), name, &bytes),
+        None => Ok(None),
+    }
+}
+
+// Why no source of the topology file of a name was made.
+fn no_source_reason(rt: &HostRuntime, name: &str) -> Result<Option<String>, NoMemory> {
+    let Some(bytes) = loaded(rt, name, LIMIT)? else {
+        return Ok(None);
+    };
+    let reason = topology_sentence(rt.alloc(), name, &bytes)?;
+    if reason.is_some() {
+        return Ok(reason);
+    }
+    Ok(Some(no_source_sentence(rt.alloc(), name)?))
+}
+
+// What is wrong with the trace of a name.
+fn trace_reason(rt: &HostRuntime, name: &str) -> Result<Option<String>, NoMemory> {
+    match loaded(rt, name, TRACE_LIMIT)? {
+        Some(bytes) => trace_sentence(rt.alloc(), name, &bytes),
         None => Ok(None),
     }
 }
 
 // What is wrong with the source of a name.
 fn source_reason(rt: &HostRuntime, name: &str) -> Result<Option<String>, NoMemory> {
-    match loaded(rt, name)? {
+    match loaded(rt, name, LIMIT)? {
         Some(text) => source_sentence(rt.alloc(), name, &text),
         None => Ok(None),
     }
@@ -58,14 +84,14 @@ fn script_reason(
     topology: &str,
     script: &str,
 ) -> Result<Option<String>, NoMemory> {
-    let Some(lines) = loaded(rt, script)? else {
+    let Some(lines) = loaded(rt, script, LIMIT)? else {
         return Ok(None);
     };
     let reason = script_sentence(rt.alloc(), script, &lines)?;
     if reason.is_some() {
         return Ok(reason);
     }
-    match loaded(rt, topology)? {
+    match loaded(rt, topology, LIMIT)? {
         Some(bytes) => binding_sentence(rt.alloc(), script, &lines, &bytes),
         None => Ok(None),
     }
@@ -74,7 +100,9 @@ fn script_reason(
 /// Why the words led to a status that is about a file: found in the files again, when all else is done.
 pub fn reason(rt: &HostRuntime, words: &[String], status: u8) -> Result<Option<String>, NoMemory> {
     match (status, words) {
+        (2, [form, trace]) if form.as_str() == "decode" => trace_reason(rt, trace.as_str()),
         (2, [_, topology]) => topology_reason(rt, topology.as_str()),
+        (2, [_, topology, _]) => no_source_reason(rt, topology.as_str()),
         (2, [_, _, topology, _]) => topology_reason(rt, topology.as_str()),
         (4, [_, source, _]) => source_reason(rt, source.as_str()),
         (4, [_, _, topology, script]) => script_reason(rt, topology.as_str(), script.as_str()),
@@ -99,7 +127,7 @@ fn is_wave(rt: &HostRuntime, name: &str) -> bool {
 
 /// Tells of each input of a script that is a WAV, of whose header the program knows nothing.
 pub fn tell_waves(rt: &HostRuntime, script: &str) -> Result<(), NoMemory> {
-    let Some(lines) = loaded(rt, script)? else {
+    let Some(lines) = loaded(rt, script, LIMIT)? else {
         return Ok(());
     };
     let Ok(script) = parse(rt.alloc(), &lines) else {

@@ -30,7 +30,7 @@ impl Display for Usage {
         for argument in self.word {
             write!(f, "{between}{}", argument.word())?;
             if argument.word() == "VALUE" {
-                write!(f, " ..")?;
+                write!(f, " .., with 1 to 8 values")?;
             }
             between = " ";
         }

@@ -26,9 +26,9 @@ enum Takes {
     Index,
     #[error("a number from -2147483648 to 2147483647")]
     Signed,
-    #[error("a text of at most 43 bytes")]
+    #[error("a text of at most 43 bytes, none of them 0")]
     Text,
-    #[error("a text of 1 to 43 bytes")]
+    #[error("a text of 1 to 43 bytes, none of them 0")]
     Filled,
     #[error("a text of two hex digits for each byte")]
     Hex,
@@ -36,7 +36,7 @@ enum Takes {
     Kind,
     #[error("an array of s16le, s24le and s32le")]
     Formats,
-    #[error("an array of 1 to 16 texts of at most 43 bytes")]
+    #[error("an array of 1 to 16 texts of at most 43 bytes, none of them 0")]
     Items,
     #[error("a table, for a pga, a mux or an effect")]
     Control,
@@ -138,6 +138,15 @@ enum KeyFault<'a> {
     NoControl,
 }
 
+/// What is wrong in an entry, or in its control.
+#[derive(Clone, Copy, Debug, Error)]
+enum Fault<'a> {
+    #[error("{0}")]
+    Entry(KeyFault<'a>),
+    #[error("control: {0}")]
+    Control(KeyFault<'a>),
+}
+
 // What a key takes; `max` is signed at a pga's control.
 fn takes_at(keys: &[&str], key: &str) -> Takes {
     match key {
@@ -232,29 +241,34 @@ fn control_keys(widget: &Table) -> Option<&'static [&'static str]> {
 }
 
 // What is wrong in the control of a widget whose own keys are right.
-fn control_fault(alloc: Global, widget: &Table) -> Result<Option<KeyFault<'_>>, NoMemory> {
+fn control_fault(alloc: Global, widget: &Table) -> Result<Option<Fault<'_>>, NoMemory> {
     let Some(control) = widget.get("control") else {
         return Ok(None);
     };
     let Some(keys) = control_keys(widget) else {
-        return Ok(Some(KeyFault::NoControl));
+        return Ok(Some(Fault::Entry(KeyFault::NoControl)));
     };
-    match control.as_table() {
-        Some(control) => table_fault(alloc, control, keys, false),
+    let Some(control) = control.as_table() else {
+        return Ok(None);
+    };
+    match table_fault(alloc, control, keys, false)? {
+        Some(fault) => Ok(Some(Fault::Control(fault))),
         None => Ok(None),
     }
 }
 
 // What is wrong with an entry of a list.
-fn entry_fault(alloc: Global, list: List, entry: &Table) -> Result<Option<KeyFault<'_>>, NoMemory> {
-    match list {
-        List::Top => table_fault(alloc, entry, &DOCUMENT_KEYS, false),
-        List::Widget => match table_fault(alloc, entry, &WIDGET_KEYS, true)? {
-            Some(fault) => Ok(Some(fault)),
-            None => control_fault(alloc, entry),
-        },
-        List::Route => table_fault(alloc, entry, &ROUTE_KEYS, false),
-        List::Pcm => table_fault(alloc, entry, &PCM_KEYS, false),
+fn entry_fault(alloc: Global, list: List, entry: &Table) -> Result<Option<Fault<'_>>, NoMemory> {
+    let own = match list {
+        List::Top => table_fault(alloc, entry, &DOCUMENT_KEYS, false)?,
+        List::Widget => table_fault(alloc, entry, &WIDGET_KEYS, true)?,
+        List::Route => table_fault(alloc, entry, &ROUTE_KEYS, false)?,
+        List::Pcm => table_fault(alloc, entry, &PCM_KEYS, false)?,
+    };
+    match (own, list) {
+        (Some(fault), _) => Ok(Some(Fault::Entry(fault))),
+        (None, List::Widget) => control_fault(alloc, entry),
+        (None, _) => Ok(None),
     }
 }
 

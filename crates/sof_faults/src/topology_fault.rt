@@ -66,3 +66,11 @@ pub fn topology_sentence(
         Err(PlanFault::OutOfMemory) => Err(NoMemory),
     }
 }
+
+/// The sentence of a right topology that has no source, with the name of its file in front.
+pub fn no_source_sentence(alloc: Global, file: &str) -> Result<String, NoMemory> {
+    Ok(format!(in alloc;
+        "{}: no source has keys for all of its plan",
+        ShownName(file)
+    )?)
+}

@@ -50,7 +50,7 @@ enum Slot {
     File(&'static str),
 }
 
-const FORMS: [Form; 4] = [
+const FORMS: [Form; 7] = [
     Form {
         word: "play",
         takes: "HEAP TOPOLOGY SCRIPT",
@@ -62,14 +62,29 @@ const FORMS: [Form; 4] = [
         slots: &[Slot::File("TOPOLOGY")],
     },
     Form {
+        word: "graph",
+        takes: "TOPOLOGY",
+        slots: &[Slot::File("TOPOLOGY")],
+    },
+    Form {
         word: "compile",
         takes: "SOURCE OUT",
         slots: &[Slot::File("SOURCE"), Slot::File("OUT")],
     },
     Form {
+        word: "source",
+        takes: "TOPOLOGY OUT",
+        slots: &[Slot::File("TOPOLOGY"), Slot::File("OUT")],
+    },
+    Form {
         word: "stress",
         takes: "N",
         slots: &[Slot::Seed],
+    },
+    Form {
+        word: "decode",
+        takes: "TRACE",
+        slots: &[Slot::File("TRACE")],
     },
 ];
 

@@ -1,5 +1,5 @@
--- What `check` ensures, from what it did.
-use Rattle.std.proofs.Common.{◌≡◌, ◌⊎◌, inl, inr, ℕ, ◌≤◌, ◌<◌, true, false, List, [], ◌∷◌, ◌++◌, length, map, Some, Result, Ok, Err, refl, ◌∙◌, ap, subst, codes, arith}
+-- What `check` and `graph` ensure, from what they did.
+use Rattle.std.proofs.Common.{◌≡◌, ◌⊎◌, inl, inr, ℕ, ◌≤◌, ◌<◌, true, false, List, [], ◌∷◌, ◌++◌, length, map, Option, Some, Result, Ok, Err, refl, ◌∙◌, ap, subst, codes, arith}
 use Rattle.std.specs.List.{concat}
 use Rattle.std.proofs.lemmas.List.{append-nil}
 use Rattle.sof_desk.specs.declared.calls.LoadFault.TheVariants.{Failed, TooLong, OutOfMemory}
@@ -12,27 +12,32 @@ use Rattle.sof_run.specs.declared.prepare.Halt.TheVariants as halts
 use Rattle.sof_run.specs.Todo.{End, Says, DoneBy, RanOn}
 use Rattle.sof_run.specs.Lines.{no_memory_line, with_newline, halt_line, halt_status}
 use Rattle.sof_run.specs.Play.{lines_todo}
-use Rattle.sof_run.specs.Checking.{check_of, counts_of}
+use Rattle.sof_run.specs.Checking.{check_of, count_lines}
+use Rattle.sof_run.specs.Picturing.{graph_file_of, picture_lines}
 use Rattle.sof_run.specs.Prepared.{checked}
-use Rattle.sof_run.specs.CheckTodo.{checked_todo, check}
+use Rattle.sof_run.specs.CheckTodo.{said_todo, checked_todo, check}
 use Rattle.sof_run.specs.Forms.{todo_for, todo_of}
 use Rattle.sof_run.specs.TopologyBytes.{AreBytes}
 use Rattle.sof_run.specs.Calls.{heard_in}
 use Rattle.sof_run.specs.Checks.{IsWrong, IsRight, saying, CheckVerdict, Spoke, IsFront, WroteText, Checks}
 use Rattle.sof_run.specs.ComeTo.{TopologyComesTo}
-use Rattle.sof_run.proofs.Requests.{check_asked}
+use Rattle.sof_run.proofs.Requests.{check_asked, graph_asked}
 use Rattle.sof_run.proofs.Findings.{checked_found, checked_only}
+use Rattle.sof_run.proofs.CheckPhases.{as_said}
 use Rattle.sof_run.proofs.Steps.{no_turns}
 use Rattle.sof_run.proofs.SaidLines.{said, front_behind, nothing, behind, put, took, Parted, line_failed, line_parted}
 
 -- ---- the words
 
-checks_alone : (room sent : ℕ) (words : List (List ℕ)) (name : List ℕ) → check_of words ≡ Some name → todo_of room sent words ≡ check name
+checks_alone : (room sent : ℕ) (words : List (List ℕ)) (name : List ℕ) → check_of words ≡ Some name → todo_of room sent words ≡ check count_lines name
 checks_alone room sent words name is = ap (todo_for room sent) (check_asked room words name is)
+
+pictures_alone : (room sent : ℕ) (words : List (List ℕ)) (name : List ℕ) → graph_file_of words ≡ Some name → todo_of room sent words ≡ check picture_lines name
+pictures_alone room sent words name is = ap (todo_for room sent) (graph_asked room words name is)
 
 -- ---- the device
 
-lines_alone : (lines : List (List ℕ)) (turns : List Turn) (calls : List DeskCall) (status : ℕ) → DoneBy (lines_todo lines End) turns calls status → turns ≡ []
+lines_alone : (lines : List (List ℕ)) (turns : List Turn) (calls : List DeskCall) (status : ℕ) → DoneBy (said_todo lines End) turns calls status → turns ≡ []
 lines_alone [] turns calls status goes = goes.0
 lines_alone (line ∷ lines) turns [] status goes = absurd goes
 lines_alone (line ∷ lines) turns (Load name limit heard ∷ calls) status goes = absurd goes
@@ -40,24 +45,24 @@ lines_alone (line ∷ lines) turns (Read n size got ∷ calls) status goes = abs
 lines_alone (line ∷ lines) turns (Did act true ∷ calls) status goes = lines_alone lines turns calls status goes.1
 lines_alone (line ∷ lines) turns (Did act false ∷ calls) status goes = goes.1.0
 
-checked_alone : (r : Result Topology Halt) (turns : List Turn) (calls : List DeskCall) (status : ℕ) → DoneBy (checked_todo r) turns calls status ⊎ Says no_memory_line 7 turns calls status → turns ≡ []
-checked_alone (Ok t) turns calls status (inl goes) = lines_alone (counts_of t) turns calls status goes
-checked_alone (Err why) turns calls status (inl goes) = no_turns (halt_line why) (halt_status why) turns calls status goes
-checked_alone r turns calls status (inr says) = no_turns no_memory_line 7 turns calls status says
+checked_alone : (lines : Topology → List (List ℕ)) (r : Result Topology Halt) (turns : List Turn) (calls : List DeskCall) (status : ℕ) → DoneBy (checked_todo lines r) turns calls status ⊎ Says no_memory_line 7 turns calls status → turns ≡ []
+checked_alone lines (Ok t) turns calls status (inl goes) = lines_alone (lines t) turns calls status goes
+checked_alone lines (Err why) turns calls status (inl goes) = no_turns (halt_line why) (halt_status why) turns calls status goes
+checked_alone lines r turns calls status (inr says) = no_turns no_memory_line 7 turns calls status says
 
-no_turn : (name : List ℕ) (turns : List Turn) (calls : List DeskCall) (status : ℕ) → DoneBy (check name) turns calls status → turns ≡ []
-no_turn name turns [] status goes = absurd goes
-no_turn name turns (Did act done ∷ calls) status goes = absurd goes
-no_turn name turns (Read n size got ∷ calls) status goes = absurd goes
-no_turn name turns (Load n l (Ok got) ∷ calls) status goes = checked_alone (checked got) turns calls status goes.2
-no_turn name turns (Load n l (Err TooLong) ∷ calls) status goes = no_turns (codes "too long topology\n") 5 turns calls status goes.2
-no_turn name turns (Load n l (Err OutOfMemory) ∷ calls) status goes = no_turns no_memory_line 7 turns calls status goes.2
-no_turn name turns (Load n l (Err Failed) ∷ calls) status goes = goes.2.0
+no_turn : (lines : Topology → List (List ℕ)) (name : List ℕ) (turns : List Turn) (calls : List DeskCall) (status : ℕ) → DoneBy (check lines name) turns calls status → turns ≡ []
+no_turn lines name turns [] status goes = absurd goes
+no_turn lines name turns (Did act done ∷ calls) status goes = absurd goes
+no_turn lines name turns (Read n size got ∷ calls) status goes = absurd goes
+no_turn lines name turns (Load n l (Ok got) ∷ calls) status goes = checked_alone lines (checked got) turns calls status goes.2
+no_turn lines name turns (Load n l (Err TooLong) ∷ calls) status goes = no_turns (codes "too long topology\n") 5 turns calls status goes.2
+no_turn lines name turns (Load n l (Err OutOfMemory) ∷ calls) status goes = no_turns no_memory_line 7 turns calls status goes.2
+no_turn lines name turns (Load n l (Err Failed) ∷ calls) status goes = goes.2.0
 
 -- ---- the status
 
 -- all lines that were said, or not all of them were
-lines_said : (lines : List (List ℕ)) (turns : List Turn) (calls : List DeskCall) (status : ℕ) → DoneBy (lines_todo lines End) turns calls status → (status ≡ 3) ⊎ ((status ≡ 0) × (calls ≡ map saying (map with_newline lines)))
+lines_said : (lines : List (List ℕ)) (turns : List Turn) (calls : List DeskCall) (status : ℕ) → DoneBy (said_todo lines End) turns calls status → (status ≡ 3) ⊎ ((status ≡ 0) × (calls ≡ map saying lines))
 lines_said [] turns calls status goes = inr (goes.2, goes.1)
 lines_said (line ∷ lines) turns [] status goes = absurd goes
 lines_said (line ∷ lines) turns (Load name limit heard ∷ calls) status goes = absurd goes
@@ -65,22 +70,22 @@ lines_said (line ∷ lines) turns (Read n size got ∷ calls) status goes = absu
 lines_said (line ∷ lines) turns (Did act false ∷ calls) status goes = inl goes.1.2
 lines_said (line ∷ lines) turns (Did act true ∷ calls) status goes = one_more (lines_said lines turns calls status goes.1)
   where
-    one_more : (status ≡ 3) ⊎ ((status ≡ 0) × (calls ≡ map saying (map with_newline lines))) → (status ≡ 3) ⊎ ((status ≡ 0) × (Did act true ∷ calls ≡ map saying (map with_newline (line ∷ lines))))
+    one_more : (status ≡ 3) ⊎ ((status ≡ 0) × (calls ≡ map saying lines)) → (status ≡ 3) ⊎ ((status ≡ 0) × (Did act true ∷ calls ≡ map saying (line ∷ lines)))
     one_more (inl three) = inl three
     one_more (inr done) = inr (done.0, λ i. Did (goes.0 i) true ∷ done.1 i)
 
-module _ (name bytes : List ℕ) where
-  wanting : (turns : List Turn) (calls all : List DeskCall) (status : ℕ) → Says no_memory_line 7 turns calls status → CheckVerdict name bytes all status
+module _ (lines : Topology → List (List ℕ)) (name bytes : List ℕ) where
+  wanting : (turns : List Turn) (calls all : List DeskCall) (status : ℕ) → Says no_memory_line 7 turns calls status → CheckVerdict lines name bytes all status
   wanting turns calls all status says = want (said no_memory_line 7 turns calls status says)
     where
-      want : (status ≡ 3) ⊎ ((status ≡ 7) × (calls ≡ saying no_memory_line ∷ [])) → CheckVerdict name bytes all status
+      want : (status ≡ 3) ⊎ ((status ≡ 7) × (calls ≡ saying no_memory_line ∷ [])) → CheckVerdict lines name bytes all status
       want (inl three) = inl (inl three)
       want (inr seven) = inl (inr seven.0)
 
-  long : (turns : List Turn) (calls : List DeskCall) (call : DeskCall) (status : ℕ) → call ≡ Load name 1048576 (Err TooLong) → 1048576 < length bytes → Says (codes "too long topology\n") 5 turns calls status → CheckVerdict name bytes (call ∷ calls) status
+  long : (turns : List Turn) (calls : List DeskCall) (call : DeskCall) (status : ℕ) → call ≡ Load name 1048576 (Err TooLong) → 1048576 < length bytes → Says (codes "too long topology\n") 5 turns calls status → CheckVerdict lines name bytes (call ∷ calls) status
   long turns calls call status is over says = want (said (codes "too long topology\n") 5 turns calls status says)
     where
-      want : (status ≡ 3) ⊎ ((status ≡ 5) × (calls ≡ saying (codes "too long topology\n") ∷ [])) → CheckVerdict name bytes (call ∷ calls) status
+      want : (status ≡ 3) ⊎ ((status ≡ 5) × (calls ≡ saying (codes "too long topology\n") ∷ [])) → CheckVerdict lines name bytes (call ∷ calls) status
       want (inl three) = inl (inl three)
       want (inr five) = inr (inl (five.0, over, λ i. is i ∷ five.1 i))
 
@@ -94,31 +99,31 @@ module _ (name bytes : List ℕ) where
     two (halts.Binding line) is = absurd is
     two halts.OutOfMemory is = absurd is
 
-    wrong : (why : Halt) → halt_status why ≡ 2 → IsWrong bytes why → Says (halt_line why) (halt_status why) turns calls status → CheckVerdict name bytes (call ∷ calls) status
+    wrong : (why : Halt) → halt_status why ≡ 2 → IsWrong bytes why → Says (halt_line why) (halt_status why) turns calls status → CheckVerdict lines name bytes (call ∷ calls) status
     wrong why two is says = want (said (halt_line why) (halt_status why) turns calls status says)
       where
-        want : (status ≡ 3) ⊎ ((status ≡ halt_status why) × (calls ≡ saying (halt_line why) ∷ [])) → CheckVerdict name bytes (call ∷ calls) status
+        want : (status ≡ 3) ⊎ ((status ≡ halt_status why) × (calls ≡ saying (halt_line why) ∷ [])) → CheckVerdict lines name bytes (call ∷ calls) status
         want (inl three) = inl (inl three)
         want (inr done) = inr (inr (inl (why, done.0 ∙ two, short, is, λ i. loads i ∷ done.1 i)))
 
-    right : (t : Topology) → IsRight bytes t → DoneBy (lines_todo (counts_of t) End) turns calls status → CheckVerdict name bytes (call ∷ calls) status
-    right t is goes = want (lines_said (counts_of t) turns calls status goes)
+    right : (t : Topology) → IsRight bytes t → DoneBy (said_todo (lines t) End) turns calls status → CheckVerdict lines name bytes (call ∷ calls) status
+    right t is goes = want (lines_said (lines t) turns calls status goes)
       where
-        want : (status ≡ 3) ⊎ ((status ≡ 0) × (calls ≡ map saying (map with_newline (counts_of t)))) → CheckVerdict name bytes (call ∷ calls) status
+        want : (status ≡ 3) ⊎ ((status ≡ 0) × (calls ≡ map saying (lines t))) → CheckVerdict lines name bytes (call ∷ calls) status
         want (inl three) = inl (inl three)
         want (inr done) = inr (inr (inr (done.0, short, (t, is, λ i. loads i ∷ done.1 i))))
 
-    by_found : (r : Result Topology Halt) → TopologyComesTo bytes r → DoneBy (checked_todo r) turns calls status → CheckVerdict name bytes (call ∷ calls) status
+    by_found : (r : Result Topology Halt) → TopologyComesTo bytes r → DoneBy (checked_todo lines r) turns calls status → CheckVerdict lines name bytes (call ∷ calls) status
     by_found (Ok t) is goes = right t is goes
     by_found (Err why) is goes = wrong why (two why is) is goes
 
-    free : DoneBy (checked_todo (checked bytes)) turns calls status ⊎ Says no_memory_line 7 turns calls status → CheckVerdict name bytes (call ∷ calls) status
+    free : DoneBy (checked_todo lines (checked bytes)) turns calls status ⊎ Says no_memory_line 7 turns calls status → CheckVerdict lines name bytes (call ∷ calls) status
     free (inl goes) = by_found (checked bytes) (checked_found bytes are) goes
     free (inr says) = wanting turns calls (call ∷ calls) status says
 
   module _ {D : Type 0} (means : DeskMeaning D) where
     -- the file is told
-    judge : (turns : List Turn) (calls : List DeskCall) (status : ℕ) (d e : D) → means.holds d name ≡ Some bytes → DoneBy (check name) turns calls status → DeskLed means d calls e → CheckVerdict name bytes calls status
+    judge : (turns : List Turn) (calls : List DeskCall) (status : ℕ) (d e : D) → means.holds d name ≡ Some bytes → DoneBy (check lines name) turns calls status → DeskLed means d calls e → CheckVerdict lines name bytes calls status
     judge turns [] status d e told goes led = absurd goes
     judge turns (Did act done ∷ calls) status d e told goes led = absurd goes
     judge turns (Read n size got ∷ calls) status d e told goes led = absurd goes
@@ -127,7 +132,7 @@ module _ (name bytes : List ℕ) where
         let same : got ≡ bytes = loaded.answers.1 bytes (ap (means.holds d) goes.0 ∙ told) in
         let short : length bytes ≤ 1048576 = subst (λ k. length bytes ≤ k) goes.1 (subst (λ xs. length xs ≤ l) same loaded.answers.0) in
         free (subst (λ xs. AreBytes xs) same goes.3) short (Load n l (Ok got)) (λ i. Load (goes.0 i) (goes.1 i) (Ok (same i))) turns calls status
-        (subst (λ xs. DoneBy (checked_todo (checked xs)) turns calls status ⊎ Says no_memory_line 7 turns calls status) same goes.2)
+        (subst (λ xs. DoneBy (checked_todo lines (checked xs)) turns calls status ⊎ Says no_memory_line 7 turns calls status) same goes.2)
     judge turns (Load n l (Err TooLong) ∷ calls) status d e told goes led =
         let loaded : Loaded means n l (Err TooLong) d led.0 = led.1 in
         long turns calls (Load n l (Err TooLong)) status (λ i. Load (goes.0 i) (goes.1 i) (Err TooLong)) (subst (λ k. k < length bytes) goes.1 (loaded.answers bytes (ap (means.holds d) goes.0 ∙ told))) goes.2
@@ -135,7 +140,7 @@ module _ (name bytes : List ℕ) where
     judge turns (Load n l (Err Failed) ∷ calls) status d e told goes led = inl (inl goes.2.2)
 
     -- the load brought it
-    heard_judge : (turns : List Turn) (calls : List DeskCall) (status : ℕ) (d e : D) → heard_in calls ≡ Ok bytes ∷ [] → DoneBy (check name) turns calls status → DeskLed means d calls e → CheckVerdict name bytes calls status
+    heard_judge : (turns : List Turn) (calls : List DeskCall) (status : ℕ) (d e : D) → heard_in calls ≡ Ok bytes ∷ [] → DoneBy (check lines name) turns calls status → DeskLed means d calls e → CheckVerdict lines name bytes calls status
     heard_judge turns [] status d e heard goes led = absurd goes
     heard_judge turns (Did act done ∷ calls) status d e heard goes led = absurd goes
     heard_judge turns (Read n size got ∷ calls) status d e heard goes led = absurd goes
@@ -144,7 +149,7 @@ module _ (name bytes : List ℕ) where
         let same : got ≡ bytes = cc heard in
         let short : length bytes ≤ 1048576 = subst (λ k. length bytes ≤ k) goes.1 (subst (λ xs. length xs ≤ l) same loaded.answers.0) in
         free (subst (λ xs. AreBytes xs) same goes.3) short (Load n l (Ok got)) (λ i. Load (goes.0 i) (goes.1 i) (Ok (same i))) turns calls status
-        (subst (λ xs. DoneBy (checked_todo (checked xs)) turns calls status ⊎ Says no_memory_line 7 turns calls status) same goes.2)
+        (subst (λ xs. DoneBy (checked_todo lines (checked xs)) turns calls status ⊎ Says no_memory_line 7 turns calls status) same goes.2)
     heard_judge turns (Load n l (Err TooLong) ∷ calls) status d e heard goes led = absurd (cc heard)
     heard_judge turns (Load n l (Err OutOfMemory) ∷ calls) status d e heard goes led = absurd (cc heard)
     heard_judge turns (Load n l (Err Failed) ∷ calls) status d e heard goes led = absurd (cc heard)
@@ -152,104 +157,119 @@ module _ (name bytes : List ℕ) where
 -- ---- what was written
 
 module _ {D : Type 0} (means : DeskMeaning D) where
-  pub lines_parted : (lines : List (List ℕ)) (turns : List Turn) (calls : List DeskCall) (d e : D) (status : ℕ) → DoneBy (lines_todo lines End) turns calls status → DeskLed means d calls e → Parted means (concat (map with_newline lines)) 0 d e status
-  lines_parted [] turns [] d e status goes led =
+  said_parted : (lines : List (List ℕ)) (turns : List Turn) (calls : List DeskCall) (d e : D) (status : ℕ) → DoneBy (said_todo lines End) turns calls status → DeskLed means d calls e → Parted means (concat lines) 0 d e status
+  said_parted [] turns [] d e status goes led =
       record { part = []; spoke = nothing means d e (λ place. ap (λ x. means.wrote x place) led); is = inl (goes.2, refl) }
-  lines_parted [] turns (call ∷ calls) d e status goes led = absurd (cc goes.1)
-  lines_parted (line ∷ lines) turns [] d e status goes led = absurd goes
-  lines_parted (line ∷ lines) turns (Load name limit heard ∷ calls) d e status goes led = absurd goes
-  lines_parted (line ∷ lines) turns (Read n size got ∷ calls) d e status goes led = absurd goes
-  lines_parted (line ∷ lines) turns (Did act false ∷ calls) d e status goes led =
-      line_failed means (with_newline line) (concat (map with_newline lines)) 0 act calls d e status goes.0 goes.1.1 goes.1.2 led
-  lines_parted (line ∷ lines) turns (Did act true ∷ calls) d e status goes led =
+  said_parted [] turns (call ∷ calls) d e status goes led = absurd (cc goes.1)
+  said_parted (line ∷ lines) turns [] d e status goes led = absurd goes
+  said_parted (line ∷ lines) turns (Load name limit heard ∷ calls) d e status goes led = absurd goes
+  said_parted (line ∷ lines) turns (Read n size got ∷ calls) d e status goes led = absurd goes
+  said_parted (line ∷ lines) turns (Did act false ∷ calls) d e status goes led =
+      line_failed means line (concat lines) 0 act calls d e status goes.0 goes.1.1 goes.1.2 led
+  said_parted (line ∷ lines) turns (Did act true ∷ calls) d e status goes led =
       let acted : Acted means act true d led.0 = led.1 in
-      let whole : acted.part ≡ with_newline line = took means (with_newline line) act true acted.part goes.0 acted.takes in
-      let said : Spoke means (with_newline line) d led.0 = subst (λ part. Spoke means part d led.0) whole (put means (with_newline line) act true d led.0 goes.0 acted) in
-      let others = lines_parted lines turns calls led.0 e status goes.1 led.2 in
+      let whole : acted.part ≡ line = took means line act true acted.part goes.0 acted.takes in
+      let said : Spoke means line d led.0 = subst (λ part. Spoke means part d led.0) whole (put means line act true d led.0 goes.0 acted) in
+      let others = said_parted lines turns calls led.0 e status goes.1 led.2 in
       record {
-        part = with_newline line ++ others.part;
-        spoke = behind means (with_newline line) others.part d led.0 e said others.spoke;
+        part = line ++ others.part;
+        spoke = behind means line others.part d led.0 e said others.spoke;
         is = joined others.part others.is;
       }
     where
-      joined : (part : List ℕ) → ((status ≡ 0) × (part ≡ concat (map with_newline lines))) ⊎ ((status ≡ 3) × IsFront part (concat (map with_newline lines))) → ((status ≡ 0) × (with_newline line ++ part ≡ concat (map with_newline (line ∷ lines)))) ⊎ ((status ≡ 3) × IsFront (with_newline line ++ part) (concat (map with_newline (line ∷ lines))))
-      joined part (inl done) = inl (done.0, ap (λ xs. with_newline line ++ xs) done.1)
-      joined part (inr front) = inr (front.0, front_behind (with_newline line) part (concat (map with_newline lines)) front.1)
+      joined : (part : List ℕ) → ((status ≡ 0) × (part ≡ concat lines)) ⊎ ((status ≡ 3) × IsFront part (concat lines)) → ((status ≡ 0) × (line ++ part ≡ concat (line ∷ lines))) ⊎ ((status ≡ 3) × IsFront (line ++ part) (concat (line ∷ lines)))
+      joined part (inl done) = inl (done.0, ap (λ xs. line ++ xs) done.1)
+      joined part (inr front) = inr (front.0, front_behind line part (concat lines) front.1)
+
+  pub lines_parted : (lines : List (List ℕ)) (turns : List Turn) (calls : List DeskCall) (d e : D) (status : ℕ) → DoneBy (lines_todo lines End) turns calls status → DeskLed means d calls e → Parted means (concat (map with_newline lines)) 0 d e status
+  lines_parted lines turns calls d e status goes led =
+      said_parted (map with_newline lines) turns calls d e status (subst (λ todo. DoneBy todo turns calls status) (as_said lines End) goes) led
 
   -- after a load, which writes nothing
-  loaded_told : (text name : List ℕ) (limit : ℕ) (heard : Heard) (d m e : D) (status : ℕ) → Loaded means name limit heard d m → WroteText means text m e status → WroteText means text d e status
-  loaded_told text name limit heard d m e status loaded told =
+  pub loaded_told : (text : List ℕ) (n : ℕ) (name : List ℕ) (limit : ℕ) (heard : Heard) (d m e : D) (status : ℕ) → Loaded means name limit heard d m → WroteText means text n m e status → WroteText means text n d e status
+  loaded_told text n name limit heard d m e status loaded told =
       record {
         part = told.part;
         spoke = behind means [] told.part d m e (nothing means d m loaded.wrote) told.spoke;
         is = told.is;
       }
 
-  all_told : (text : List ℕ) (d e : D) (status : ℕ) → Parted means text 0 d e status → WroteText means text d e status
-  all_told text d e status parted = record { part = parted.part; spoke = parted.spoke; is = by parted.part parted.is }
+  pub all_told : (text : List ℕ) (n : ℕ) (d e : D) (status : ℕ) → Parted means text n d e status → WroteText means text n d e status
+  all_told text n d e status parted = record { part = parted.part; spoke = parted.spoke; is = by parted.part parted.is }
     where
-      by : (part : List ℕ) → ((status ≡ 0) × (part ≡ text)) ⊎ ((status ≡ 3) × IsFront part text) → ((status ≡ 0) × (part ≡ text)) ⊎ (((status ≡ 3) × IsFront part text) ⊎ (((status ≡ 3) ⊎ (status ≡ 7)) × IsFront part no_memory_line))
+      by : (part : List ℕ) → ((status ≡ n) × (part ≡ text)) ⊎ ((status ≡ 3) × IsFront part text) → ((status ≡ n) × (part ≡ text)) ⊎ (((status ≡ 3) × IsFront part text) ⊎ (((status ≡ 3) ⊎ (status ≡ 7)) × IsFront part no_memory_line))
       by part (inl done) = inl done
       by part (inr front) = inr (inl front)
 
-  wanting_told : (text : List ℕ) (turns : List Turn) (calls : List DeskCall) (d e : D) (status : ℕ) → Says no_memory_line 7 turns calls status → DeskLed means d calls e → WroteText means text d e status
-  wanting_told text turns calls d e status says led =
+  pub wanting_told : (text : List ℕ) (n : ℕ) (turns : List Turn) (calls : List DeskCall) (d e : D) (status : ℕ) → Says no_memory_line 7 turns calls status → DeskLed means d calls e → WroteText means text n d e status
+  wanting_told text n turns calls d e status says led =
       let parted = line_parted means no_memory_line 7 turns calls d e status says led in
       record { part = parted.part; spoke = parted.spoke; is = by parted.part parted.is }
     where
-      by : (part : List ℕ) → ((status ≡ 7) × (part ≡ no_memory_line)) ⊎ ((status ≡ 3) × IsFront part no_memory_line) → ((status ≡ 0) × (part ≡ text)) ⊎ (((status ≡ 3) × IsFront part text) ⊎ (((status ≡ 3) ⊎ (status ≡ 7)) × IsFront part no_memory_line))
+      by : (part : List ℕ) → ((status ≡ 7) × (part ≡ no_memory_line)) ⊎ ((status ≡ 3) × IsFront part no_memory_line) → ((status ≡ n) × (part ≡ text)) ⊎ (((status ≡ 3) × IsFront part text) ⊎ (((status ≡ 3) ⊎ (status ≡ 7)) × IsFront part no_memory_line))
       by part (inl done) = inr (inr (inr done.0, ([], append-nil part ∙ done.1)))
       by part (inr front) = inr (inr (inl front.0, front.1))
 
-  -- the counts of a right topology
-  module _ (name bytes : List ℕ) (t : Topology) (short : length bytes ≤ 1048576) (kept : checked bytes ≡ Ok t) where
+  -- the load failed
+  pub failed_told : (text : List ℕ) (n : ℕ) (calls : List DeskCall) (d e : D) (status : ℕ) → calls ≡ [] → status ≡ 3 → DeskLed means d calls e → WroteText means text n d e status
+  failed_told text n calls d e status none three led =
+      let last : e ≡ d = subst (λ cs. DeskLed means d cs e) none led in
+      record { part = []; spoke = nothing means d e (λ place. ap (λ x. means.wrote x place) last); is = inr (inl (three, (text, refl))) }
+
+  -- the lines of a right topology
+  module _ (lines : Topology → List (List ℕ)) (name bytes : List ℕ) (t : Topology) (short : length bytes ≤ 1048576) (kept : checked bytes ≡ Ok t) where
     abbrev text : List ℕ
-    text = concat (map with_newline (counts_of t))
+    text = concat (lines t)
 
-    counts_told : (turns : List Turn) (calls : List DeskCall) (d e : D) (status : ℕ) → DoneBy (checked_todo (checked bytes)) turns calls status ⊎ Says no_memory_line 7 turns calls status → DeskLed means d calls e → WroteText means text d e status
-    counts_told turns calls d e status (inl goes) led =
-        all_told text d e status (lines_parted (counts_of t) turns calls d e status (subst (λ r. DoneBy (checked_todo r) turns calls status) kept goes) led)
-    counts_told turns calls d e status (inr says) led = wanting_told text turns calls d e status says led
+    lines_told : (turns : List Turn) (calls : List DeskCall) (d e : D) (status : ℕ) → DoneBy (checked_todo lines (checked bytes)) turns calls status ⊎ Says no_memory_line 7 turns calls status → DeskLed means d calls e → WroteText means text 0 d e status
+    lines_told turns calls d e status (inl goes) led =
+        all_told text 0 d e status (said_parted (lines t) turns calls d e status (subst (λ r. DoneBy (checked_todo lines r) turns calls status) kept goes) led)
+    lines_told turns calls d e status (inr says) led = wanting_told text 0 turns calls d e status says led
 
-    check_told : (turns : List Turn) (calls : List DeskCall) (d e : D) (status : ℕ) → means.holds d name ≡ Some bytes → DoneBy (check name) turns calls status → DeskLed means d calls e → WroteText means text d e status
+    check_told : (turns : List Turn) (calls : List DeskCall) (d e : D) (status : ℕ) → means.holds d name ≡ Some bytes → DoneBy (check lines name) turns calls status → DeskLed means d calls e → WroteText means text 0 d e status
     check_told turns [] d e status told goes led = absurd goes
     check_told turns (Did act done ∷ calls) d e status told goes led = absurd goes
     check_told turns (Read n size got ∷ calls) d e status told goes led = absurd goes
     check_told turns (Load n l (Ok got) ∷ calls) d e status told goes led =
         let loaded : Loaded means n l (Ok got) d led.0 = led.1 in
         let same : got ≡ bytes = loaded.answers.1 bytes (ap (means.holds d) goes.0 ∙ told) in
-        loaded_told text n l (Ok got) d led.0 e status loaded
-        (counts_told turns calls led.0 e status (subst (λ xs. DoneBy (checked_todo (checked xs)) turns calls status ⊎ Says no_memory_line 7 turns calls status) same goes.2) led.2)
+        loaded_told text 0 n l (Ok got) d led.0 e status loaded
+        (lines_told turns calls led.0 e status (subst (λ xs. DoneBy (checked_todo lines (checked xs)) turns calls status ⊎ Says no_memory_line 7 turns calls status) same goes.2) led.2)
     check_told turns (Load n l (Err TooLong) ∷ calls) d e status told goes led =
         let loaded : Loaded means n l (Err TooLong) d led.0 = led.1 in
         let over : l < length bytes = loaded.answers bytes (ap (means.holds d) goes.0 ∙ told) in
         let limit : l ≡ 1048576 = goes.1 in
         absurd (omega (arith, over, limit, short))
     check_told turns (Load n l (Err OutOfMemory) ∷ calls) d e status told goes led =
-        loaded_told text n l (Err OutOfMemory) d led.0 e status led.1 (wanting_told text turns calls led.0 e status goes.2 led.2)
+        loaded_told text 0 n l (Err OutOfMemory) d led.0 e status led.1 (wanting_told text 0 turns calls led.0 e status goes.2 led.2)
     check_told turns (Load n l (Err Failed) ∷ calls) d e status told goes led =
-        let last : e ≡ led.0 = subst (λ cs. DeskLed means led.0 cs e) goes.2.1 led.2 in
-        loaded_told text n l (Err Failed) d led.0 e status led.1
-        record { part = []; spoke = nothing means led.0 e (λ place. ap (λ x. means.wrote x place) last); is = inr (inl (goes.2.2, (text, refl))) }
+        loaded_told text 0 n l (Err Failed) d led.0 e status led.1 (failed_told text 0 calls led.0 e status goes.2.1 goes.2.2 led.2)
 
 module _ {D P : Type 0} (means : DeskMeaning D) (dsp : Meaning P) (words : List (List ℕ)) (old new : D) (room sent : ℕ) (p q : Life P) (status : ℕ) (ran : RanOn means dsp (todo_of room sent words) old p status new q) where
-  -- what it did is that of a check
-  goes_on : (name : List ℕ) → check_of words ≡ Some name → DoneBy (check name) ran.turns ran.played.calls status
-  goes_on name is = subst (λ todo. DoneBy todo ran.turns ran.played.calls status) (checks_alone room sent words name is) ran.played.goes
+  -- these words name a file, and what was done is that of a check
+  module _ (lines : Topology → List (List ℕ)) (named : Option (List ℕ)) (only : (name : List ℕ) → named ≡ Some name → todo_of room sent words ≡ check lines name) where
+    goes_on : (name : List ℕ) → named ≡ Some name → DoneBy (check lines name) ran.turns ran.played.calls status
+    goes_on name is = subst (λ todo. DoneBy todo ran.turns ran.played.calls status) (only name is) ran.played.goes
 
-  none : (name : List ℕ) → check_of words ≡ Some name → ran.turns ≡ []
-  none name is = no_turn name ran.turns ran.played.calls status (goes_on name is)
+    none : (name : List ℕ) → named ≡ Some name → ran.turns ≡ []
+    none name is = no_turn lines name ran.turns ran.played.calls status (goes_on name is)
 
-  untouched : (name : List ℕ) → check_of words ≡ Some name → q ≡ p
-  untouched name is = subst (λ ts. Turns dsp p ts q) (none name is) ran.turned
+    untouched : (name : List ℕ) → named ≡ Some name → q ≡ p
+    untouched name is = subst (λ ts. Turns dsp p ts q) (none name is) ran.turned
 
-  pub checks : Checks means words old p ran.played.calls status new q
-  checks =
-      record {
-        alone = untouched;
-        judged = λ name bytes is by. elim by [
-          | inl told ↦ judge name bytes means ran.turns ran.played.calls status old new told (goes_on name is) ran.played.led
-          | inr heard ↦ heard_judge name bytes means ran.turns ran.played.calls status old new heard (goes_on name is) ran.played.led
-        ];
-        counted = λ name bytes t is told short right. check_told means name bytes t short (checked_only bytes (Ok t) right) ran.turns ran.played.calls old new status told (goes_on name is) ran.played.led;
-      }
+    checks_by : Checks means lines named old p ran.played.calls status new q
+    checks_by =
+        record {
+          alone = untouched;
+          judged = λ name bytes is by. elim by [
+            | inl told ↦ judge lines name bytes means ran.turns ran.played.calls status old new told (goes_on name is) ran.played.led
+            | inr heard ↦ heard_judge lines name bytes means ran.turns ran.played.calls status old new heard (goes_on name is) ran.played.led
+          ];
+          told = λ name bytes t is told short right. check_told means lines name bytes t short (checked_only bytes (Ok t) right) ran.turns ran.played.calls old new status told (goes_on name is) ran.played.led;
+        }
+
+  pub checks : Checks means count_lines (check_of words) old p ran.played.calls status new q
+  checks = checks_by count_lines (check_of words) (checks_alone room sent words)
+
+  pub pictures : Checks means picture_lines (graph_file_of words) old p ran.played.calls status new q
+  pictures = checks_by picture_lines (graph_file_of words) (pictures_alone room sent words)

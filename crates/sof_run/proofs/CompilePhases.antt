@@ -37,7 +37,7 @@ module _ {D : Type 0} (means : DeskMeaning D) where
           do_on means (Create 0 out) (Do (Put (Slot 0) bytes) (lines_todo (wrote_line bytes ∷ []) rest)) [] 3 old m new created
           (do_on means (Put (Slot 0) bytes) (lines_todo (wrote_line bytes ∷ []) rest) [] 3 m n new appended (said rest))
 
-  file_ended : (out bytes : List ℕ) (done : Bool) (old new : D) → DeskPhase means (file_todo out bytes) done old new → Played means (file_todo out bytes End) old [] (if done then 0 else 3) new
+  pub file_ended : (out bytes : List ℕ) (done : Bool) (old new : D) → DeskPhase means (file_todo out bytes) done old new → Played means (file_todo out bytes End) old [] (if done then 0 else 3) new
   file_ended out bytes true old new phase = phase End [] 0 new record { calls = []; led = refl; goes = (refl, refl, refl) }
   file_ended out bytes false old new phase = phase End
 

@@ -41,7 +41,7 @@ act_alone act next turns (Read n size got ∷ calls) status alone goes = absurd 
 act_alone act next turns (Did a true ∷ calls) status alone goes = alone calls goes.1
 act_alone act next turns (Did a false ∷ calls) status alone goes = goes.1.0
 
-file_alone : (out bytes : List ℕ) (turns : List Turn) (calls : List DeskCall) (status : ℕ) → DoneBy (file_todo out bytes End) turns calls status → turns ≡ []
+pub file_alone : (out bytes : List ℕ) (turns : List Turn) (calls : List DeskCall) (status : ℕ) → DoneBy (file_todo out bytes End) turns calls status → turns ≡ []
 file_alone out bytes turns calls status goes =
     act_alone (Create 0 out) (Do (Put (Slot 0) bytes) (lines_todo (wrote_line bytes ∷ []) End)) turns calls status
     (λ cs. act_alone (Put (Slot 0) bytes) (lines_todo (wrote_line bytes ∷ []) End) turns cs status
@@ -65,7 +65,7 @@ no_turn names turns (Load n l (Err Failed) ∷ calls) status goes = goes.2.0
 -- ---- the status
 
 -- a file that was made, or not all of it was
-file_made : (out bytes : List ℕ) (turns : List Turn) (calls : List DeskCall) (status : ℕ) → DoneBy (file_todo out bytes End) turns calls status → (status ≡ 3) ⊎ ((status ≡ 0) × (calls ≡ making out bytes))
+pub file_made : (out bytes : List ℕ) (turns : List Turn) (calls : List DeskCall) (status : ℕ) → DoneBy (file_todo out bytes End) turns calls status → (status ≡ 3) ⊎ ((status ≡ 0) × (calls ≡ making out bytes))
 file_made out bytes turns [] status goes = absurd goes
 file_made out bytes turns (Load n l h ∷ calls) status goes = absurd goes
 file_made out bytes turns (Read n size got ∷ calls) status goes = absurd goes
@@ -197,7 +197,7 @@ module _ {D : Type 0} (means : DeskMeaning D) where
     part_of : (b : DeskAct) (done : Bool) (to : DeskPlace) (piece part : List ℕ) → b ≡ Put to piece → Takes b done part → Part done part piece
     part_of b done to piece part is takes = subst (λ a. Takes a done part) is takes
 
-    file_wrote : (turns : List Turn) (calls : List DeskCall) (d e : D) (status : ℕ) → DoneBy (file_todo out bytes End) turns calls status → DeskLed means d calls e → WroteFile means bytes count_said d e status
+    pub file_wrote : (turns : List Turn) (calls : List DeskCall) (d e : D) (status : ℕ) → DoneBy (file_todo out bytes End) turns calls status → DeskLed means d calls e → WroteFile means bytes count_said d e status
     file_wrote turns [] d e status goes led = absurd goes
     file_wrote turns (Load n l h ∷ calls) d e status goes led = absurd goes
     file_wrote turns (Read n size got ∷ calls) d e status goes led = absurd goes
@@ -232,7 +232,7 @@ module _ {D : Type 0} (means : DeskMeaning D) where
             inr (inr (inl (goes.1.2, (say.part, part_of c false Spoken count_said say.part goes.0 say.takes, subst (λ x. MadeFile means bytes say.part d x) (sym same) (spoken c false d k led.0 goes.0 made say)))))
 
   -- after a load, which writes nothing
-  loaded_wrote : (bytes line : List ℕ) (d m e : D) (status : ℕ) → ((place : DeskPlace) → means.wrote m place ≡ means.wrote d place) → WroteFile means bytes line m e status → WroteFile means bytes line d e status
+  pub loaded_wrote : (bytes line : List ℕ) (d m e : D) (status : ℕ) → ((place : DeskPlace) → means.wrote m place ≡ means.wrote d place) → WroteFile means bytes line m e status → WroteFile means bytes line d e status
   loaded_wrote bytes line d m e status kept (inl done) = inl (done.0, λ place. done.1 place ∙ ap (compiled_at bytes line place) (kept place))
   loaded_wrote bytes line d m e status kept (inr (inl front)) = inr (inl (front.0, (front.1.0, front.1.1, λ place. front.1.2 place ∙ ap (compiled_at front.1.0 [] place) (kept place))))
   loaded_wrote bytes line d m e status kept (inr (inr (inl front))) = inr (inr (inl (front.0, (front.1.0, front.1.1, λ place. front.1.2 place ∙ ap (compiled_at bytes front.1.0 place) (kept place)))))
@@ -242,7 +242,7 @@ module _ {D : Type 0} (means : DeskMeaning D) where
       after part spoke = behind means [] part d m e (nothing means d m kept) spoke
   loaded_wrote bytes line d m e status kept (inr (inr (inr (inr front)))) = inr (inr (inr (inr (front.0, (front.1.0, front.1.1, behind means [] front.1.0 d m e (nothing means d m kept) front.1.2)))))
 
-  wanting_wrote : (bytes line : List ℕ) (turns : List Turn) (calls : List DeskCall) (d e : D) (status : ℕ) → Says no_memory_line 7 turns calls status → DeskLed means d calls e → WroteFile means bytes line d e status
+  pub wanting_wrote : (bytes line : List ℕ) (turns : List Turn) (calls : List DeskCall) (d e : D) (status : ℕ) → Says no_memory_line 7 turns calls status → DeskLed means d calls e → WroteFile means bytes line d e status
   wanting_wrote bytes line turns calls d e status says led =
       let parted = line_parted means no_memory_line 7 turns calls d e status says led in
       by parted.part parted.spoke parted.is

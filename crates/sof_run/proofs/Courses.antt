@@ -18,11 +18,14 @@ use Rattle.sof_run.specs.Bindings.{binding_act, bound_inputs, bound_slots}
 use Rattle.sof_run.specs.Rounds.{Round, rounds_of}
 use Rattle.sof_run.specs.Lines.{no_memory_line, with_newline, lines_after}
 use Rattle.sof_run.specs.Prepared.{prepared, checked}
+use Rattle.tplg_source.specs.Outcome.{source_for}
 use Rattle.sof_run.specs.Play.{prepared_todo, ready_todo, lines_todo, rounds_todo, session_todo, bindings_todo, play}
 use Rattle.sof_run.specs.Pieces.{Piece, pieces_of}
-use Rattle.sof_run.specs.Checking.{counts_of}
-use Rattle.sof_run.specs.CheckTodo.{checked_todo}
+use Rattle.sof_run.specs.Checking.{count_lines}
+use Rattle.sof_run.specs.Picturing.{picture_lines}
+use Rattle.sof_run.specs.CheckTodo.{said_todo, checked_todo, check}
 use Rattle.sof_run.specs.CompileTodo.{compiled_todo}
+use Rattle.sof_run.specs.SourceTodo.{kept_todo, sourced_todo}
 use Rattle.sof_stress.specs.declared.counts.Counts.{Counts}
 use Rattle.sof_stress.specs.Draws.{stream_count}
 use Rattle.sof_stress.specs.StressPorts.{dai_slot}
@@ -30,14 +33,19 @@ use Rattle.sof_stress.specs.CommandTurns.{CommandTurn, turn_counted, no_counts}
 use Rattle.sof_stress.specs.StressRun.{stress_begins, stress_turns}
 use Rattle.sof_run.specs.Stressing.{stress_lines}
 use Rattle.sof_run.specs.StressTodo.{counted_todo, told_todo, stress}
-use Rattle.sof_run.specs.Requests.{Request, Play, Check, Compile, Stress, request_of}
+use Rattle.ipc3_trace.specs.declared.entry.Entry.{Entry}
+use Rattle.ipc3_trace.specs.declared.fault.TraceFault.{TraceFault}
+use Rattle.ipc3_trace.specs.EntryLines.{entry_line}
+use Rattle.ipc3_trace.specs.Reading.{trace_in}
+use Rattle.sof_run.specs.DecodeTodo.{decoded_todo}
+use Rattle.sof_run.specs.Requests.{Request, Play, Check, Picture, Compile, Source, Stress, Decode, request_of}
 use Rattle.sof_run.specs.Forms.{todo_for, todo_of}
-use Rattle.sof_run.specs.Calls.{Item, Calls, Turns, Memory, Course, before_course, saying, last_line, load_course, turning, filling_by, filling, putting, units, bindings, files, playing, counting, making, counting_turns, telling, stressing, heard_in, Wants, Made, course}
+use Rattle.sof_run.specs.Calls.{Item, Calls, Turns, Memory, Course, before_course, saying, last_line, load_course, turning, filling_by, filling, putting, units, bindings, files, playing, counting, checking, making, keeping, sourcing, recounting, counting_turns, telling, stressing, heard_in, Wants, Made, course}
 use Rattle.sof_run.specs.ComeTo.{IsMade}
 use Rattle.sof_run.specs.Findings.{FollowsCourse}
 use Rattle.sof_run.proofs.WrittenPieces.{puts, puts_flush}
 use Rattle.sof_run.proofs.LoadedBytes.{heard_behind, loads_bring}
-use Rattle.sof_run.proofs.Findings.{run_of, as_prepared, prepared_same, run_heard, topology_heard, source_heard, findings_of, are_found}
+use Rattle.sof_run.proofs.Findings.{run_of, as_prepared, prepared_same, run_heard, topology_heard, source_heard, trace_heard, findings_of, are_found}
 
 -- ---- what is to do, unrolled
 
@@ -149,6 +157,10 @@ lines-same : (lines : List (List ℕ)) (heard : List Heard) (turns : List Turn) 
 lines-same [] heard turns = refl
 lines-same (line ∷ lines) heard turns = ap (before_course (saying (with_newline line) ∷ [])) (lines-same lines heard turns)
 
+said-same : (lines : List (List ℕ)) (heard : List Heard) (turns : List Turn) → unrolled (said_todo lines End) heard turns ≡ record { items = map saying lines; status = 0 }
+said-same [] heard turns = refl
+said-same (line ∷ lines) heard turns = ap (before_course (saying line ∷ [])) (said-same lines heard turns)
+
 puts-same : (pieces : List Piece) (rest : Todo) (heard : List Heard) (turns : List Turn) → unrolled (puts pieces rest) heard turns ≡ before_course (map putting pieces) (unrolled rest heard turns)
 puts-same [] rest heard turns = refl
 puts-same (piece ∷ pieces) rest heard turns = ap (before_course (putting piece ∷ [])) (puts-same pieces rest heard turns)
@@ -196,13 +208,26 @@ playing-same form heard turns =
     loading-same form.script 1048576 (codes "too long script\n") later _ _ (λ script last second.
     ap (before_course (Memory ∷ [])) (brought-same form topology script heard last turns (first ∙ ap (λ hs. Ok topology ∷ hs) second))))
 
-counting-same : (r : Result Topology Halt) (heard : List Heard) (turns : List Turn) → unrolled (checked_todo r) heard turns ≡ counting r
-counting-same (Ok t) heard turns = lines-same (counts_of t) heard turns
-counting-same (Err why) heard turns = refl
+counting-same : (lines : Topology → List (List ℕ)) (r : Result Topology Halt) (heard : List Heard) (turns : List Turn) → unrolled (checked_todo lines r) heard turns ≡ counting lines r
+counting-same lines (Ok t) heard turns = said-same (lines t) heard turns
+counting-same lines (Err why) heard turns = refl
+
+checking-same : (lines : Topology → List (List ℕ)) (name : List ℕ) (heard : List Heard) (turns : List Turn) → unrolled (check lines name) heard turns ≡ checking name heard (counting lines (topology_heard heard))
+checking-same lines name heard turns =
+    loading-same name 1048576 (codes "too long topology\n") heard _ _ (λ bytes later is.
+    ap (before_course (Memory ∷ [])) (counting-same lines (checked bytes) later turns ∙ ap (counting lines) (sym (ap topology_heard is))))
 
 making-same : (out : List ℕ) (r : Result Topology SourceFault) (heard : List Heard) (turns : List Turn) → unrolled (compiled_todo out r) heard turns ≡ making out r
 making-same out (Ok t) heard turns = refl
 making-same out (Err fault) heard turns = refl
+
+keeping-same : (out : List ℕ) (o : Option (List ℕ)) (heard : List Heard) (turns : List Turn) → unrolled (kept_todo out o) heard turns ≡ keeping out o
+keeping-same out (Some text) heard turns = refl
+keeping-same out None heard turns = refl
+
+sourcing-same : (out : List ℕ) (r : Result Topology Halt) (heard : List Heard) (turns : List Turn) → unrolled (sourced_todo out r) heard turns ≡ sourcing out r
+sourcing-same out (Ok t) heard turns = keeping-same out (source_for t) heard turns
+sourcing-same out (Err why) heard turns = refl
 
 counted-same : (slot : ℕ) (commands : List CommandTurn) (counts : Counts) (f : Counts → Todo) (g : Counts → Course) (heard : List Heard) (turns : List Turn) → ((c : Counts) (turns : List Turn) → unrolled (f c) heard turns ≡ g c) → unrolled (counted_todo slot commands counts f) heard turns ≡ counting_turns slot commands counts turns g
 counted-same slot [] counts f g heard turns same = same counts turns
@@ -215,15 +240,25 @@ stressing-same room sent seed heard turns =
     counted-same (dai_slot (stream_count seed)) (stress_turns seed) no_counts (told_todo sent) (telling sent) heard turns
     (λ counts turns. lines-same (stress_lines (record counts { messages = sent })) heard turns)))
 
+decoded-same : (es : List Entry) (fault : Option TraceFault) (heard : List Heard) (turns : List Turn) → unrolled (decoded_todo es fault) heard turns ≡ recounting (es, fault)
+decoded-same [] None heard turns = refl
+decoded-same [] (Some fault) heard turns = refl
+decoded-same (e ∷ es) fault heard turns = ap (before_course (saying (with_newline (entry_line e)) ∷ [])) (decoded-same es fault heard turns)
+
 request-same : (room sent : ℕ) (r : Option Request) (heard : List Heard) (turns : List Turn) → unrolled (todo_for room sent r) heard turns ≡ course room sent r (findings_of heard) heard turns
 request-same room sent (Some (Play form)) heard turns = playing-same form heard turns
-request-same room sent (Some (Check name)) heard turns =
-    loading-same name 1048576 (codes "too long topology\n") heard _ _ (λ bytes later is.
-    ap (before_course (Memory ∷ [])) (counting-same (checked bytes) later turns ∙ ap counting (sym (ap topology_heard is))))
+request-same room sent (Some (Check name)) heard turns = checking-same count_lines name heard turns
+request-same room sent (Some (Picture name)) heard turns = checking-same picture_lines name heard turns
 request-same room sent (Some (Compile names)) heard turns =
     loading-same names.source 1048576 (codes "too long source\n") heard _ _ (λ text later is.
     ap (before_course (Memory ∷ [])) (making-same names.out (compiled_of text) later turns ∙ ap (making names.out) (sym (ap source_heard is))))
+request-same room sent (Some (Source given)) heard turns =
+    loading-same given.topology 1048576 (codes "too long topology\n") heard _ _ (λ bytes later is.
+    ap (before_course (Memory ∷ [])) (sourcing-same given.out (checked bytes) later turns ∙ ap (sourcing given.out) (sym (ap topology_heard is))))
 request-same room sent (Some (Stress seed)) heard turns = stressing-same room sent seed heard turns
+request-same room sent (Some (Decode name)) heard turns =
+    loading-same name 16777216 (codes "too long trace\n") heard _ _ (λ bytes later is.
+    decoded-same (trace_in bytes).0 (trace_in bytes).1 later turns ∙ ap recounting (sym (ap trace_heard is)))
 request-same room sent None heard turns = refl
 
 -- what was done is the course of the words, or its front

@@ -23,6 +23,11 @@ use Rattle.sof_run.specs.declared.prepare.Halt.TheVariants as halts
 use Rattle.sof_run.specs.TopologyBytes.{AreBytes, BringsBytes, IsFile, IsBroken}
 use Rattle.sof_run.specs.Bindings.{wrong_binding}
 use Rattle.sof_run.specs.Verdicts.{ticks_of, IsScript}
+use Rattle.ipc3_trace.specs.declared.entry.Entry.{Entry}
+use Rattle.ipc3_trace.specs.declared.fault.TraceFault.{TraceFault}
+use Rattle.ipc3_trace.specs.WholeTraces.{IsTraceOf}
+use Rattle.ipc3_trace.specs.Reading.{trace_in}
+use Rattle.ipc3_trace.proofs.WholeLaws.{has-trace}
 use Rattle.sof_run.specs.Calls.{Findings}
 use Rattle.sof_run.specs.ComeTo.{FilesComeTo, TopologyComesTo, SourceComesTo}
 use Rattle.sof_run.specs.Findings.{AreFindings}
@@ -206,8 +211,13 @@ source_heard [] = Err sources.OutOfMemory
 source_heard (Err fault ∷ heard) = Err sources.OutOfMemory
 source_heard (Ok text ∷ heard) = compiled_of text
 
+abbrev pub trace_heard : List Heard → List Entry × Option TraceFault
+trace_heard [] = ([], None)
+trace_heard (Err fault ∷ heard) = ([], None)
+trace_heard (Ok bytes ∷ heard) = trace_in bytes
+
 abbrev pub findings_of : List Heard → Findings
-findings_of heard = record { run = run_heard heard; topology = topology_heard heard; source = source_heard heard }
+findings_of heard = record { run = run_heard heard; topology = topology_heard heard; source = source_heard heard; trace = trace_heard heard }
 
 -- the first load brought bytes
 first_bytes : (bytes : List ℕ) (heard later : List Heard) → heard ≡ Ok bytes ∷ later → AllByRecursion BringsBytes heard → AreBytes bytes
@@ -221,4 +231,5 @@ are_found heard brings =
       run = λ topology script is. subst (λ r. FilesComeTo topology script r) (sym (ap run_heard is)) (files_found topology script (first_bytes topology heard (Ok script ∷ []) is brings));
       topology = λ bytes is. subst (λ r. TopologyComesTo bytes r) (sym (ap topology_heard is)) (checked_found bytes (first_bytes bytes heard [] is brings));
       source = λ text is. subst (λ r. SourceComesTo text r) (sym (ap source_heard is)) (compiled_found text);
+      trace = λ bytes is. subst (λ (t : List Entry × Option TraceFault). IsTraceOf bytes t.0 t.1) (sym (ap trace_heard is)) (has-trace bytes (first_bytes bytes heard [] is brings));
     }

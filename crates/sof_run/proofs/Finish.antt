@@ -16,10 +16,14 @@ use Rattle.sof_run.specs.Bindings.{bound_files}
 use Rattle.sof_run.specs.Rounds.{Round, rounds_of}
 use Rattle.sof_run.specs.Prepared.{Ready, prepared}
 use Rattle.sof_run.specs.Play.{play}
+use Rattle.sof_run.specs.Checking.{count_lines}
+use Rattle.sof_run.specs.Picturing.{picture_lines}
 use Rattle.sof_run.specs.CheckTodo.{check}
 use Rattle.sof_run.specs.CompileTodo.{compile}
+use Rattle.sof_run.specs.SourceTodo.{make_source}
 use Rattle.sof_run.specs.StressTodo.{stress}
-use Rattle.sof_run.specs.Requests.{Request, Play, Check, Compile, Stress, request_of}
+use Rattle.sof_run.specs.DecodeTodo.{decode}
+use Rattle.sof_run.specs.Requests.{Request, Play, Check, Picture, Compile, Source, Stress, Decode, request_of}
 use Rattle.sof_run.specs.Forms.{todo_for, todo_of}
 use Rattle.sof_run.specs.Ends.{IsEarly, Worded}
 use Rattle.sof_run.specs.Verdicts.{MakeRun, Judged}
@@ -42,7 +46,7 @@ use Rattle.sof_run.proofs.Courses.{follows}
 use Rattle.sof_run.proofs.PlayRuns.{play_goes, plays, before_begun}
 use Rattle.sof_run.proofs.HeardRuns.{play_heard, legs, over_is}
 use Rattle.sof_run.proofs.Statuses.{IsLate, TurnsLast, ends, none_turned, none_asked, three_rose}
-use Rattle.sof_run.proofs.Throughout.{play_all, check_all, compile_all, stress_all, words_last}
+use Rattle.sof_run.proofs.Throughout.{play_all, check_all, compile_all, source_all, stress_all, decode_all, words_last}
 
 not_late : (status : ℕ) → IsEarly status → IsLate status → ⊥
 not_late status (inl is) (inl late) = cc (sym is ∙ late)
@@ -60,20 +64,29 @@ not_late status (inr (inr (inr (inr (inr is))))) (inr late) = cc (sym is ∙ lat
 
 pub words_other : (room sent : ℕ) (r : Option Request) → Throughout (λ n. n ≡ 3 → ⊥) (λ name. Unit {0}) (todo_for room sent r)
 words_other room sent None = λ e. cc e
+words_other room sent (Some (Decode name)) = decode_all (λ n. n ≡ 3 → ⊥) (λ name. Unit {0}) name (λ e. cc e) (λ e. cc e) (λ e. cc e) (λ e. cc e) tt
 words_other room sent (Some (Stress seed)) = stress_all (λ n. n ≡ 3 → ⊥) (λ name. Unit {0}) room sent seed (λ e. cc e) (λ e. cc e)
 words_other room sent (Some (Compile names)) = compile_all (λ n. n ≡ 3 → ⊥) (λ name. Unit {0}) names (λ e. cc e) (λ e. cc e) (λ e. cc e) (λ e. cc e) tt
-words_other room sent (Some (Check name)) = check_all (λ n. n ≡ 3 → ⊥) (λ name. Unit {0}) name (λ e. cc e) (λ e. cc e) (λ e. cc e) (λ e. cc e) tt
+words_other room sent (Some (Source files)) = source_all (λ n. n ≡ 3 → ⊥) (λ name. Unit {0}) files (λ e. cc e) (λ e. cc e) (λ e. cc e) (λ e. cc e) tt
+words_other room sent (Some (Check name)) = check_all (λ n. n ≡ 3 → ⊥) (λ name. Unit {0}) count_lines name (λ e. cc e) (λ e. cc e) (λ e. cc e) (λ e. cc e) tt
+words_other room sent (Some (Picture name)) = check_all (λ n. n ≡ 3 → ⊥) (λ name. Unit {0}) picture_lines name (λ e. cc e) (λ e. cc e) (λ e. cc e) (λ e. cc e) tt
 words_other room sent (Some (Play form)) = play_all (λ n. n ≡ 3 → ⊥) (λ name. Unit {0}) form (λ e. cc e) (λ e. cc e) (λ e. cc e) (λ e. cc e) (λ e. cc e) (λ e. cc e) (λ name. tt)
 
 -- status 1 is that of words without a form
 one_only : (room sent : ℕ) (r : Option Request) (turns : List Turn) (calls : List DeskCall) (status : ℕ) → DoneBy (todo_for room sent r) turns calls status → status ≡ 1 → r ≡ None
 one_only room sent None turns calls status goes one = refl
+one_only room sent (Some (Decode name)) turns calls status goes one =
+    absurd (ends (λ n. n ≡ 1 → ⊥) (λ name. Unit {0}) (decode name) turns calls status goes (decode_all (λ n. n ≡ 1 → ⊥) (λ name. Unit {0}) name (λ e. cc e) (λ e. cc e) (λ e. cc e) (λ e. cc e) tt) (λ e. cc e) one)
 one_only room sent (Some (Stress seed)) turns calls status goes one =
     absurd (ends (λ n. n ≡ 1 → ⊥) (λ name. Unit {0}) (stress room sent seed) turns calls status goes (stress_all (λ n. n ≡ 1 → ⊥) (λ name. Unit {0}) room sent seed (λ e. cc e) (λ e. cc e)) (λ e. cc e) one)
 one_only room sent (Some (Compile names)) turns calls status goes one =
     absurd (ends (λ n. n ≡ 1 → ⊥) (λ name. Unit {0}) (compile names) turns calls status goes (compile_all (λ n. n ≡ 1 → ⊥) (λ name. Unit {0}) names (λ e. cc e) (λ e. cc e) (λ e. cc e) (λ e. cc e) tt) (λ e. cc e) one)
+one_only room sent (Some (Source files)) turns calls status goes one =
+    absurd (ends (λ n. n ≡ 1 → ⊥) (λ name. Unit {0}) (make_source files) turns calls status goes (source_all (λ n. n ≡ 1 → ⊥) (λ name. Unit {0}) files (λ e. cc e) (λ e. cc e) (λ e. cc e) (λ e. cc e) tt) (λ e. cc e) one)
 one_only room sent (Some (Check name)) turns calls status goes one =
-    absurd (ends (λ n. n ≡ 1 → ⊥) (λ name. Unit {0}) (check name) turns calls status goes (check_all (λ n. n ≡ 1 → ⊥) (λ name. Unit {0}) name (λ e. cc e) (λ e. cc e) (λ e. cc e) (λ e. cc e) tt) (λ e. cc e) one)
+    absurd (ends (λ n. n ≡ 1 → ⊥) (λ name. Unit {0}) (check count_lines name) turns calls status goes (check_all (λ n. n ≡ 1 → ⊥) (λ name. Unit {0}) count_lines name (λ e. cc e) (λ e. cc e) (λ e. cc e) (λ e. cc e) tt) (λ e. cc e) one)
+one_only room sent (Some (Picture name)) turns calls status goes one =
+    absurd (ends (λ n. n ≡ 1 → ⊥) (λ name. Unit {0}) (check picture_lines name) turns calls status goes (check_all (λ n. n ≡ 1 → ⊥) (λ name. Unit {0}) picture_lines name (λ e. cc e) (λ e. cc e) (λ e. cc e) (λ e. cc e) tt) (λ e. cc e) one)
 one_only room sent (Some (Play form)) turns calls status goes one =
     absurd (ends (λ n. n ≡ 1 → ⊥) (λ name. Unit {0}) (play form) turns calls status goes (play_all (λ n. n ≡ 1 → ⊥) (λ name. Unit {0}) form (λ e. cc e) (λ e. cc e) (λ e. cc e) (λ e. cc e) (λ e. cc e) (λ e. cc e) (λ name. tt)) (λ e. cc e) one)
 
@@ -84,8 +97,8 @@ pub worded : (room sent : ℕ) (words : List (List ℕ)) (turns : List Turn) (ca
 worded room sent words turns calls status goes =
     record {
       only = λ one. nothing_asked room words (one_only room sent (request_of room words) turns calls status goes one);
-      each = λ no_play no_check no_compile no_stress.
-          one_each turns calls status (subst (λ r. DoneBy (todo_for room sent r) turns calls status) (formless_asked room words no_play no_check no_compile no_stress) goes);
+      each = λ no_play no_check no_graph no_compile no_source no_stress no_decode.
+          one_each turns calls status (subst (λ r. DoneBy (todo_for room sent r) turns calls status) (formless_asked room words no_play no_check no_graph no_compile no_source no_stress no_decode) goes);
     }
 
 -- ---- the files

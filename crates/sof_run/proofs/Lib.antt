@@ -15,8 +15,12 @@ pub mod BindingLaws
 pub mod SaidLines
 pub mod CheckPhases
 pub mod CheckVerdicts
+pub mod DecodePhases
+pub mod DecodeVerdicts
 pub mod CompilePhases
+pub mod SourcePhases
 pub mod CompileVerdicts
+pub mod SourceVerdicts
 pub mod Slots
 pub mod Openings
 pub mod Flushing

@@ -5,6 +5,7 @@ use Rattle.mbox_link.specs.declared.fates.Fate.TheVariants.{Pass}
 use Rattle.mbox_link.specs.Calls.{Meaning}
 use Rattle.mbox_link.specs.Meetings.{Doing}
 use Rattle.tplg_plan.specs.Sound.{IsSound}
+use Rattle.tplg_graph.specs.PlanOf.{plan_of}
 use Rattle.sof_script.specs.declared.script.Command.{Command}
 use Rattle.sof_session.specs.Written.{Out, Ground, Leg, IsRun, first_at}
 use Rattle.sof_session.specs.Lives.{Life, Turn, device_of}

@@ -1,5 +1,5 @@
 -- What words of each form ask for: no words have two forms.
-use Rattle.std.proofs.Common.{◌≡◌, ℕ, ◌≤◌, nat_le, ◌&&◌, Bool, true, false, List, [], ◌∷◌, Option, Some, None, refl, sym, ◌∙◌, ap, subst, codes, arith, if◌then◌else◌}
+use Rattle.std.proofs.Common.{◌≡◌, ℕ, ◌≤◌, nat_le, ◌&&◌, Bool, true, false, List, [], ◌∷◌, Option, Some, None, refl, sym, ◌∙◌, ap, subst, codes, if◌then◌else◌}
 use Rattle.std.specs.Prelude.{option_map, Ok, Err}
 use Rattle.std.specs.Result.{result_ok}
 use Rattle.std.specs.Option.{option_or}
@@ -9,12 +9,15 @@ use Rattle.std.proofs.lemmas.Slice.Eq.{bytes_eq-Decides}
 use Rattle.sof_script.specs.declared.fault_causes.Cause.{Cause}
 use Rattle.sof_script.specs.declared.fault_causes.Cause.TheVariants as causes
 use Rattle.sof_script.specs.ValueForms.{in_range, decimal_value, number_value}
-use Rattle.sof_run.specs.Words.{Form, is_file_name, form_with, play_of}
+use Rattle.sof_run.specs.Words.{Form, is_file_name, named_by, form_with, play_of}
 use Rattle.sof_run.specs.Checking.{check_of}
+use Rattle.sof_run.specs.Picturing.{graph_file_of}
 use Rattle.sof_run.specs.Compiling.{CompileNames, compile_of}
+use Rattle.sof_run.specs.Sourcing.{SourceFiles, source_files_of}
 use Rattle.sof_run.specs.Stressing.{stress_of}
-use Rattle.sof_run.specs.LineParts.{form}
-use Rattle.sof_run.specs.Requests.{Request, Play, Check, Compile, Stress, request_of}
+use Rattle.sof_run.specs.TraceForms.{decode_of}
+use Rattle.sof_run.specs.LineParts.{form, source_files}
+use Rattle.sof_run.specs.Requests.{Request, Play, Check, Picture, Compile, Source, Stress, Decode, request_of}
 
 -- a value that a test lets through
 some_by : {A : Type 0} (b : Bool) (o : Option A) (a : A) → (if b then o else None) ≡ Some a → (b ≡ true) × (o ≡ Some a)
@@ -40,16 +43,53 @@ compile_asked room (verb ∷ source ∷ out ∷ []) names is = rw is refl
 compile_asked room (verb ∷ source ∷ out ∷ more ∷ words) names is = absurd (cc is)
 
 -- a verb is not two
-not_both : (verb : List ℕ) → bytes_eq verb (codes "stress") ≡ true → bytes_eq verb (codes "check") ≡ false
-not_both verb is = ap (λ v. bytes_eq v (codes "check")) ((bytes_eq-Decides verb (codes "stress")).0 is)
+not_both : (verb one other : List ℕ) → bytes_eq verb one ≡ true → bytes_eq verb other ≡ bytes_eq one other
+not_both verb one other is = ap (λ v. bytes_eq v other) ((bytes_eq-Decides verb one).0 is)
+
+-- the verb of words that name a file
+verb_is : (word verb file name : List ℕ) → named_by word (verb ∷ file ∷ []) ≡ Some name → bytes_eq verb word ≡ true
+verb_is word verb file name is = (and_parts (bytes_eq verb word) (is_file_name file) (some_by (bytes_eq verb word && is_file_name file) (Some file) name is).0).0
+
+pub graph_asked : (room : ℕ) (words : List (List ℕ)) (name : List ℕ) → graph_file_of words ≡ Some name → request_of room words ≡ Some (Picture name)
+graph_asked room [] name is = absurd (cc is)
+graph_asked room (verb ∷ []) name is = absurd (cc is)
+graph_asked room (verb ∷ topology ∷ []) name is =
+    let same : bytes_eq verb (codes "graph") ≡ true = verb_is (codes "graph") verb topology name is in
+    let no_check : bytes_eq verb (codes "check") ≡ false = not_both verb (codes "graph") (codes "check") same in
+    rw (no_check, is) refl
+graph_asked room (verb ∷ topology ∷ more ∷ words) name is = absurd (cc is)
+
+pub source_asked : (room : ℕ) (words : List (List ℕ)) (files : SourceFiles) → source_files_of words ≡ Some files → request_of room words ≡ Some (Source files)
+source_asked room [] files is = absurd (cc is)
+source_asked room (verb ∷ []) files is = absurd (cc is)
+source_asked room (verb ∷ topology ∷ []) files is = absurd (cc is)
+source_asked room (verb ∷ topology ∷ out ∷ []) files is =
+    let named = is_file_name topology && is_file_name out in
+    let same = (and_parts (bytes_eq verb (codes "source")) named (some_by (bytes_eq verb (codes "source") && named) (Some (source_files topology out)) files is).0).0 in
+    let no_compile : bytes_eq verb (codes "compile") ≡ false = not_both verb (codes "source") (codes "compile") same in
+    rw (no_compile, is) refl
+source_asked room (verb ∷ topology ∷ out ∷ more ∷ words) files is = absurd (cc is)
 
 pub stress_asked : (room : ℕ) (words : List (List ℕ)) (seed : ℕ) → stress_of words ≡ Some seed → request_of room words ≡ Some (Stress seed)
 stress_asked room [] seed is = absurd (cc is)
 stress_asked room (verb ∷ []) seed is = absurd (cc is)
 stress_asked room (verb ∷ number ∷ []) seed is =
-    let other = not_both verb (some_by (bytes_eq verb (codes "stress")) (result_ok (number_value 1 1000 number)) seed is).0 in
-    rw (other, is) refl
+    let same = (some_by (bytes_eq verb (codes "stress")) (result_ok (number_value 1 1000 number)) seed is).0 in
+    let no_check : bytes_eq verb (codes "check") ≡ false = not_both verb (codes "stress") (codes "check") same in
+    let no_graph : bytes_eq verb (codes "graph") ≡ false = not_both verb (codes "stress") (codes "graph") same in
+    rw (no_check, no_graph, is) refl
 stress_asked room (verb ∷ number ∷ more ∷ words) seed is = absurd (cc is)
+
+pub decode_asked : (room : ℕ) (words : List (List ℕ)) (name : List ℕ) → decode_of words ≡ Some name → request_of room words ≡ Some (Decode name)
+decode_asked room [] name is = absurd (cc is)
+decode_asked room (verb ∷ []) name is = absurd (cc is)
+decode_asked room (verb ∷ trace ∷ []) name is =
+    let same : bytes_eq verb (codes "decode") ≡ true = verb_is (codes "decode") verb trace name is in
+    let no_check : bytes_eq verb (codes "check") ≡ false = not_both verb (codes "decode") (codes "check") same in
+    let no_graph : bytes_eq verb (codes "graph") ≡ false = not_both verb (codes "decode") (codes "graph") same in
+    let no_stress : bytes_eq verb (codes "stress") ≡ false = not_both verb (codes "decode") (codes "stress") same in
+    rw (no_check, no_graph, no_stress, is) refl
+decode_asked room (verb ∷ trace ∷ more ∷ words) name is = absurd (cc is)
 
 -- an option of no value
 none_by : {A : Type 0} (o : Option A) → ((a : A) → o ≡ Some a → ⊥) → o ≡ None
@@ -57,17 +97,20 @@ none_by None none = refl
 none_by (Some a) none = absurd (none a refl)
 
 -- words that ask for nothing have none of the forms
-pub nothing_asked : (room : ℕ) (words : List (List ℕ)) → request_of room words ≡ None → (play_of room words ≡ None) × (check_of words ≡ None) × (compile_of words ≡ None) × (stress_of words ≡ None)
+pub nothing_asked : (room : ℕ) (words : List (List ℕ)) → request_of room words ≡ None → (play_of room words ≡ None) × (check_of words ≡ None) × (graph_file_of words ≡ None) × (compile_of words ≡ None) × (source_files_of words ≡ None) × (stress_of words ≡ None) × (decode_of words ≡ None)
 nothing_asked room words none = (
   none_by (play_of room words) (λ form is. cc (sym none ∙ play_asked room words form is)),
   none_by (check_of words) (λ name is. cc (sym none ∙ check_asked room words name is)),
+  none_by (graph_file_of words) (λ name is. cc (sym none ∙ graph_asked room words name is)),
   none_by (compile_of words) (λ names is. cc (sym none ∙ compile_asked room words names is)),
+  none_by (source_files_of words) (λ files is. cc (sym none ∙ source_asked room words files is)),
   none_by (stress_of words) (λ seed is. cc (sym none ∙ stress_asked room words seed is)),
+  none_by (decode_of words) (λ name is. cc (sym none ∙ decode_asked room words name is)),
 )
 
 -- and the other way round
-pub formless_asked : (room : ℕ) (words : List (List ℕ)) → play_of room words ≡ None → check_of words ≡ None → compile_of words ≡ None → stress_of words ≡ None → request_of room words ≡ None
-formless_asked room words no_play no_check no_compile no_stress = rw (no_play, no_check, no_compile, no_stress) refl
+pub formless_asked : (room : ℕ) (words : List (List ℕ)) → play_of room words ≡ None → check_of words ≡ None → graph_file_of words ≡ None → compile_of words ≡ None → source_files_of words ≡ None → stress_of words ≡ None → decode_of words ≡ None → request_of room words ≡ None
+formless_asked room words no_play no_check no_graph no_compile no_source no_stress no_decode = rw (no_play, no_check, no_graph, no_compile, no_source, no_stress, no_decode) refl
 
 -- ---- its numbers
 
@@ -107,16 +150,22 @@ stress_most (verb ∷ number ∷ more ∷ words) seed is = absurd (cc is)
 abbrev pub IsWithin : ℕ → Request → Type 0
 IsWithin room (Play f) = f.heap ≤ room
 IsWithin room (Check name) = Unit {0}
+IsWithin room (Picture name) = Unit {0}
 IsWithin room (Compile names) = Unit {0}
+IsWithin room (Source files) = Unit {0}
 IsWithin room (Stress seed) = seed ≤ 1000
+IsWithin room (Decode name) = Unit {0}
 
 pub asked_within : (room : ℕ) (words : List (List ℕ)) (r : Request) → request_of room words ≡ Some r → IsWithin room r
-asked_within room words r is = by (play_of room words) refl (check_of words) (compile_of words) (stress_of words) refl is
+asked_within room words r is = by (play_of room words) refl (check_of words) (graph_file_of words) (compile_of words) (source_files_of words) (stress_of words) refl (decode_of words) is
   where
-    by : (p : Option Form) → play_of room words ≡ p → (c : Option (List ℕ)) (s : Option CompileNames) (n : Option ℕ) → stress_of words ≡ n →
-        option_or (option_map Play p) (option_or (option_map Check c) (option_or (option_map Compile s) (option_map Stress n))) ≡ Some r → IsWithin room r
-    by (Some f) is_play c s n is_stress is = let same : Play f ≡ r = cc is in subst (IsWithin room) same (play_most room words f is_play)
-    by None is_play (Some name) s n is_stress is = let same : Check name ≡ r = cc is in subst (IsWithin room) same tt
-    by None is_play None (Some names) n is_stress is = let same : Compile names ≡ r = cc is in subst (IsWithin room) same tt
-    by None is_play None None (Some seed) is_stress is = let same : Stress seed ≡ r = cc is in subst (IsWithin room) same (stress_most words seed is_stress)
-    by None is_play None None None is_stress is = absurd (cc is)
+    by : (p : Option Form) → play_of room words ≡ p → (c g : Option (List ℕ)) (s : Option CompileNames) (f : Option SourceFiles) (n : Option ℕ) → stress_of words ≡ n → (d : Option (List ℕ)) →
+        option_or (option_map Play p) (option_or (option_map Check c) (option_or (option_map Picture g) (option_or (option_map Compile s) (option_or (option_map Source f) (option_or (option_map Stress n) (option_map Decode d)))))) ≡ Some r → IsWithin room r
+    by (Some asked) is_play c g s f n is_stress d is = let same : Play asked ≡ r = cc is in subst (IsWithin room) same (play_most room words asked is_play)
+    by None is_play (Some name) g s f n is_stress d is = let same : Check name ≡ r = cc is in subst (IsWithin room) same tt
+    by None is_play None (Some name) s f n is_stress d is = let same : Picture name ≡ r = cc is in subst (IsWithin room) same tt
+    by None is_play None None (Some names) f n is_stress d is = let same : Compile names ≡ r = cc is in subst (IsWithin room) same tt
+    by None is_play None None None (Some files) n is_stress d is = let same : Source files ≡ r = cc is in subst (IsWithin room) same tt
+    by None is_play None None None None (Some seed) is_stress d is = let same : Stress seed ≡ r = cc is in subst (IsWithin room) same (stress_most words seed is_stress)
+    by None is_play None None None None None is_stress (Some name) is = let same : Decode name ≡ r = cc is in subst (IsWithin room) same tt
+    by None is_play None None None None None is_stress None is = absurd (cc is)

@@ -1,13 +1,14 @@
 -- The status that a run ends with, and what comes before it.
-use Rattle.std.proofs.Common.{◌≡◌, ◌⊎◌, inl, inr, ℕ, ◌≤◌, true, false, List, [], ◌∷◌, ◌++◌, Option, Some, None, MatchOption, Ok, Err, refl, sym, ◌∙◌, subst, arith}
+use Rattle.std.proofs.Common.{◌≡◌, ◌⊎◌, inl, inr, ℕ, ◌≤◌, Bool, true, false, List, [], ◌∷◌, ◌++◌, Option, Some, None, MatchOption, Ok, Err, refl, sym, ◌∙◌, subst, arith}
 use Rattle.sof_desk.specs.declared.calls.LoadFault.TheVariants.{Failed, TooLong, OutOfMemory}
-use Rattle.sof_desk.specs.Desk.{DeskMeaning, DeskCall, Load, Did, Read, DeskLed, CountRose}
+use Rattle.sof_desk.specs.Desk.{DeskMeaning, DeskAct, Create, Put, Open, DeskCall, Load, Did, Read, DeskLed, CountRose}
 use Rattle.sof_session.specs.Written.{Out}
 use Rattle.sof_session.specs.Lives.{Turn}
 use Rattle.sof_run.specs.Lines.{no_memory_line}
 use Rattle.sof_run.specs.Todo.{Todo, End, Stop, Ask, Do, Step, Refill, Free, Says, Over, DoneBy}
 use Rattle.sof_run.specs.Calls.{reading}
 use Rattle.sof_run.specs.Throughout.{Throughout}
+use Rattle.sof_run.specs.Ends.{IsOpening}
 use Rattle.sof_run.specs.Opening.{IsOpeningAct, AreOpening}
 use Rattle.sof_run.proofs.Steps.{no_turns}
 
@@ -95,12 +96,18 @@ none_turned (Refill rest) (turn ∷ turns) calls status goes last early =
 none_turned (Free rest) turns calls status (inl goes) last early = none_turned rest turns calls status goes last early
 none_turned (Free rest) turns calls status (inr says) last early = no_turns no_memory_line 7 turns calls status says
 
+-- a call creates or opens a file, whether it was done or not
+opens_act : (act : DeskAct) (done : Bool) → IsOpening (Did act done) → IsOpeningAct act
+opens_act (Create slot name) done opens = opens
+opens_act (Put place piece) done opens = opens
+opens_act (Open slot name) done opens = opens
+
 -- a line that is said is no load, and creates and opens nothing
 said_no_loads : (line : List ℕ) (n : ℕ) (turns : List Turn) (calls : List DeskCall) (status : ℕ) → Says line n turns calls status → AreOpening calls → ⊥
 said_no_loads line n turns [] status says loads = says
 said_no_loads line n turns (Load name limit heard ∷ calls) status says loads = says
 said_no_loads line n turns (Read slot size got ∷ calls) status says loads = says
-said_no_loads line n turns (Did act done ∷ calls) status says loads = subst IsOpeningAct says.0 loads.0
+said_no_loads line n turns (Did act done ∷ calls) status says loads = subst IsOpeningAct says.0 (opens_act act done loads.0)
 
 -- where all calls were loads, creates and opens, there were no reads
 none_read : (reads : List (ℕ × List ℕ)) (failed : Option ℕ) (later : List DeskCall) → AreOpening (reading reads failed ++ later) → (failed ≡ None) × AreOpening later
@@ -117,7 +124,7 @@ opening_past (Do act rest) turns [] status goes none puts loads three = goes
 opening_past (Do act rest) turns (Load name limit heard ∷ calls) status goes none puts loads three = goes
 opening_past (Do act rest) turns (Read n size got ∷ calls) status goes none puts loads three = goes
 opening_past (Do act rest) turns (Did a true ∷ calls) status goes none puts loads three = puts.0 (subst IsOpeningAct goes.0 loads.0)
-opening_past (Do act rest) turns (Did a false ∷ calls) status goes none puts loads three = puts.0 (subst IsOpeningAct goes.0 loads.0)
+opening_past (Do act rest) turns (Did a false ∷ calls) status goes none puts loads three = puts.0 (subst IsOpeningAct goes.0 (opens_act a false loads.0))
 opening_past (Step task rest) [] calls status goes none puts loads three = goes
 opening_past (Step task rest) (turn ∷ turns) calls status goes none puts loads three = opening_past (rest turn.out) turns calls status goes.1 (none turn.out) (puts turn.out) loads three
 opening_past (Refill rest) [] calls status goes none puts loads three = goes

@@ -1,5 +1,5 @@
 -- What holds throughout what `run` has to do.
-use Rattle.std.proofs.Common.{◌≡◌, ◌⊎◌, ℕ, List, [], ◌∷◌, Option, Some, None, Result, Ok, Err, inl, inr, refl}
+use Rattle.std.proofs.Common.{◌≡◌, ◌⊎◌, ℕ, List, [], ◌∷◌, map, Option, Some, None, Result, Ok, Err, inl, inr, refl}
 use Rattle.sof_base.specs.Ports.{InputView}
 use Rattle.sof_desk.specs.Desk.{DeskCall}
 use Rattle.tplg_model.specs.declared.fault.TplgFault.{TplgFault}
@@ -23,10 +23,14 @@ use Rattle.sof_run.specs.Todo.{Todo, End, DoneBy}
 use Rattle.sof_run.specs.Lines.{lines_after, halt_status}
 use Rattle.sof_run.specs.Prepared.{Prepared, Ready, Halted, prepared, checked_rules, checked_file, checked}
 use Rattle.sof_run.specs.Play.{prepared_todo, ready_todo, flush_todo, lines_todo, rounds_todo, session_todo, bindings_todo, play}
-use Rattle.sof_run.specs.Checking.{counts_of}
-use Rattle.sof_run.specs.CheckTodo.{checked_todo, check}
+use Rattle.sof_run.specs.Checking.{count_lines}
+use Rattle.sof_run.specs.Picturing.{picture_lines}
+use Rattle.sof_run.specs.CheckTodo.{said_todo, checked_todo, check}
 use Rattle.sof_run.specs.Compiling.{CompileNames, source_status}
 use Rattle.sof_run.specs.CompileTodo.{compiled_todo, compile}
+use Rattle.sof_run.specs.Sourcing.{SourceFiles}
+use Rattle.tplg_source.specs.Outcome.{source_for}
+use Rattle.sof_run.specs.SourceTodo.{kept_todo, sourced_todo, make_source}
 use Rattle.sof_stress.specs.declared.counts.Counts.{Counts}
 use Rattle.sof_stress.specs.Draws.{stream_count}
 use Rattle.sof_stress.specs.StressPorts.{dai_slot}
@@ -34,7 +38,12 @@ use Rattle.sof_stress.specs.CommandTurns.{CommandTurn, turn_counted, no_counts}
 use Rattle.sof_stress.specs.StressRun.{stress_turns}
 use Rattle.sof_run.specs.Stressing.{stress_lines}
 use Rattle.sof_run.specs.StressTodo.{counted_todo, told_todo, stress}
-use Rattle.sof_run.specs.Requests.{Request, Play, Check, Compile, Stress}
+use Rattle.ipc3_trace.specs.declared.entry.Entry.{Entry}
+use Rattle.ipc3_trace.specs.declared.fault.TraceFault.{TraceFault}
+use Rattle.ipc3_trace.specs.EntryLines.{entry_line}
+use Rattle.ipc3_trace.specs.Reading.{trace_in}
+use Rattle.sof_run.specs.DecodeTodo.{fault_todo, decoded_todo, decode}
+use Rattle.sof_run.specs.Requests.{Request, Play, Check, Picture, Compile, Source, Stress, Decode}
 use Rattle.sof_run.specs.Forms.{todo_for}
 use Rattle.sof_run.specs.Throughout.{Throughout}
 use Rattle.sof_run.proofs.Statuses.{IsLate, OpensNone, TurnsLast, ends}
@@ -80,29 +89,48 @@ module _ (P : ℕ → Type 0) (A : List ℕ → Type 0) where
   play_all form done two four five seven eight names =
       (names form.topology, five, seven, λ topology. (names form.script, five, seven, λ script. (seven, prepared_all form.heap (prepared topology script) done two four seven eight)))
 
-  checked_all : (t : Topology) (ruling : Option (ℕ × ℕ)) → P 0 → P 2 → Throughout P A (checked_todo (checked_rules t ruling))
-  checked_all t (Some (rule, item)) done two = two
-  checked_all t None done two = lines_all (counts_of t) End done
+  said_all : (lines : List (List ℕ)) → P 0 → Throughout P A (said_todo lines End)
+  said_all [] done = done
+  said_all (line ∷ lines) done = said_all lines done
 
-  file_all : (r : Result Topology TplgFault) → P 0 → P 2 → Throughout P A (checked_todo (checked_file r))
-  file_all (Err fault) done two = two
-  file_all (Ok t) done two = checked_all t (ruling_of t) done two
+  checked_all : (lines : Topology → List (List ℕ)) (t : Topology) (ruling : Option (ℕ × ℕ)) → P 0 → P 2 → Throughout P A (checked_todo lines (checked_rules t ruling))
+  checked_all lines t (Some (rule, item)) done two = two
+  checked_all lines t None done two = said_all (lines t) done
 
-  pub check_all : (name : List ℕ) → P 0 → P 2 → P 5 → P 7 → A name → Throughout P A (check name)
-  check_all name done two five seven named = (named, five, seven, λ bytes. (seven, file_all (topology_of bytes) done two))
+  file_all : (lines : Topology → List (List ℕ)) (r : Result Topology TplgFault) → P 0 → P 2 → Throughout P A (checked_todo lines (checked_file r))
+  file_all lines (Err fault) done two = two
+  file_all lines (Ok t) done two = checked_all lines t (ruling_of t) done two
 
-  source_all : (f : SourceFault) → P 4 → P 7 → P (source_status f)
-  source_all source.Syntax four seven = four
-  source_all (source.Shape list entry) four seven = four
-  source_all (source.Rule rule item) four seven = four
-  source_all source.OutOfMemory four seven = seven
+  pub check_all : (lines : Topology → List (List ℕ)) (name : List ℕ) → P 0 → P 2 → P 5 → P 7 → A name → Throughout P A (check lines name)
+  check_all lines name done two five seven named = (named, five, seven, λ bytes. (seven, file_all lines (topology_of bytes) done two))
+
+  fault_all : (f : SourceFault) → P 4 → P 7 → P (source_status f)
+  fault_all source.Syntax four seven = four
+  fault_all (source.Shape list entry) four seven = four
+  fault_all (source.Rule rule item) four seven = four
+  fault_all source.OutOfMemory four seven = seven
 
   compiled_all : (out : List ℕ) (r : Result Topology SourceFault) → P 0 → P 4 → P 7 → Throughout P A (compiled_todo out r)
   compiled_all out (Ok t) done four seven = done
-  compiled_all out (Err f) done four seven = source_all f four seven
+  compiled_all out (Err f) done four seven = fault_all f four seven
 
   pub compile_all : (names : CompileNames) → P 0 → P 4 → P 5 → P 7 → A names.source → Throughout P A (compile names)
   compile_all names done four five seven named = (named, five, seven, λ text. (seven, compiled_all names.out (compiled_of text) done four seven))
+
+  kept_all : (out : List ℕ) (o : Option (List ℕ)) → P 0 → P 2 → Throughout P A (kept_todo out o)
+  kept_all out (Some text) done two = done
+  kept_all out None done two = two
+
+  sourced_rules_all : (out : List ℕ) (t : Topology) (ruling : Option (ℕ × ℕ)) → P 0 → P 2 → Throughout P A (sourced_todo out (checked_rules t ruling))
+  sourced_rules_all out t (Some (rule, item)) done two = two
+  sourced_rules_all out t None done two = kept_all out (source_for t) done two
+
+  sourced_all : (out : List ℕ) (r : Result Topology TplgFault) → P 0 → P 2 → Throughout P A (sourced_todo out (checked_file r))
+  sourced_all out (Err fault) done two = two
+  sourced_all out (Ok t) done two = sourced_rules_all out t (ruling_of t) done two
+
+  pub source_all : (files : SourceFiles) → P 0 → P 2 → P 5 → P 7 → A files.topology → Throughout P A (make_source files)
+  source_all files done two five seven named = (named, five, seven, λ bytes. (seven, sourced_all files.out (topology_of bytes) done two))
 
   counted_all : (slot : ℕ) (turns : List CommandTurn) (counts : Counts) (next : Counts → Todo) → ((c : Counts) → Throughout P A (next c)) → Throughout P A (counted_todo slot turns counts next)
   counted_all slot [] counts next all = all counts
@@ -114,6 +142,16 @@ module _ (P : ℕ → Type 0) (A : List ℕ → Type 0) where
   pub stress_all : (room sent seed : ℕ) → P 0 → P 7 → Throughout P A (stress room sent seed)
   stress_all room sent seed done seven =
       (seven, λ out. counted_all (dai_slot (stream_count seed)) (stress_turns seed) no_counts (told_todo sent) (λ counts. told_all sent counts done))
+
+  trace_fault_all : (fault : Option TraceFault) → P 0 → P 2 → Throughout P A (fault_todo fault)
+  trace_fault_all None done two = done
+  trace_fault_all (Some fault) done two = two
+
+  decoded_all : (es : List Entry) (fault : Option TraceFault) → P 0 → P 2 → Throughout P A (decoded_todo es fault)
+  decoded_all es fault done two = lines_all (map entry_line es) (fault_todo fault) (trace_fault_all fault done two)
+
+  pub decode_all : (name : List ℕ) → P 0 → P 2 → P 5 → P 7 → A name → Throughout P A (decode name)
+  decode_all name done two five seven named = (named, five, seven, λ bytes. decoded_all (trace_in bytes).0 (trace_in bytes).1 done two)
 
 -- ---- turns come last
 
@@ -142,17 +180,36 @@ prepared_last heap (Ready plan read) =
     (session_last heap plan read.commands (bound_inputs plan [] read.bindings) (bound_slots plan read.bindings))
 prepared_last heap (Halted why) = tt
 
-lines_last : (lines : List (List ℕ)) → TurnsLast (lines_todo lines End)
-lines_last [] = tt
-lines_last (line ∷ lines) = lines_last lines
+said_last : (lines : List (List ℕ)) → TurnsLast (said_todo lines End)
+said_last [] = tt
+said_last (line ∷ lines) = said_last lines
 
-checked_last : (r : Result Topology Halt) → TurnsLast (checked_todo r)
-checked_last (Ok t) = lines_last (counts_of t)
-checked_last (Err why) = tt
+lines_last : (lines : List (List ℕ)) (rest : Todo) → TurnsLast rest → TurnsLast (lines_todo lines rest)
+lines_last [] rest last = last
+lines_last (line ∷ lines) rest last = lines_last lines rest last
+
+checked_last : (lines : Topology → List (List ℕ)) (r : Result Topology Halt) → TurnsLast (checked_todo lines r)
+checked_last lines (Ok t) = said_last (lines t)
+checked_last lines (Err why) = tt
 
 compiled_last : (out : List ℕ) (r : Result Topology SourceFault) → TurnsLast (compiled_todo out r)
 compiled_last out (Ok t) = tt
 compiled_last out (Err f) = tt
+
+kept_last : (out : List ℕ) (o : Option (List ℕ)) → TurnsLast (kept_todo out o)
+kept_last out (Some text) = tt
+kept_last out None = tt
+
+sourced_last : (out : List ℕ) (r : Result Topology Halt) → TurnsLast (sourced_todo out r)
+sourced_last out (Ok t) = kept_last out (source_for t)
+sourced_last out (Err why) = tt
+
+trace_fault_last : (fault : Option TraceFault) → TurnsLast (fault_todo fault)
+trace_fault_last None = tt
+trace_fault_last (Some fault) = tt
+
+decoded_last : (es : List Entry) (fault : Option TraceFault) → TurnsLast (decoded_todo es fault)
+decoded_last es fault = lines_last (map entry_line es) (fault_todo fault) (trace_fault_last fault)
 
 counted_puts : (slot : ℕ) (turns : List CommandTurn) (counts : Counts) (next : Counts → Todo) → ((c : Counts) → OpensNone (next c)) → OpensNone (counted_todo slot turns counts next)
 counted_puts slot [] counts next puts = puts counts
@@ -166,9 +223,12 @@ stress_last room sent seed = λ out. (
 
 pub words_last : (room sent : ℕ) (r : Option Request) → TurnsLast (todo_for room sent r)
 words_last room sent None = tt
+words_last room sent (Some (Decode name)) = λ bytes. decoded_last (trace_in bytes).0 (trace_in bytes).1
 words_last room sent (Some (Stress seed)) = stress_last room sent seed
 words_last room sent (Some (Compile names)) = λ text. compiled_last names.out (compiled_of text)
-words_last room sent (Some (Check name)) = λ bytes. checked_last (checked bytes)
+words_last room sent (Some (Source files)) = λ bytes. sourced_last files.out (checked bytes)
+words_last room sent (Some (Check name)) = λ bytes. checked_last count_lines (checked bytes)
+words_last room sent (Some (Picture name)) = λ bytes. checked_last picture_lines (checked bytes)
 words_last room sent (Some (Play form)) = λ topology script. prepared_last form.heap (prepared topology script)
 
 -- files that make a run end with 0 or 3, or memory was wanting

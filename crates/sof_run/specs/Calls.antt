@@ -7,7 +7,10 @@ use Rattle.tplg_model.specs.declared.block.Topology.{Topology}
 use Rattle.tplg_model.specs.File.{spelling}
 use Rattle.tplg_plan.specs.declared.plans.Plan.{Plan}
 use Rattle.tplg_compile.specs.declared.source_fault.SourceFault.{SourceFault}
+use Rattle.ipc3_trace.specs.declared.entry.Entry.{Entry}
+use Rattle.ipc3_trace.specs.declared.fault.TraceFault.{TraceFault}
 use Rattle.tplg_graph.specs.PlanOf.{plan_of}
+use Rattle.tplg_source.specs.Outcome.{source_for}
 use Rattle.sof_script.specs.Commands.{Bound, Read as ReadScript}
 use Rattle.sof_session.specs.Written.{Out}
 use Rattle.sof_session.specs.Lives.{Task, Begin, Carry, Fill, Turn}
@@ -17,24 +20,28 @@ use Rattle.sof_run.specs.Bindings.{binding_act, bound_inputs, bound_slots}
 use Rattle.sof_run.specs.Rounds.{Round, rounds_of}
 use Rattle.sof_run.specs.Lines.{no_memory_line, halt_line, halt_status, with_newline}
 use Rattle.sof_run.specs.Pieces.{Piece, pieces_of}
-use Rattle.sof_run.specs.Checking.{counts_of}
+use Rattle.sof_run.specs.Checking.{count_lines}
+use Rattle.sof_run.specs.Picturing.{picture_lines}
 use Rattle.sof_stress.specs.declared.counts.Counts.{Counts}
 use Rattle.sof_stress.specs.Draws.{stream_count}
 use Rattle.sof_stress.specs.StressPorts.{dai_slot}
 use Rattle.sof_stress.specs.CommandTurns.{CommandTurn, turn_counted, no_counts}
 use Rattle.sof_stress.specs.StressRun.{stress_begins, stress_turns}
 use Rattle.sof_run.specs.Compiling.{source_line, source_status, wrote_line}
+use Rattle.sof_run.specs.Sourcing.{no_source_line}
 use Rattle.sof_run.specs.Stressing.{stress_lines}
-use Rattle.sof_run.specs.Requests.{Request, Play, Check, Compile, Stress}
+use Rattle.sof_run.specs.TraceLines.{trace_lines, trace_status}
+use Rattle.sof_run.specs.Requests.{Request, Play, Check, Picture, Compile, Source, Stress, Decode}
 
 -- ---- what the loaded bytes come to
 
 -- Each as a value: the run that a topology and a script make, or why they make none; the topology that keeps all rules, or why the
--- bytes are no such; the topology of a source, or the source's fault.
+-- bytes are no such; the topology of a source, or the source's fault; the records of a trace, and its first fault, if any.
 pub record Findings : Type 0 where
   pub run : Result (Topology × ReadScript) Halt
   pub topology : Result Topology Halt
   pub source : Result Topology SourceFault
+  pub trace : List Entry × Option TraceFault
 
 -- ---- the list
 
@@ -116,15 +123,38 @@ playing form run heard turns =
     load_course form.script 1048576 (codes "too long script\n") heard (λ heard.
     before_course (Memory ∷ []) (files form.heap run turns)))
 
--- ---- `check` and `compile`
+-- ---- `check`, `graph`, `compile` and `source`
 
-abbrev pub counting : Result Topology Halt → Course
-counting (Ok t) = record { items = map (λ line. saying (with_newline line)) (counts_of t); status = 0 }
-counting (Err why) = last_line (halt_line why) (halt_status why)
+-- these lines of a right topology are said
+abbrev pub counting : (Topology → List (List ℕ)) → Result Topology Halt → Course
+counting lines (Ok t) = record { items = map saying (lines t); status = 0 }
+counting lines (Err why) = last_line (halt_line why) (halt_status why)
+
+-- a topology is loaded before
+abbrev pub checking : List ℕ → List Heard → Course → Course
+checking name heard rest = load_course name 1048576 (codes "too long topology\n") heard (λ heard. before_course (Memory ∷ []) rest)
+
+-- a file of these bytes is made
+abbrev pub making_file : List ℕ → List ℕ → Course
+making_file out bytes = record { items = Calls (Did (Create 0 out) true) ∷ Calls (Did (Put (Slot 0) bytes) true) ∷ saying (with_newline (wrote_line bytes)) ∷ []; status = 0 }
 
 abbrev pub making : List ℕ → Result Topology SourceFault → Course
-making out (Ok t) = record { items = Calls (Did (Create 0 out) true) ∷ Calls (Did (Put (Slot 0) (spelling t)) true) ∷ saying (with_newline (wrote_line (spelling t))) ∷ []; status = 0 }
+making out (Ok t) = making_file out (spelling t)
 making out (Err fault) = last_line (source_line fault) (source_status fault)
+
+-- the file of a source, where there is one
+abbrev pub keeping : List ℕ → Option (List ℕ) → Course
+keeping out (Some text) = making_file out text
+keeping out None = last_line no_source_line 2
+
+abbrev pub sourcing : List ℕ → Result Topology Halt → Course
+sourcing out (Ok t) = keeping out (source_for t)
+sourcing out (Err why) = last_line (halt_line why) (halt_status why)
+
+-- ---- `decode`
+
+abbrev pub recounting : List Entry × Option TraceFault → Course
+recounting trace = record { items = map saying (trace_lines trace.0 trace.1); status = trace_status trace.1 }
 
 -- ---- `stress`
 
@@ -146,11 +176,13 @@ stressing room sent seed turns =
 -- the course where this is asked for, or nothing is, over a device of this room; a stress has sent so many messages at its end
 abbrev pub course : ℕ → ℕ → Option Request → Findings → List Heard → List Turn → Course
 course room sent (Some (Play form)) found heard turns = playing form found.run heard turns
-course room sent (Some (Check name)) found heard turns =
-    load_course name 1048576 (codes "too long topology\n") heard (λ heard. before_course (Memory ∷ []) (counting found.topology))
+course room sent (Some (Check name)) found heard turns = checking name heard (counting count_lines found.topology)
+course room sent (Some (Picture name)) found heard turns = checking name heard (counting picture_lines found.topology)
 course room sent (Some (Compile names)) found heard turns =
     load_course names.source 1048576 (codes "too long source\n") heard (λ heard. before_course (Memory ∷ []) (making names.out found.source))
+course room sent (Some (Source given)) found heard turns = checking given.topology heard (sourcing given.out found.topology)
 course room sent (Some (Stress seed)) found heard turns = stressing room sent seed turns
+course room sent (Some (Decode name)) found heard turns = load_course name 16777216 (codes "too long trace\n") heard (λ heard. recounting found.trace)
 course room sent None found heard turns = last_line (codes "words\n") 1
 
 -- ---- what was made of it

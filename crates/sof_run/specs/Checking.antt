@@ -1,17 +1,16 @@
 -- The words of `check`, and the lines that it says.
-use Rattle.std.specs.Prelude.{ℕ, ◌&&◌, List, [], ◌∷◌, ◌++◌, length, Option, Some, None, codes, decimal, if◌then◌else◌}
-use Rattle.std.specs.Str.{bytes_eq}
+use Rattle.std.specs.Prelude.{ℕ, List, [], ◌∷◌, ◌++◌, length, map, Option, codes, decimal}
 use Rattle.tplg_model.specs.declared.block.Topology.{Topology}
 use Rattle.tplg_graph.specs.TopologyNeed.{need_of}
 use Rattle.tplg_graph.specs.PlanOf.{plan_of}
-use Rattle.sof_run.specs.Words.{is_file_name}
+use Rattle.sof_run.specs.Words.{named_by}
+use Rattle.sof_run.specs.Lines.{with_newline}
 
 -- ---- the words
 
 -- `check TOPOLOGY`: the name of its file
 abbrev pub check_of : List (List ℕ) → Option (List ℕ)
-check_of (verb ∷ topology ∷ []) = if bytes_eq verb (codes "check") && is_file_name topology then Some topology else None
-check_of _ = None
+check_of words = named_by (codes "check") words
 
 -- ---- what is said
 
@@ -31,3 +30,7 @@ counts_of t =
     ∷ count_line (codes "controls ") (length plan.controls)
     ∷ count_line (codes "need ") (need_of t)
     ∷ []
+
+-- each with its newline
+abbrev pub count_lines : Topology → List (List ℕ)
+count_lines t = map with_newline (counts_of t)

@@ -1,5 +1,5 @@
--- What `check` does, by the bytes of its file.
-use Rattle.std.specs.Prelude.{◌≡◌, ◌⊎◌, ℕ, ◌≤◌, true, List, [], ◌∷◌, ◌++◌, length, map, Some, Ok, Err, codes, if◌then◌else◌, ◌<◌}
+-- What `check` and `graph` do, by the bytes of their file: the lines that they say of a topology differ.
+use Rattle.std.specs.Prelude.{◌≡◌, ◌⊎◌, ℕ, ◌≤◌, true, List, [], ◌∷◌, ◌++◌, length, map, Option, Some, Ok, Err, codes, if◌then◌else◌, ◌<◌}
 use Rattle.std.specs.List.{concat}
 use Rattle.sof_desk.specs.declared.calls.LoadFault.TheVariants.{TooLong}
 use Rattle.sof_desk.specs.Desk.{DeskMeaning, DeskPlace, Put, Spoken, DeskCall, Load, Did, same_place, with_more}
@@ -8,9 +8,8 @@ use Rattle.tplg_model.specs.File.{IsFileFault}
 use Rattle.tplg_rules.specs.WellFormed.{IsWellFormed, Breaks}
 use Rattle.sof_run.specs.declared.prepare.Halt.{Halt}
 use Rattle.sof_run.specs.declared.prepare.Halt.TheVariants as halts
-use Rattle.sof_run.specs.Lines.{no_memory_line, with_newline, halt_line}
+use Rattle.sof_run.specs.Lines.{no_memory_line, halt_line}
 use Rattle.sof_run.specs.TopologyBytes.{IsFile, IsBroken}
-use Rattle.sof_run.specs.Checking.{check_of, counts_of}
 use Rattle.sof_run.specs.Calls.{heard_in}
 
 -- Why bytes are no right topology: no topology has them, and this is their first fault; or the topology that has them breaks
@@ -34,13 +33,13 @@ telling name bytes lines = Load name 1048576 (Ok bytes) ∷ map saying lines
 
 -- The status by the file's bytes, whose cases exclude each other, and all calls on the desk: a desk that failed or want of
 -- memory; 5 where the file is too long; 2 where it is no right topology, and then the line for it was said; 0 where it is
--- one, and then its counts were said.
-abbrev pub CheckVerdict : List ℕ → List ℕ → List DeskCall → ℕ → Type 0
-CheckVerdict name bytes calls status =
+-- one, and then these lines of it were said.
+abbrev pub CheckVerdict : (Topology → List (List ℕ)) → List ℕ → List ℕ → List DeskCall → ℕ → Type 0
+CheckVerdict lines name bytes calls status =
     ((status ≡ 3) ⊎ (status ≡ 7))
     ⊎ (((status ≡ 5) × (1048576 < length bytes) × (calls ≡ Load name 1048576 (Err TooLong) ∷ saying (codes "too long topology\n") ∷ []))
     ⊎ (((why : Halt) × (status ≡ 2) × (length bytes ≤ 1048576) × IsWrong bytes why × (calls ≡ telling name bytes (halt_line why ∷ [])))
-    ⊎ ((status ≡ 0) × (length bytes ≤ 1048576) × ((t : Topology) × IsRight bytes t × (calls ≡ telling name bytes (map with_newline (counts_of t)))))))
+    ⊎ ((status ≡ 0) × (length bytes ≤ 1048576) × ((t : Topology) × IsRight bytes t × (calls ≡ telling name bytes (lines t))))))
 
 -- ---- what was written
 
@@ -52,21 +51,21 @@ Spoke means part old new = (place : DeskPlace) → means.wrote new place ≡ (if
 abbrev pub IsFront : List ℕ → List ℕ → Type 0
 IsFront part text = (rest : List ℕ) × (part ++ rest ≡ text)
 
--- A text was said: all of it with status 0, or a front of it with status 3. Or memory was wanting before, and the line for it
+-- A text was said: all of it with a status, or a front of it with status 3. Or memory was wanting before, and the line for it
 -- was said or a front of it.
-pub record WroteText {D : Type 0} (means : DeskMeaning D) (text : List ℕ) (old new : D) (status : ℕ) : Type 0 where
+pub record WroteText {D : Type 0} (means : DeskMeaning D) (text : List ℕ) (n : ℕ) (old new : D) (status : ℕ) : Type 0 where
   pub part : List ℕ
   pub spoke : Spoke means part old new
-  pub is : ((status ≡ 0) × (part ≡ text)) ⊎ (((status ≡ 3) × IsFront part text) ⊎ (((status ≡ 3) ⊎ (status ≡ 7)) × IsFront part no_memory_line))
+  pub is : ((status ≡ n) × (part ≡ text)) ⊎ (((status ≡ 3) × IsFront part text) ⊎ (((status ≡ 3) ⊎ (status ≡ 7)) × IsFront part no_memory_line))
 
 -- ---- all
 
--- Where the words are those of `check`.
-pub record Checks {D P : Type 0} (means : DeskMeaning D) (words : List (List ℕ)) (old : D) (p : P) (calls : List DeskCall) (status : ℕ) (new : D) (q : P) : Type 0 where
+-- Where the words are those of `check` or of `graph`, and name this file.
+pub record Checks {D P : Type 0} (means : DeskMeaning D) (lines : Topology → List (List ℕ)) (named : Option (List ℕ)) (old : D) (p : P) (calls : List DeskCall) (status : ℕ) (new : D) (q : P) : Type 0 where
   -- the device is not touched
-  pub alone : (name : List ℕ) → check_of words ≡ Some name → q ≡ p
+  pub alone : (name : List ℕ) → named ≡ Some name → q ≡ p
   -- the status is by the file's bytes, where the desk tells them, and, whatever the desk tells, by those that the load brought
-  pub judged : (name bytes : List ℕ) → check_of words ≡ Some name → (means.holds old name ≡ Some bytes) ⊎ (heard_in calls ≡ Ok bytes ∷ []) → CheckVerdict name bytes calls status
-  -- of a right topology the counts were said, and nothing else was written
-  pub counted : (name bytes : List ℕ) (t : Topology) → check_of words ≡ Some name → means.holds old name ≡ Some bytes → length bytes ≤ 1048576 → IsRight bytes t
-      → WroteText means (concat (map with_newline (counts_of t))) old new status
+  pub judged : (name bytes : List ℕ) → named ≡ Some name → (means.holds old name ≡ Some bytes) ⊎ (heard_in calls ≡ Ok bytes ∷ []) → CheckVerdict lines name bytes calls status
+  -- of a right topology the lines were said, and nothing else was written
+  pub told : (name bytes : List ℕ) (t : Topology) → named ≡ Some name → means.holds old name ≡ Some bytes → length bytes ≤ 1048576 → IsRight bytes t
+      → WroteText means (concat (lines t)) 0 old new status

@@ -3,8 +3,11 @@ use Rattle.std.specs.Prelude.{◌≡◌, ◌⊎◌, ℕ, List, None}
 use Rattle.sof_desk.specs.Desk.{Put, DeskCall, Did, Read}
 use Rattle.sof_run.specs.Words.{play_of}
 use Rattle.sof_run.specs.Checking.{check_of}
+use Rattle.sof_run.specs.Picturing.{graph_file_of}
 use Rattle.sof_run.specs.Compiling.{compile_of}
+use Rattle.sof_run.specs.Sourcing.{source_files_of}
 use Rattle.sof_run.specs.Stressing.{stress_of}
+use Rattle.sof_run.specs.TraceForms.{decode_of}
 
 -- ---- the calls
 
@@ -22,5 +25,5 @@ IsEarly status = (status ≡ 1) ⊎ (status ≡ 2) ⊎ (status ≡ 4) ⊎ (statu
 
 -- status 1 comes exactly where the words have none of the forms, but for a failure of the desk
 pub record Worded (room : ℕ) (words : List (List ℕ)) (status : ℕ) : Type 0 where
-  pub only : status ≡ 1 → (play_of room words ≡ None) × (check_of words ≡ None) × (compile_of words ≡ None) × (stress_of words ≡ None)
-  pub each : play_of room words ≡ None → check_of words ≡ None → compile_of words ≡ None → stress_of words ≡ None → (status ≡ 1) ⊎ (status ≡ 3)
+  pub only : status ≡ 1 → (play_of room words ≡ None) × (check_of words ≡ None) × (graph_file_of words ≡ None) × (compile_of words ≡ None) × (source_files_of words ≡ None) × (stress_of words ≡ None) × (decode_of words ≡ None)
+  pub each : play_of room words ≡ None → check_of words ≡ None → graph_file_of words ≡ None → compile_of words ≡ None → source_files_of words ≡ None → stress_of words ≡ None → decode_of words ≡ None → (status ≡ 1) ⊎ (status ≡ 3)

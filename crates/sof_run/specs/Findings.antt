@@ -2,23 +2,25 @@
 use Rattle.std.specs.Prelude.{◌≡◌, ℕ, List, [], ◌∷◌, Ok, MatchResult}
 use Rattle.sof_desk.specs.Desk.{Heard, DeskCall}
 use Rattle.tplg_compile.specs.Compiled.{IsCompiled, IsCompileFault}
+use Rattle.ipc3_trace.specs.WholeTraces.{IsTraceOf}
 use Rattle.sof_session.specs.Lives.{Turn}
 use Rattle.sof_run.specs.Verdicts.{MakeRun, IsHalt}
 use Rattle.sof_run.specs.Checks.{IsRight, IsWrong}
 use Rattle.sof_run.specs.Requests.{request_of}
 use Rattle.sof_run.specs.Calls.{Findings, course, heard_in, Made}
 
--- Each of the three determines its value: a script is read in one way; bytes are the file of one topology at most, or have one first
+-- Each of the four determines its value: a script is read in one way; bytes are the file of one topology at most, or have one first
 -- fault; a topology keeps all rules, or breaks one first, with one least item; a text is the source of one topology at most, or has one
--- fault.
+-- fault; bytes have one list of records, up to their end or their first fault.
 
 -- What the loads brought comes to these findings: topology and script make this run, or this is why they make none; a
 -- topology's bytes are the file of this one, which keeps all rules, or this is why they are none; a text is the source of this topology,
--- which keeps all rules, or this is its fault.
+-- which keeps all rules, or this is its fault; a trace's bytes are these records, up to their end or to this fault.
 pub record AreFindings (heard : List Heard) (found : Findings) : Type 0 where
   pub run : (topology script : List ℕ) → heard ≡ Ok topology ∷ Ok script ∷ [] → MatchResult found.run (λ run. MakeRun topology script run.0 run.1) (IsHalt topology script)
   pub topology : (bytes : List ℕ) → heard ≡ Ok bytes ∷ [] → MatchResult found.topology (IsRight bytes) (IsWrong bytes)
   pub source : (text : List ℕ) → heard ≡ Ok text ∷ [] → MatchResult found.source (IsCompiled text) (IsCompileFault text)
+  pub trace : (bytes : List ℕ) → heard ≡ Ok bytes ∷ [] → IsTraceOf bytes found.trace.0 found.trace.1
 
 -- what these words ask for was done, by what the loaded bytes come to and by the turns that were made
 pub record FollowsCourse (room sent : ℕ) (words : List (List ℕ)) (turns : List Turn) (calls : List DeskCall) (status : ℕ) : Type 0 where

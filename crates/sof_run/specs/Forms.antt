@@ -8,18 +8,25 @@ use Rattle.sof_stress.specs.GraphParts.{stress_plan}
 use Rattle.sof_stress.specs.StressRun.{sent_in}
 use Rattle.sof_run.specs.Todo.{Todo, Stop, Gave}
 use Rattle.sof_run.specs.Play.{play}
+use Rattle.sof_run.specs.Checking.{count_lines}
+use Rattle.sof_run.specs.Picturing.{picture_lines}
 use Rattle.sof_run.specs.CheckTodo.{check}
 use Rattle.sof_run.specs.CompileTodo.{compile}
+use Rattle.sof_run.specs.SourceTodo.{make_source}
 use Rattle.sof_run.specs.Stressing.{stress_of}
 use Rattle.sof_run.specs.StressTodo.{stress}
-use Rattle.sof_run.specs.Requests.{Request, Play, Check, Compile, Stress, request_of}
+use Rattle.sof_run.specs.DecodeTodo.{decode}
+use Rattle.sof_run.specs.Requests.{Request, Play, Check, Picture, Compile, Source, Stress, Decode, request_of}
 
 -- what is to do where this is asked for, or nothing is, over a device of this room; a stress has sent so many messages at its end
 abbrev pub todo_for : ℕ → ℕ → Option Request → Todo
 todo_for room sent (Some (Play form)) = play form
-todo_for room sent (Some (Check name)) = check name
+todo_for room sent (Some (Check name)) = check count_lines name
+todo_for room sent (Some (Picture name)) = check picture_lines name
 todo_for room sent (Some (Compile names)) = compile names
+todo_for room sent (Some (Source files)) = make_source files
 todo_for room sent (Some (Stress seed)) = stress room sent seed
+todo_for room sent (Some (Decode name)) = decode name
 todo_for room sent None = Stop (codes "words\n") 1
 
 -- all that `run` does with these words, over a device of this room

@@ -3,12 +3,16 @@ pub mod Words
 pub mod Checking
 pub mod Compiling
 pub mod Stressing
+pub mod TraceForms
+pub mod TraceLines
 pub mod Requests
 pub mod ReadRequests
 pub mod TopologyBytes
 pub mod Bindings
 pub mod Rounds
 pub mod Lines
+pub mod Picturing
+pub mod Sourcing
 pub mod Pieces
 pub mod Calls
 pub mod Ends
@@ -17,8 +21,10 @@ pub mod Plays
 pub mod HeardRuns
 pub mod Checks
 pub mod Compiles
+pub mod Sources
 pub mod Findings
 pub mod Stresses
+pub mod Decodes
 pub mod Run
 pub mod PlayLaws
 -- What functions within the crate say: what is still to do, and what was done of it.
@@ -28,7 +34,9 @@ pub mod ComeTo
 pub mod Play
 pub mod CheckTodo
 pub mod CompileTodo
+pub mod SourceTodo
 pub mod StressTodo
+pub mod DecodeTodo
 pub mod Forms
 pub mod Prepared
 pub mod Opening

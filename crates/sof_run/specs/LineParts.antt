@@ -10,6 +10,7 @@ use Rattle.sof_session.specs.Written.{Written, Out}
 use Rattle.sof_run.specs.Words.{Form}
 use Rattle.sof_run.specs.Checking.{count_line}
 use Rattle.sof_run.specs.Compiling.{CompileNames}
+use Rattle.sof_run.specs.Sourcing.{SourceFiles}
 use Rattle.sof_run.specs.Lines.{topology_fault_words, with_newline}
 use Rattle.sof_run.specs.Pieces.{Piece, opened}
 use Rattle.std.specs.List.{list_any, slice_get}
@@ -41,6 +42,9 @@ form heap topology script = record { heap = heap; topology = topology; script = 
 -- these names
 abbrev pub names : List ℕ → List ℕ → CompileNames
 names source out = record { source = source; out = out }
+
+abbrev pub source_files : List ℕ → List ℕ → SourceFiles
+source_files topology out = record { topology = topology; out = out }
 
 -- the line of a fault
 abbrev pub fault_line : TplgFault → List ℕ

@@ -12,9 +12,13 @@ use Rattle.sof_run.specs.Ends.{IsOpening, IsEarly, Worded}
 use Rattle.sof_run.specs.Verdicts.{Judged}
 use Rattle.sof_run.specs.Plays.{PlaysWhole}
 use Rattle.sof_run.specs.HeardRuns.{PlaysWhatIsHeard}
+use Rattle.sof_run.specs.Checking.{check_of, count_lines}
+use Rattle.sof_run.specs.Picturing.{graph_file_of, picture_lines}
 use Rattle.sof_run.specs.Checks.{Checks}
 use Rattle.sof_run.specs.Compiles.{Compiles}
+use Rattle.sof_run.specs.Sources.{Sources}
 use Rattle.sof_run.specs.Stresses.{StressesWhole}
+use Rattle.sof_run.specs.Decodes.{Decodes}
 
 -- The turns on the device, each a session's step, and the calls on the desk: those that the words ask for, in their order and no
 -- others. What a load brought is bytes. Status 3 comes only where the desk's count rose.
@@ -44,6 +48,9 @@ pub record Whole {D P : Type 0} (means : DeskMeaning D) (dsp : Meaning P) (words
   pub judged : Judged means (dsp.most p) words old called.calls status
   pub run : PlaysWhole means dsp words old new status p last called.turns
   pub heard : PlaysWhatIsHeard dsp words called.calls called.turns status p last
-  pub checks : Checks means words old (Bare p) called.calls status new last
+  pub checks : Checks means count_lines (check_of words) old (Bare p) called.calls status new last
+  pub pictures : Checks means picture_lines (graph_file_of words) old (Bare p) called.calls status new last
   pub compiles : Compiles means words old (Bare p) called.calls status new last
+  pub sources : Sources means words old (Bare p) called.calls status new last
   pub stresses : StressesWhole means dsp words old new status p last called.turns
+  pub decodes : Decodes means words old (Bare p) called.calls status new last

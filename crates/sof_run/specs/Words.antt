@@ -14,6 +14,11 @@ pub record Form : Type 0 where
 abbrev pub is_file_name : List ℕ → Bool
 is_file_name name = nat_le 1 (length name) && nat_le (length name) 255
 
+-- a word and the name of its file
+abbrev pub named_by : List ℕ → List (List ℕ) → Option (List ℕ)
+named_by word (verb ∷ name ∷ []) = if bytes_eq verb word && is_file_name name then Some name else None
+named_by word _ = None
+
 -- the form with this heap and these names, where all three are right
 abbrev pub form_with : Option ℕ → List ℕ → List ℕ → Option Form
 form_with None topology script = None

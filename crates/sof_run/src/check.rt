@@ -7,7 +7,7 @@ ghost use Rattle.sof_run.specs.Lines.{with_newline};
 ghost use Rattle.sof_run.specs.Play.{lines_todo};
 ghost use Rattle.sof_run.specs.Halts.{HaltsAtCheck};
 ghost use Rattle.sof_run.specs.Prepared as law;
-ghost use Rattle.sof_run.specs.Checking.{count_line, counts_of};
+ghost use Rattle.sof_run.specs.Checking.{count_line, count_lines, counts_of};
 ghost use Rattle.sof_run.specs.LineParts.{counts_on};
 ghost use Rattle.sof_run.specs.CheckTodo.{check};
 
@@ -68,7 +68,7 @@ fn say_counts<D: Desk>(desk: &mut D, plan: &Plan) -> Result<(), DeskFailed>
 
 /// Loads the topology file of this name, and says its counts where it is right, or else why it is not.
 pub fn do_check<D: Desk>(alloc: Global, name: &str, desk: &mut D) -> u8
-    ensures { Played D.means (check name.now) desk.old [] result desk.new }
+    ensures { Played D.means (check count_lines name.now) desk.old [] result desk.new }
 {
     let bytes = match fetch(alloc, desk, name, LIMIT, b"too long topology\n") {
         Ok(bytes) => bytes,

@@ -34,8 +34,8 @@ fn compiled(alloc: Global, text: &[u8]) -> Result<Vec<u8>, SourceFault>
     }
 }
 
-// Creates the file of a name in slot 0, appends all its bytes at once, and says how many they are.
-fn make_file<D: Desk>(desk: &mut D, out: &str, bytes: &[u8]) -> Result<(), DeskFailed>
+/// Creates the file of a name in slot 0, appends all its bytes at once, and says how many they are.
+pub fn make_file<D: Desk>(desk: &mut D, out: &str, bytes: &[u8]) -> Result<(), DeskFailed>
     ensures { DeskPhase D.means (file_todo out.now bytes.now) (is_ok result) desk.old desk.new }
 {
     desk.create(0, out)?;

@@ -1,10 +1,12 @@
-// The lines that are said where files make no run, and where a source is refused.
+// The lines that are said where files make no run, where a source is refused, and where a trace is at fault.
 ghost use Rattle.std.specs.Prelude.{◌≡◌, ◌+◌, ◌≤◌, ◌++◌, [], ◌∷◌, length, decimal};
 ghost use Rattle.sof_run.specs.Compiling.{list_word as word_of, source_line};
 ghost use Rattle.sof_run.specs.LineParts.{fault_line};
 ghost use Rattle.sof_run.specs.Lines.{topology_fault_words, script_line, halt_line, halt_status, with_newline};
+ghost use Rattle.sof_run.specs.TraceLines.{trace_fault_words, trace_fault_line};
 
 use crate::prepare::Halt;
+use ipc3_trace::TraceFault;
 use itoa::Buffer;
 use sof_script::{Line, cause_word};
 use tplg_compile::{List, SourceFault};
@@ -166,6 +168,28 @@ pub fn write_source(fault: SourceFault, line: &mut Line)
             line.say(b"no memory\n");
         }
     }
+}
+
+fn say_trace_fault(fault: TraceFault, line: &mut Line)
+    requires { length line.old ≤ 20 }
+    ensures said { line.new ≡ line.old ++ trace_fault_words fault }
+    ensures longer { length line.new ≤ 100 }
+{
+    match fault {
+        TraceFault::Short(at) => say_at(b"short ", at, line),
+        TraceFault::Kind(at, number) => say_found(b"kind ", at, number, line),
+        TraceFault::Size(at) => say_at(b"size ", at, line),
+    }
+}
+
+/// Writes the line for the first fault of a trace, with its newline.
+pub fn write_trace_fault(fault: TraceFault, line: &mut Line)
+    ensures { line.new ≡ trace_fault_line fault }
+{
+    line.clear();
+    line.say(b"trace ");
+    say_trace_fault(fault, line);
+    line.say(b"\n");
 }
 
 impl Halt {

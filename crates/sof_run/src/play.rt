@@ -12,9 +12,12 @@ ghost use Rattle.sof_run.specs.Run.{Whole};
 use crate::carry::do_commands;
 use crate::check::do_check;
 use crate::compile::do_compile;
+use crate::decode::do_decode;
 use crate::files::{LIMIT, fetch, status_of, stop, stop_for};
+use crate::graph::do_graph;
 use crate::opening::{bind_all, open_all};
 use crate::prepare::{Halt, Ready, prepare};
+use crate::source::do_source;
 use crate::stress::do_stress;
 use crate::words::{Form, Request, read_request};
 use mbox_link::Dsp;
@@ -120,11 +123,23 @@ fn do_words<D: Desk, P: Dsp>(alloc: Global, words: &[String], desk: &mut D, dsp:
             status: do_check(alloc, name, desk),
             dsp,
         },
+        Some(Request::Picture(name)) => Ended {
+            status: do_graph(alloc, name, desk),
+            dsp,
+        },
         Some(Request::Compile(names)) => Ended {
             status: do_compile(alloc, names, desk),
             dsp,
         },
+        Some(Request::Source(files)) => Ended {
+            status: do_source(alloc, files, desk),
+            dsp,
+        },
         Some(Request::Stress(seed)) => do_stress(alloc, seed, desk, dsp),
+        Some(Request::Decode(name)) => Ended {
+            status: do_decode(alloc, name, desk),
+            dsp,
+        },
         None => Ended {
             status: stop(desk, b"words\n", 1),
             dsp,
@@ -134,12 +149,13 @@ fn do_words<D: Desk, P: Dsp>(alloc: Global, words: &[String], desk: &mut D, dsp:
 
 /// Does what the words ask for over a desk and a device, and hands the device back.
 ///
-/// The words are `play HEAP TOPOLOGY SCRIPT`, `check TOPOLOGY`, `compile SOURCE OUT` or `stress N`: HEAP is a decimal number of
-/// bytes without a needless leading zero, at most the device's room, N is one from 1 to 1000, and each name has 1 to 255 bytes. A topology, a script and a
-/// source have at most 1048576 bytes. The script's inputs, of any length, are opened and its outputs created in the order of its lines,
+/// The words are `play HEAP TOPOLOGY SCRIPT`, `check TOPOLOGY`, `graph TOPOLOGY`, `compile SOURCE OUT`, `source TOPOLOGY OUT`, `stress N` or
+/// `decode TRACE`: HEAP is a decimal number of bytes without a needless leading zero, at most the device's room, N is one from 1 to 1000, and
+/// each name has 1 to 255 bytes. A topology, a script and a source have at most 1048576 bytes, a trace 16777216. The script's inputs, of any length, are opened and its outputs created in the order of its lines,
 /// before the commands. Before each tick, and before each other command, the inputs are read until each holds the bytes that it may
-/// take or has ended. After it the bytes of the outputs are appended, and then the command's lines are said. The statuses: 0 all commands were carried out, the topology is right, or
-/// the source's file was made; 1 the words are of no form; 2 the topology file is broken, or the topology breaks a rule; 3 the
+/// take or has ended. After it the bytes of the outputs are appended, and then the command's lines are said. The statuses: 0 all commands were carried out, the topology is right, its picture was said,
+/// the source's or the topology's file was made, or all records were told; 1 the words are of no form; 2 the topology file is broken, the
+/// topology breaks a rule, no source carries it, or the trace has a fault; 3 the
 /// desk failed; 4 a line of the script is at fault, or binds what it may not, or the source is refused; 5 a file is too long;
 /// 7 memory was wanting; 8 the script has more than 60000 ticks, with those of its lags.
 pub fn run<D: Desk, P: Dsp>(alloc: Global, words: &[String], desk: &mut D, dsp: P) -> Ended<P>

@@ -3,10 +3,10 @@ ghost use Rattle.std.specs.Prelude.{◌≡◌, ◌≤◌, map, MatchOption, IfSo
 ghost use Rattle.std.specs.Result.{result_ok};
 ghost use Rattle.std.specs.Str.{bytes_eq};
 ghost use Rattle.sof_script.specs.ValueForms.{number_value};
-ghost use Rattle.sof_run.specs.Words.{play_of, is_file_name};
-ghost use Rattle.sof_run.specs.LineParts.{form, names};
-ghost use Rattle.sof_run.specs.Checking.{check_of};
+ghost use Rattle.sof_run.specs.Words.{play_of, named_by, is_file_name};
+ghost use Rattle.sof_run.specs.LineParts.{form, names, source_files};
 ghost use Rattle.sof_run.specs.Compiling.{compile_of};
+ghost use Rattle.sof_run.specs.Sourcing.{source_files_of};
 ghost use Rattle.sof_run.specs.Stressing.{stress_of};
 ghost use Rattle.sof_run.specs.Requests.{request_of};
 ghost use Rattle.sof_run.specs.ReadRequests.{request};
@@ -74,29 +74,30 @@ fn read_play<'a>(words: &'a [String], room: u32) -> Option<Form<'a>>
     })
 }
 
-fn is_check(word: &str) -> bool
-    ensures { result ≡ bytes_eq word.now (codes "check") }
+// Whether a word is the other one.
+fn is_word(word: &str, other: &str) -> bool
+    ensures { result ≡ bytes_eq word.now other.now }
 {
-    word == "check"
+    word == other
 }
 
-// `check TOPOLOGY`: the name of its file.
-fn read_check(words: &[String]) -> Option<&str>
+// `check TOPOLOGY`, `graph TOPOLOGY`, `decode TRACE`: the name of the file behind this word.
+fn read_named<'a>(words: &'a [String], word: &str) -> Option<&'a str>
     ensures { MatchOption result
-        (check_of (map string_bytes words.now) ≡ None)
-        (λ name. check_of (map string_bytes words.now) ≡ Some name.now) }
+        (named_by word.now (map string_bytes words.now) ≡ None)
+        (λ name. named_by word.now (map string_bytes words.now) ≡ Some name.now) }
 {
     if words.len() != 2 {
         return None;
     }
-    let topology = words[1].as_str();
-    if !is_check(words[0].as_str()) {
+    let name = words[1].as_str();
+    if !is_word(words[0].as_str(), word) {
         return None;
     }
-    if !is_file_name(topology) {
+    if !is_file_name(name) {
         return None;
     }
-    Some(topology)
+    Some(name)
 }
 
 /// What `compile` is given: the names of a source and of the file that is made.
@@ -135,6 +136,42 @@ fn read_compile(words: &[String]) -> Option<Names<'_>>
     Some(Names { source, out })
 }
 
+/// What `source` is given: the names of a topology and of the source that is made.
+#[derive(Clone, Copy, Debug)]
+pub struct SourceFiles<'a> {
+    pub topology: &'a str,
+    pub out: &'a str,
+}
+
+fn is_source(word: &str) -> bool
+    ensures { result ≡ bytes_eq word.now (codes "source") }
+{
+    word == "source"
+}
+
+// `source TOPOLOGY OUT`: the names of its files.
+fn read_source(words: &[String]) -> Option<SourceFiles<'_>>
+    ensures { MatchOption result
+        (source_files_of (map string_bytes words.now) ≡ None)
+        (λ f. source_files_of (map string_bytes words.now) ≡ Some (source_files f.topology.now f.out.now)) }
+{
+    if words.len() != 3 {
+        return None;
+    }
+    let topology = words[1].as_str();
+    let out = words[2].as_str();
+    if !is_source(words[0].as_str()) {
+        return None;
+    }
+    if !is_file_name(topology) {
+        return None;
+    }
+    if !is_file_name(out) {
+        return None;
+    }
+    Some(SourceFiles { topology, out })
+}
+
 fn is_stress(word: &str) -> bool
     ensures { result ≡ bytes_eq word.now (codes "stress") }
 {
@@ -162,10 +199,16 @@ pub enum Request<'a> {
     Play(Form<'a>),
     /// The topology file of this name is checked.
     Check(&'a str),
+    /// The picture of the topology file of this name is said.
+    Picture(&'a str),
     /// The topology file of a source is made.
     Compile(Names<'a>),
+    /// The file of a topology's source is made.
+    Source(SourceFiles<'a>),
     /// What this number draws, from 1 to 1000, is carried out.
     Stress(u32),
+    /// The trace of this name is told in words.
+    Decode(&'a str),
 }
 
 /// What the words ask for, over a device with a room of so many bytes.
@@ -177,12 +220,21 @@ pub fn read_request(words: &[String], room: u32) -> Option<Request<'_>>
     if let Some(form) = read_play(words, room) {
         return Some(Request::Play(form));
     }
-    if let Some(name) = read_check(words) {
+    if let Some(name) = read_named(words, "check") {
         return Some(Request::Check(name));
+    }
+    if let Some(name) = read_named(words, "graph") {
+        return Some(Request::Picture(name));
     }
     if let Some(names) = read_compile(words) {
         return Some(Request::Compile(names));
     }
-    let seed = read_stress(words)?;
-    Some(Request::Stress(seed))
+    if let Some(files) = read_source(words) {
+        return Some(Request::Source(files));
+    }
+    if let Some(seed) = read_stress(words) {
+        return Some(Request::Stress(seed));
+    }
+    let name = read_named(words, "decode")?;
+    Some(Request::Decode(name))
 }

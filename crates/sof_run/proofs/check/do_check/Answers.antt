@@ -1,6 +1,7 @@
 use Rattle.std.proofs.Common.{is_ok}
 use Rattle.tplg_plan.specs.HeapNeed.{need_on}
 use Rattle.sof_run.specs.LineParts.{counts_on}
+use Rattle.sof_run.specs.Checking.{count_lines}
 use Rattle.sof_run.proofs.CheckPhases.{counted, halted}
 use Rattle.sof_run.proofs.check.do_check.Goals as goal
 
@@ -17,5 +18,5 @@ returns-in-Ok-checked g c =
 
 pub returns : goal.returns
 returns g c =
-    halted g.D.Desk.means c.args.name.now c.in-Ok.bytes.items c.args.desk.now c.fetch.new.desk c.stop_for.new.desk c.in-Ok.ensures.0 c.in-Ok.ensures.1
+    halted g.D.Desk.means count_lines c.args.name.now c.in-Ok.bytes.items c.args.desk.now c.fetch.new.desk c.stop_for.new.desk c.in-Ok.ensures.0 c.in-Ok.ensures.1
     c.in-Err-checked.halt _ (rw c.deref.ensures.value at c.in-Err-checked.ensures) c.stop_for.ensures

@@ -1,6 +1,6 @@
-use Rattle.std.proofs.Common.{◌≡◌, ℕ, true, false, sym, ap, ◌∙◌, subst}
+use Rattle.std.proofs.Common.{true, false, sym, ap, ◌∙◌}
 use Rattle.sof_base.specs.DrainedOutputs.{drained}
-use Rattle.sof_io.specs.Bound.{output_slots, has_slot}
+use Rattle.sof_io.specs.Bound.{output_slots}
 use Rattle.sof_io.specs.Takes.{input_slots}
 use Rattle.sof_io.specs.Bound.{with_slot}
 use Rattle.sof_io.specs.Fills.{with_input}
@@ -12,15 +12,17 @@ use Rattle.sof_run.proofs.opening.bind_all.Goals.{then-binding+in_ok-add, else-b
 
 pub add-requires : goal.add-requires
 add-requires c =
-    subst (λ (s : ℕ). has_slot s (input_slots c.loop-binding.inputs) ≡ false) (sym c.slot_of-slot.ensures)
-    (new_slot c.args.plan.now c.args.bindings.now c.loop-binding.binding-index c.binding-item.result c.loop-binding-test.true c.binding-item.is c.loop-binding.invariant.right
-    true c.if-binding.true (input_slots c.loop-binding.inputs) c.loop-binding.invariant.new_inputs)
+    let before = c.loop-binding.invariant in
+    let slots = input_slots c.loop-binding.inputs in
+    rw c.slot_of-slot.ensures
+    (new_slot c.args.plan.now c.args.bindings.now c.loop-binding.binding-index c.binding-item.result c.loop-binding-test.true c.binding-item.is before.right true c.if-binding.true slots before.new_inputs)
 
 pub add-requires-else-binding : goal.add-requires-else-binding
 add-requires-else-binding c =
-    subst (λ (s : ℕ). has_slot s (output_slots c.loop-binding.outputs) ≡ false) (sym c.slot_of-slot.ensures)
-    (new_slot c.args.plan.now c.args.bindings.now c.loop-binding.binding-index c.binding-item.result c.loop-binding-test.true c.binding-item.is c.loop-binding.invariant.right
-    false c.if-binding.false (output_slots c.loop-binding.outputs) c.loop-binding.invariant.new_outputs)
+    let before = c.loop-binding.invariant in
+    let slots = output_slots c.loop-binding.outputs in
+    rw c.slot_of-slot.ensures
+    (new_slot c.args.plan.now c.args.bindings.now c.loop-binding.binding-index c.binding-item.result c.loop-binding-test.true c.binding-item.is before.right false c.if-binding.false slots before.new_outputs)
 
 pub loop-binding-preserved : goal.loop-binding-preserved
 loop-binding-preserved c =

@@ -1,6 +1,6 @@
 use Rattle.std.proofs.Common.{Some, None, map, string_bytes}
-use Rattle.sof_run.specs.LineParts.{form, names}
-use Rattle.sof_run.specs.Requests.{Play, Check, Compile, Stress}
+use Rattle.sof_run.specs.LineParts.{form, names, source_files}
+use Rattle.sof_run.specs.Requests.{Play, Check, Picture, Compile, Source, Stress, Decode}
 use Rattle.sof_run.proofs.Requests.{asked_within}
 use Rattle.sof_run.proofs.CompileVerdicts.{other_makes, compile_makes}
 use Rattle.sof_run.proofs.StressPhases.{play_gave, stress_gave, alone_gave}
@@ -33,6 +33,15 @@ pub returns-in-Some-Check-clause-sound : goal.returns-in-Some-Check-clause-sound
 returns-in-Some-Check-clause-sound g c =
     other_makes g.D.Desk.means (g.P.Dsp.means.most c.args.dsp) (map string_bytes c.args.words.now) c.args.desk.now _ _ (rw (c.in-Some-Check.field-0-is, c.room.ensures) at c.in-Some-Check.ensures) (λ names e. cc e)
 
+pub returns-in-Some-Picture-clause-gave : goal.returns-in-Some-Picture-clause-gave
+returns-in-Some-Picture-clause-gave g c =
+    alone_gave g.D.Desk.means g.P.Dsp.means (map string_bytes c.args.words.now) _ _ _ _ (Some (Picture c.in-Some-Picture.name.now))
+    (rw (c.in-Some-Picture.field-0-is, c.room.ensures) at c.in-Some-Picture.ensures) c.do_graph.ensures
+
+pub returns-in-Some-Picture-clause-sound : goal.returns-in-Some-Picture-clause-sound
+returns-in-Some-Picture-clause-sound g c =
+    other_makes g.D.Desk.means (g.P.Dsp.means.most c.args.dsp) (map string_bytes c.args.words.now) c.args.desk.now _ _ (rw (c.in-Some-Picture.field-0-is, c.room.ensures) at c.in-Some-Picture.ensures) (λ names e. cc e)
+
 pub returns-in-Some-Compile-clause-gave : goal.returns-in-Some-Compile-clause-gave
 returns-in-Some-Compile-clause-gave g c =
     alone_gave g.D.Desk.means g.P.Dsp.means (map string_bytes c.args.words.now) _ _ _ _ (Some (Compile (names c.in-Some-Compile.names.source.now c.in-Some-Compile.names.out.now)))
@@ -43,6 +52,15 @@ returns-in-Some-Compile-clause-sound g c =
     compile_makes g.D.Desk.means (g.P.Dsp.means.most c.args.dsp) (map string_bytes c.args.words.now) c.args.desk.now _ (names c.in-Some-Compile.names.source.now c.in-Some-Compile.names.out.now)
     (rw (c.in-Some-Compile.field-0-is, c.room.ensures) at c.in-Some-Compile.ensures) c.do_compile.ensures.sound
 
+pub returns-in-Some-Source-clause-gave : goal.returns-in-Some-Source-clause-gave
+returns-in-Some-Source-clause-gave g c =
+    alone_gave g.D.Desk.means g.P.Dsp.means (map string_bytes c.args.words.now) _ _ _ _ (Some (Source (source_files c.in-Some-Source.files.topology.now c.in-Some-Source.files.out.now)))
+    (rw (c.in-Some-Source.field-0-is, c.room.ensures) at c.in-Some-Source.ensures) c.do_source.ensures
+
+pub returns-in-Some-Source-clause-sound : goal.returns-in-Some-Source-clause-sound
+returns-in-Some-Source-clause-sound g c =
+    other_makes g.D.Desk.means (g.P.Dsp.means.most c.args.dsp) (map string_bytes c.args.words.now) c.args.desk.now _ _ (rw (c.in-Some-Source.field-0-is, c.room.ensures) at c.in-Some-Source.ensures) (λ names e. cc e)
+
 pub returns-in-Some-Stress-clause-gave : goal.returns-in-Some-Stress-clause-gave
 returns-in-Some-Stress-clause-gave g c =
     stress_gave g.D.Desk.means g.P.Dsp.means (map string_bytes c.args.words.now) _ _ _ _ _ c.in-Some-Stress.seed
@@ -51,6 +69,15 @@ returns-in-Some-Stress-clause-gave g c =
 pub returns-in-Some-Stress-clause-sound : goal.returns-in-Some-Stress-clause-sound
 returns-in-Some-Stress-clause-sound g c =
     other_makes g.D.Desk.means (g.P.Dsp.means.most c.args.dsp) (map string_bytes c.args.words.now) c.args.desk.now _ _ (rw (c.in-Some-Stress.field-0-is, c.room.ensures) at c.in-Some-Stress.ensures) (λ names e. cc e)
+
+pub returns-in-Some-Decode-clause-gave : goal.returns-in-Some-Decode-clause-gave
+returns-in-Some-Decode-clause-gave g c =
+    alone_gave g.D.Desk.means g.P.Dsp.means (map string_bytes c.args.words.now) _ _ _ _ (Some (Decode c.in-Some-Decode.name.now))
+    (rw (c.in-Some-Decode.field-0-is, c.room.ensures) at c.in-Some-Decode.ensures) c.do_decode.ensures
+
+pub returns-in-Some-Decode-clause-sound : goal.returns-in-Some-Decode-clause-sound
+returns-in-Some-Decode-clause-sound g c =
+    other_makes g.D.Desk.means (g.P.Dsp.means.most c.args.dsp) (map string_bytes c.args.words.now) c.args.desk.now _ _ (rw (c.in-Some-Decode.field-0-is, c.room.ensures) at c.in-Some-Decode.ensures) (λ names e. cc e)
 
 pub returns-in-None-clause-gave : goal.returns-in-None-clause-gave
 returns-in-None-clause-gave g c =

@@ -1,9 +1,11 @@
 use Rattle.std.proofs.Common.{map, string_bytes, subst}
 use Rattle.sof_run.specs.Findings.{FollowsCourse}
 use Rattle.sof_run.proofs.Finish.{course_made, bytes_loaded, count_rose, left, words_end, judged, plays_whole, plays_heard}
-use Rattle.sof_run.proofs.CheckVerdicts.{checks}
+use Rattle.sof_run.proofs.CheckVerdicts.{checks, pictures}
 use Rattle.sof_run.proofs.CompileVerdicts.{compiles}
+use Rattle.sof_run.proofs.SourceVerdicts.{sources}
 use Rattle.sof_run.proofs.StressVerdicts.{stresses}
+use Rattle.sof_run.proofs.DecodeVerdicts.{decodes}
 use Rattle.sof_run.proofs.play.run.Goals as goal
 
 pub returns : goal.returns
@@ -32,6 +34,9 @@ returns g c =
       run = plays_whole means dsp words _ _ _ _ _ sent gave c.requires.off;
       heard = plays_heard means dsp words _ _ _ _ _ sent gave c.requires.off;
       checks = checks means dsp words _ _ room sent _ _ _ gave.ran;
+      pictures = pictures means dsp words _ _ room sent _ _ _ gave.ran;
       compiles = compiles means dsp words _ _ room sent _ _ _ gave.ran c.do_words.ensures.sound;
+      sources = sources means dsp words _ _ room sent _ _ _ gave.ran;
       stresses = stresses means dsp words _ _ _ _ _ c.requires.off given;
+      decodes = decodes means dsp words _ _ room sent _ _ _ gave.ran;
     }

@@ -1,0 +1,7 @@
+-- The words of `decode`.
+use Rattle.std.specs.Prelude.{ℕ, List, Option, codes}
+use Rattle.sof_run.specs.Words.{named_by}
+
+-- `decode TRACE`: the name of its file
+abbrev pub decode_of : List (List ℕ) → Option (List ℕ)
+decode_of words = named_by (codes "decode") words

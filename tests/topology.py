@@ -1,7 +1,19 @@
 """Spells topology files, as docs/FORMATS.md says, apart from the program: single blocks, and graphs at the limits of a topology."""
 import struct
 
-KINDS = {"output": 1, "pga": 4, "aif_in": 11, "dai_in": 13, "dai_out": 14, "buffer": 16, "scheduler": 17}
+KINDS = {
+    "output": 1,
+    "mux": 2,
+    "mixer": 3,
+    "pga": 4,
+    "aif_in": 11,
+    "aif_out": 12,
+    "dai_in": 13,
+    "dai_out": 14,
+    "buffer": 16,
+    "scheduler": 17,
+    "effect": 18,
+}
 MIXER, VOLUME, HOST, DAI, BUFFER, SCHEDULER = 3, 4, 11, 14, 16, 17
 SIZE, PERIOD, FORMAT = 100, 200, 402
 FORMATS = 4 | 64 | 1024  # s16, s24 and s32
@@ -36,8 +48,8 @@ def volume_control(text, channels, least, most, tlv):
     return head + body
 
 
-def widget(kind, index, text, stream="", tokens={}, format_text=None, control=b""):
-    private = numbers(tokens) + texts({FORMAT: format_text} if format_text else {})
+def widget(kind, index, text, stream="", tokens={}, format_text=None, control=b"", named={}):
+    private = numbers(tokens) + texts({FORMAT: format_text} if format_text else named)
     record = words(132, kind) + name(text) + name(stream) + bytes(28) + words(1 if control else 0, len(private))
     return block(5, index, [record + private + control])
 
@@ -71,8 +83,10 @@ def pcm(text, number, stream):
 
 
 def spelled_widget(kind, index, text, stream, *tokens):
-    numbers_of = dict([int(word) for word in token.split("=")] for token in tokens)
-    return widget(KINDS[kind], int(index), text, "" if stream == "-" else stream, numbers_of)
+    stated = dict(token.split("=") for token in tokens)
+    numbers_of = {int(token): int(value) for token, value in stated.items() if value.isdigit()}
+    texts_of = {int(token): value for token, value in stated.items() if not value.isdigit()}
+    return widget(KINDS[kind], int(index), text, "" if stream == "-" else stream, numbers_of, named=texts_of)
 
 
 def dai_pairs(count):

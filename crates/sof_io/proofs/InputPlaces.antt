@@ -1,7 +1,8 @@
 -- What the search for a slot says of the inputs.
-use Rattle.std.proofs.Common.{◌≡◌, ℕ, Bool, false, ◌||◌, cond, eqb, ltb, List, [], ◌∷◌, get_or, set, replicate, Option, Some, None, is_some, refl, sym, ap, ◌∙◌, inl, inr}
-use Rattle.std.proofs.lemmas.Bool.{cases_Bool}
-use Rattle.std.specs.List.{list_any, position, insert}
+use Rattle.std.proofs.Common.{◌≡◌, ℕ, zero, suc, ◌<◌, Bool, false, ◌||◌, cond, eqb, ltb, List, [], ◌∷◌, length, get_or, set, replicate, Option, Some, None, is_some, refl, sym, ap, ◌∙◌, inl, inr, arith}
+use Rattle.std.proofs.lemmas.Bool.{cases_Bool, eq-eqb}
+use Rattle.std.specs.List.{list_any, position, insert, AllByRecursion, IsDistinct}
+use Rattle.std.specs.List.Sorted.{IsStrictlyIncreasing}
 use Rattle.sof_base.specs.Ports.{InputView}
 use Rattle.sof_io.specs.Bound.{has_slot}
 use Rattle.sof_io.specs.Takes.{input_slots}
@@ -10,7 +11,8 @@ use Rattle.sof_io.specs.Fills.{new_input}
 use Rattle.sof_io.specs.Fills.{with_input, filled_at, ended_at, wanting}
 use Rattle.sof_io.specs.Takes.{fuller_input, ended_input, is_wanting}
 use Rattle.sof_io.specs.Takes.{has_ended}
-use Rattle.sof_io.proofs.Places.{place, some_place, first_of, changed, first_of-found, changed-found, first_of-missing, changed-missing}
+use Rattle.sof_io.proofs.Ascending.{ascending_distinct}
+use Rattle.sof_io.proofs.Places.{place, found_place, some_place, first_of, changed, first_of-found, changed-found, first_of-missing, changed-missing}
 use Rattle.sof_io.proofs.NextBytes.{next_bytes-none}
 
 -- the input of a slot
@@ -28,6 +30,24 @@ has_input slot (input ∷ inputs) = ap (λ (b : Bool). eqb input.slot slot || b)
 
 pub not_there : (slot : ℕ) (inputs : List InputView) → position (is_input slot) inputs ≡ None → has_slot slot (input_slots inputs) ≡ false
 not_there slot inputs none = sym (some_place (is_input slot) inputs ∙ has_input slot inputs) ∙ ap is_some none
+
+-- ---- an input that stands at a place is the first of its slot
+
+far : (own slot at : ℕ) (inputs : List InputView) (d : InputView) → AllByRecursion (λ other. eqb own other ≡ false) (input_slots inputs) → at < length inputs → (get_or inputs at d).slot ≡ slot → eqb own slot ≡ false
+far own slot at [] d all low is = absurd (omega (arith, low))
+far own slot zero (input ∷ inputs) d all low is = ap (eqb own) (sym is) ∙ all.0
+far own slot (suc at) (input ∷ inputs) d all low is = far own slot at inputs d all.1 (omega (arith, low)) is
+
+first-at : (slot at : ℕ) (inputs : List InputView) (d : InputView) → IsDistinct eqb (input_slots inputs) → at < length inputs → (get_or inputs at d).slot ≡ slot → place (is_input slot) inputs ≡ at
+unfolding IsDistinct
+first-at slot at [] d distinct low is = absurd (omega (arith, low))
+first-at slot zero (input ∷ inputs) d distinct low is = ap (λ h. cond h 0 (suc (place (is_input slot) inputs))) (eq-eqb input.slot slot is)
+first-at slot (suc at) (input ∷ inputs) d distinct low is =
+    ap (λ h. cond h 0 (suc (place (is_input slot) inputs))) (far input.slot slot at inputs d distinct.0 (omega (arith, low)) is)
+    ∙ ap suc (first-at slot at inputs d distinct.1 (omega (arith, low)) is)
+
+pub stands-at : (slot at : ℕ) (inputs : List InputView) (d : InputView) → IsStrictlyIncreasing (input_slots inputs) → at < length inputs → (get_or inputs at d).slot ≡ slot → Some at ≡ position (is_input slot) inputs
+stands-at slot at inputs d ascends low is = sym (found_place (is_input slot) inputs at (first-at slot at inputs d (ascending_distinct (input_slots inputs) ascends) low is) low)
 
 -- ---- bytes taken of a slot, put behind it, or no more to come
 

@@ -31,6 +31,12 @@ cond_found : (b : Bool) (at k : ℕ) → cond b (Some at) None ≡ Some k → (b
 cond_found true at k e = (refl, cc)
 cond_found false at k e = absurd cc
 
+-- the first place that passes is found
+pub found_place : {X : Type 0} (p : X → Bool) (xs : List X) (k : ℕ) → place p xs ≡ k → k < length xs → position p xs ≡ Some k
+found_place {X} p xs k is low =
+    let at : position_or_len p xs ≡ k = place_is p xs ∙ is in
+    (λ i. cond (ltb (at i) (length xs)) (Some (at i)) None) ∙ ap (λ h. cond h (Some k) None) (lt-ltb k (length xs) low)
+
 -- what was found is the first place that passes
 pub place_found : {X : Type 0} (p : X → Bool) (xs : List X) (k : ℕ) → position p xs ≡ Some k → (place p xs ≡ k) × (place p xs < length xs)
 place_found p xs k e =

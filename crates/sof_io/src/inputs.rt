@@ -15,10 +15,12 @@ use sof_base::{INPUT_BYTES, NoMemory};
 use std::alloc::Global;
 use std::marker::Model;
 
-/// The inputs, by ascending slot. Each holds at most 1048576 bytes, in memory that was reserved for it.
+/// The inputs, by ascending slot. Each holds at most 1048576 bytes, in memory that was reserved for it. By the last byte of a slot the
+/// place at which it was seen: a guess, which is tested.
 #[derive(Debug, Drop)]
 pub struct Inputs {
     inputs: Vec<Input>,
+    seen: [u8; 256],
 }
 
 impl Model for Inputs {
@@ -41,6 +43,7 @@ impl Inputs {
     {
         Ok(Inputs {
             inputs: Vec::new(alloc),
+            seen: [0; 256],
         })
     }
 
@@ -79,6 +82,7 @@ impl Inputs {
         let input = Input::new(*self.inputs.allocator(), slot)?;
         let place = place_above(self.inputs.as_slice(), slot).unwrap_or(self.inputs.len());
         self.inputs.insert(place, input)?;
+        note(self.inputs.as_slice(), &mut self.seen);
         Ok(())
     }
 
@@ -151,7 +155,7 @@ impl Inputs {
     pub fn peek<'a>(&'a self, slot: u32, room: &'a mut [u8]) -> &'a [u8]
         ensures { result.now ≡ bytes_given slot (length room.old) self.now }
     {
-        match place_of(self.inputs.as_slice(), slot) {
+        match place_by(self.inputs.as_slice(), &self.seen, slot) {
             Some(k) => self.inputs[k].peek(room),
             None => {
                 room.fill(0);
@@ -164,7 +168,7 @@ impl Inputs {
     pub fn skip(&mut self, slot: u32, n: usize)
         ensures { self.new ≡ taken slot n self.old }
     {
-        if let Some(k) = place_of(self.inputs.as_slice(), slot) {
+        if let Some(k) = place_by(self.inputs.as_slice(), &self.seen, slot) {
             self.inputs[k].skip(n);
         }
     }
@@ -175,6 +179,25 @@ fn place_of(inputs: &[Input], slot: u32) -> Option<usize>
     ensures { result ≡ position (λ input. nat_eq input.slot slot) inputs.now }
 {
     inputs.iter().position(|input| input.slot() == slot)
+}
+
+// The same, where it was seen or else by a search.
+fn place_by(inputs: &[Input], seen: &[u8; 256], slot: u32) -> Option<usize>
+    requires { IsStrictlyIncreasing (input_slots inputs.now) }
+    ensures { result ≡ position (λ input. nat_eq input.slot slot) inputs.now }
+{
+    let at = usize::from(seen[(slot % 256) as usize]);
+    if at < inputs.len() && inputs[at].slot() == slot {
+        return Some(at);
+    }
+    place_of(inputs, slot)
+}
+
+// Notes where each input stands.
+fn note(inputs: &[Input], seen: &mut [u8; 256]) {
+    for (i, input) in inputs.iter().enumerate() {
+        seen[(input.slot() % 256) as usize] = (i % 256) as u8;
+    }
 }
 
 // The place of the first input whose slot is above a slot.

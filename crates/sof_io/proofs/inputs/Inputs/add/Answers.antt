@@ -12,9 +12,10 @@ use Rattle.sof_io.proofs.InputPlaces.{is_above, with_input-place}
 use Rattle.sof_io.proofs.InputLaws.{slots-with_input}
 use Rattle.sof_io.proofs.Positions.{positions-with_input}
 use Rattle.sof_io.proofs.inputs.Inputs.add.Goals as goal
+use Rattle.sof_io.proofs.inputs.Inputs.add.Goals.{After-note}
 
 -- where the slot was put
-put_at : (c : goal.In_ok-insert) → c.insert.new.self.items ≡ with_input c.args.slot c.self.inside.inputs.items
+put_at : (c : After-note) → c.insert.new.self.items ≡ with_input c.args.slot c.self.inside.inputs.items
 put_at c =
     let items : List InputView = c.self.inside.inputs.items in
     let found : c.place_above.result ≡ position (is_above c.args.slot) c.self.inside.inputs.items = seen_at _ _ _ _ c.as_slice.ensures.value c.place_above.ensures in

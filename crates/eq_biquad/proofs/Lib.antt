@@ -5,6 +5,10 @@ pub mod LaneLaws
 pub mod Lookups
 pub mod NearLaws
 pub mod NumberLaws
+pub mod PairLaws
+pub mod PairNumbers
+pub mod PairSteps
 pub mod PartLaws
 pub mod PassLaws
 pub mod StepLaws
+pub mod StretchLaws

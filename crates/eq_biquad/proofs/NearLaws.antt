@@ -140,7 +140,7 @@ module _ (first : ℤ) (low : nat_abs first ≤ 2 ^ 63 - 2 ^ 30) where
   more : nat_abs (first +ℤ pos 536870912) ≤ 2 ^ 63 - 2 ^ 30 + 536870912
   more = abs-sum first (pos 536870912) (2 ^ 63 - 2 ^ 30) 536870912 low (omega arith)
 
-  is_first : first_ahead first ≡ first +ℤ pos 536870912
+  pub is_first : first_ahead first ≡ first +ℤ pos 536870912
   is_first = ap (λ z. to_z w64 (of_z w64 (z +ℤ pos 536870912))) (kept-64 first (omega (arith, low))) ∙ same (first +ℤ pos 536870912) (omega (arith, more))
 
   pub first-is : (first_ahead first +ℤ pos 0) -ℤ pos 536870912 ≡ first

@@ -1,5 +1,5 @@
 -- Numbers of 128 bits in words.
-use Rattle.std.proofs.Common.{◌≡◌, refl, sym, ap, ◌∙◌, subst, ℕ, zero, suc, ◌+◌, ◌*◌, ◌^◌, ◌<◌, ◌≤◌, ◌⊎◌, inl, inr, List, [], ◌∷◌, ◌++◌, length, replicate, arith, ℤ, pos, nat_abs, w32}
+use Rattle.std.proofs.Common.{◌≡◌, refl, sym, ap, ◌∙◌, subst, ℕ, zero, suc, ◌+◌, ◌*◌, ◌^◌, ◌<◌, ◌≤◌, ◌⊎◌, inl, inr, List, ◌∷◌, ◌++◌, length, replicate, arith, ℤ, pos, nat_abs, w32}
 use Rattle.std.specs.Int.{cast_unsigned}
 use Rattle.sof_base.specs.Samples.{sample_of}
 use Rattle.stream_law.specs.Equaliser.{sections_of}
@@ -19,12 +19,6 @@ numbers_at-same xs ys p (suc n) same = λ k.
     wide-same xs ys p (λ i le lt. same i (omega arith) (omega arith)) k
     ∷ wide-same xs ys (p + 4) (λ i le lt. same i (omega arith) (omega arith)) k
     ∷ numbers_at-same xs ys (p + 8) n (λ i le lt. same i (omega arith) (omega arith)) k
-
-pub numbers_at-more : (ws : List ℤ) (p n : ℕ) → numbers_at ws p (suc n) ≡ numbers_at ws p n ++ wide_at ws (p + 8 * n) ∷ wide_at ws (p + 8 * n + 4) ∷ []
-numbers_at-more ws p zero = ap (λ q. wide_at ws q ∷ wide_at ws (q + 4) ∷ []) (let e : p ≡ p + 8 * 0 = omega arith in e)
-numbers_at-more ws p (suc n) =
-    ap (λ (t : List ℤ). wide_at ws p ∷ wide_at ws (p + 4) ∷ t)
-    (numbers_at-more ws (p + 8) n ∙ ap (λ q. numbers_at ws (p + 8) n ++ wide_at ws q ∷ wide_at ws (q + 4) ∷ []) (let e : p + 8 + 8 * n ≡ p + 8 * suc n = omega arith in e))
 
 pub length-numbers_at : (ws : List ℤ) (p n : ℕ) → length (numbers_at ws p n) ≡ 2 * n
 length-numbers_at ws p zero = refl
@@ -78,23 +72,27 @@ numbers-put old new j first second are at_first at_second low_first low_second o
     beside k (inl before) i le under = inl (omega arith)
     beside k (inr after) i le under = inr (omega arith)
 
--- ---- by channel and section
+-- ---- by slot
 
-pub numbers-bound : (ws : List ℤ) → AreNumbers ws → (ch s : ℕ) → ch < 8 → s < 8 → (nat_abs (wide_at ws (64 * ch + 8 * s)) ≤ 2 ^ 64) × (nat_abs (wide_at ws (64 * ch + 8 * s + 4)) ≤ 2 ^ 63)
+pub slot-bound-at : (ws : List ℤ) → AreNumbers ws → (slot : ℕ) → slot < 64 → (nat_abs (wide_at ws (8 * slot)) ≤ 2 ^ 64) × (nat_abs (wide_at ws (8 * slot + 4)) ≤ 2 ^ 63)
 unfolding AreNumbers
-numbers-bound ws are ch s low low' =
-    subst (λ q. (nat_abs (wide_at ws q) ≤ 2 ^ 64) × (nat_abs (wide_at ws (q + 4)) ≤ 2 ^ 63)) (let e : 8 * (8 * ch + s) ≡ 64 * ch + 8 * s = omega arith in e) (are (8 * ch + s) (omega arith))
+slot-bound-at ws are slot low = are slot low
 
-pub numbers-put-at : (old new : List ℤ) (ch s : ℕ) (first second : ℤ) → AreNumbers old → wide_at new (64 * ch + 8 * s) ≡ first → wide_at new (64 * ch + 8 * s + 4) ≡ second → nat_abs first ≤ 2 ^ 64 → nat_abs second ≤ 2 ^ 63
-    → ((i : ℕ) → (i < 64 * ch + 8 * s) ⊎ (64 * ch + 8 * s + 8 ≤ i) → sample_of new i ≡ sample_of old i) → AreNumbers new
-numbers-put-at old new ch s first second are at_first at_second low_first low_second others =
-    let e : 64 * ch + 8 * s ≡ 8 * (8 * ch + s) = omega arith in
-    numbers-put old new (8 * ch + s) first second are
+pub slot-bound : (ws : List ℤ) → AreNumbers ws → (slot s : ℕ) → slot + s < 64 → (nat_abs (wide_at ws (8 * slot + 8 * s)) ≤ 2 ^ 64) × (nat_abs (wide_at ws (8 * slot + 8 * s + 4)) ≤ 2 ^ 63)
+unfolding AreNumbers
+slot-bound ws are slot s low =
+    subst (λ q. (nat_abs (wide_at ws q) ≤ 2 ^ 64) × (nat_abs (wide_at ws (q + 4)) ≤ 2 ^ 63)) (let e : 8 * (slot + s) ≡ 8 * slot + 8 * s = omega arith in e) (are (slot + s) low)
+
+pub slot-put : (old new : List ℤ) (slot s : ℕ) (first second : ℤ) → AreNumbers old → wide_at new (8 * slot + 8 * s) ≡ first → wide_at new (8 * slot + 8 * s + 4) ≡ second → nat_abs first ≤ 2 ^ 64 → nat_abs second ≤ 2 ^ 63
+    → ((i : ℕ) → (i < 8 * slot + 8 * s) ⊎ (8 * slot + 8 * s + 8 ≤ i) → sample_of new i ≡ sample_of old i) → AreNumbers new
+slot-put old new slot s first second are at_first at_second low_first low_second others =
+    let e : 8 * slot + 8 * s ≡ 8 * (slot + s) = omega arith in
+    numbers-put old new (slot + s) first second are
     (ap (wide_at new) (sym e) ∙ at_first)
     (ap (λ q. wide_at new (q + 4)) (sym e) ∙ at_second)
     low_first low_second
     (λ i out. others i (moved i out))
   where
-    moved : (i : ℕ) → (i < 8 * (8 * ch + s)) ⊎ (8 * (8 * ch + s) + 8 ≤ i) → (i < 64 * ch + 8 * s) ⊎ (64 * ch + 8 * s + 8 ≤ i)
-    moved i (inl low) = inl (omega arith)
-    moved i (inr high) = inr (omega arith)
+    moved : (i : ℕ) → (i < 8 * (slot + s)) ⊎ (8 * (slot + s) + 8 ≤ i) → (i < 8 * slot + 8 * s) ⊎ (8 * slot + 8 * s + 8 ≤ i)
+    moved i (inl low) = inl (omega (arith, low))
+    moved i (inr high) = inr (omega (arith, high))

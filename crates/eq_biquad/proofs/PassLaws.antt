@@ -1,5 +1,5 @@
--- Samples through sections: one section after the other or one sample after the other, and one channel at a time.
-use Rattle.std.proofs.Common.{◌≡◌, refl, ap, ◌∙◌, ℕ, zero, suc, ◌+◌, ◌*◌, ◌<◌, List, [], ◌∷◌, ◌++◌, map, length, take, drop, get_or, arith, ℤ, pos, ◌+ℤ◌, ◌*ℤ◌}
+-- Samples through sections: one sample after the other, and one channel at a time.
+use Rattle.std.proofs.Common.{◌≡◌, refl, ap, ◌∙◌, ℕ, zero, suc, ◌+◌, ◌*◌, ◌<◌, List, [], ◌∷◌, ◌++◌, map, length, take, drop, get_or, arith, ℤ, pos}
 use Rattle.std.specs.List.{range_with_len}
 use Rattle.std.proofs.lemmas.List.{drop_at}
 use Rattle.std.proofs.lemmas.List.FromFn.{get_or-map-range_with_len}
@@ -34,22 +34,6 @@ passed-none ns (x ∷ xs) = ap (λ t. x ∷ t) (passed-none [] xs)
 pub numbers-none : (xs : List ℤ) → numbers_passed [] [] xs ≡ []
 numbers-none [] = refl
 numbers-none (x ∷ xs) = numbers-none xs
-
--- ---- the first section, and then the others
-
-pub passed-series : (s : Section) (ss : List Section) (a b : ℤ) (rest xs : List ℤ) → passed_samples (s ∷ ss) (a ∷ b ∷ rest) xs ≡ passed_samples ss rest (passed_samples (s ∷ []) (a ∷ b ∷ []) xs)
-passed-series s ss a b rest [] = refl
-passed-series s ss a b rest (x ∷ xs) =
-    let w = next_inner s a x in
-    let p = passed_sections ss rest (section_output s w) in
-    ap (λ (t : List ℤ). p.sample ∷ t) (passed-series s ss (((s.b1 *ℤ x) +ℤ (s.a1 *ℤ w)) +ℤ b) ((s.b2 *ℤ x) +ℤ (s.a2 *ℤ w)) p.numbers xs)
-
-pub numbers-series : (s : Section) (ss : List Section) (a b : ℤ) (rest xs : List ℤ) → numbers_passed (s ∷ ss) (a ∷ b ∷ rest) xs ≡ numbers_passed (s ∷ []) (a ∷ b ∷ []) xs ++ numbers_passed ss rest (passed_samples (s ∷ []) (a ∷ b ∷ []) xs)
-numbers-series s ss a b rest [] = refl
-numbers-series s ss a b rest (x ∷ xs) =
-    let w = next_inner s a x in
-    let p = passed_sections ss rest (section_output s w) in
-    numbers-series s ss (((s.b1 *ℤ x) +ℤ (s.a1 *ℤ w)) +ℤ b) ((s.b2 *ℤ x) +ℤ (s.a2 *ℤ w)) p.numbers xs
 
 -- ---- numbers behind those of the sections do not count
 

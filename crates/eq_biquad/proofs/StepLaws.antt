@@ -1,18 +1,18 @@
--- One sample, one section and one channel more.
-use Rattle.std.proofs.Common.{◌≡◌, ◌≢◌, refl, sym, ap, ◌∙◌, subst, ℕ, suc, ◌+◌, ◌-◌, ◌*◌, ◌<◌, ◌≤◌, ◌⊎◌, inl, inr, List, [], ◌∷◌, ◌++◌, length, take, get_or, set, arith, ℤ, pos, ◌+ℤ◌, ◌*ℤ◌, append_assoc}
-use Rattle.std.proofs.lemmas.List.{get_or-set_same, get_or-set_other, length-set, append-nil, take_all, same_lists}
+-- One sample and one channel more.
+use Rattle.std.proofs.Common.{◌≡◌, ◌≢◌, refl, sym, ap, ◌∙◌, subst, ℕ, suc, ◌+◌, ◌-◌, ◌*◌, ◌<◌, ◌≤◌, ◌⊎◌, inl, inr, List, [], ◌∷◌, length, take, get_or, set, arith, ℤ, pos, ◌+ℤ◌, ◌*ℤ◌}
+use Rattle.std.proofs.lemmas.List.{get_or-set_same, get_or-set_other, length-set, take_all, same_lists}
 use Rattle.sof_base.specs.Samples.{sample_of}
 use Rattle.sof_base.specs.Equations.{Section, section_output}
-use Rattle.stream_law.specs.Equaliser.{sections_of, next_inner, passed_sections}
+use Rattle.sof_base.specs.FrameLists.{frames_of, samples_of}
+use Rattle.stream_law.specs.Equaliser.{sections_of, next_inner, passed_sections, passed_frames, numbers_after}
 use Rattle.eq_biquad.specs.Lanes.{lane}
-use Rattle.eq_biquad.specs.PieceWords.{wide_at, numbers_at, AreNumbers}
-use Rattle.eq_biquad.specs.Passing.{passed_samples, numbers_passed, channel_numbers}
-use Rattle.sof_base.specs.Blob.{section_at}
-use Rattle.eq_biquad.specs.Sections.{sections_in}
-use Rattle.eq_biquad.proofs.PassLaws.{numbers_passed-more, get-passed, length-passed, passed-none, numbers-none, passed-series, numbers-series}
-use Rattle.eq_biquad.proofs.LaneLaws.{length-lane, get-lane, same-lane, place-within, other-place, other-frame}
+use Rattle.eq_biquad.specs.PieceWords.{AreNumbers}
+use Rattle.eq_biquad.specs.Passing.{passed_samples, numbers_passed, in_turn, channel_numbers}
+use Rattle.eq_biquad.specs.Stretches.{LaneGoes, OnlyChannels}
+use Rattle.eq_biquad.proofs.PassLaws.{numbers_passed-more, get-passed, length-passed}
+use Rattle.eq_biquad.proofs.LaneLaws.{length-lane, get-lane, same-lane, place-within, other-place, other-frame, passed-whole, numbers-whole}
 use Rattle.eq_biquad.proofs.Cases.{by_less}
-use Rattle.eq_biquad.proofs.NumberLaws.{numbers_at-same, numbers_at-more}
+use Rattle.eq_biquad.proofs.NumberLaws.{numbers_at-same, has-numbers}
 
 -- ---- a section, after j of n frames
 
@@ -76,83 +76,6 @@ module _ (s : Section) (ns : List ℤ) (c k n : ℕ) (old : List ℤ) (low : k <
         so.numbers ∙ ap (numbers_passed (s ∷ []) ns) (take_all j xs (omega arith)),
       )
 
--- ---- a channel, after so many of its sections
-
-pub record Passing (b : List ℕ) (p total base c k n : ℕ) (numbers0 samples0 numbers samples : List ℤ) (s : ℕ) : Type 0 where
-  pub channel : passed_samples (sections_in b (p + 28 * s) (total - s)) (numbers_at numbers (base + 8 * s) (total - s)) (lane c k n samples) ≡ passed_samples (sections_in b p total) (numbers_at numbers0 base total) (lane c k n samples0)
-  pub sections : numbers_at numbers base s ++ numbers_passed (sections_in b (p + 28 * s) (total - s)) (numbers_at numbers (base + 8 * s) (total - s)) (lane c k n samples) ≡ numbers_passed (sections_in b p total) (numbers_at numbers0 base total) (lane c k n samples0)
-  pub others : (i h : ℕ) → h < c → h ≢ k → sample_of samples (i * c + h) ≡ sample_of samples0 (i * c + h)
-  pub elsewhere : (i : ℕ) → (i < base) ⊎ (base + 64 ≤ i) → sample_of numbers i ≡ sample_of numbers0 i
-  pub within : AreNumbers numbers
-  pub long : length samples ≡ length samples0
-
-module _ (b : List ℕ) (p total base c k n : ℕ) (numbers0 samples0 : List ℤ) where
-  abbrev Behind : List ℤ → List ℤ → ℕ → ℕ → ℕ → ℕ → Type 0
-  Behind numbers samples q at m s =
-      (passed_samples (sections_in b q m) (numbers_at numbers at m) (lane c k n samples) ≡ passed_samples (sections_in b p total) (numbers_at numbers0 base total) (lane c k n samples0))
-      × (numbers_at numbers base s ++ numbers_passed (sections_in b q m) (numbers_at numbers at m) (lane c k n samples) ≡ numbers_passed (sections_in b p total) (numbers_at numbers0 base total) (lane c k n samples0))
-
-  pub passing-none : AreNumbers numbers0 → Passing b p total base c k n numbers0 samples0 numbers0 samples0 0
-  passing-none are =
-      let q : p ≡ p + 28 * 0 = omega arith in let a : base ≡ base + 8 * 0 = omega arith in let m : total ≡ total - 0 = omega arith in
-      record {
-        channel = ap (λ (v : ℕ × (ℕ × ℕ)). passed_samples (sections_in b v.0 v.1.1) (numbers_at numbers0 v.1.0 v.1.1) (lane c k n samples0)) (λ i. (sym q i, (sym a i, sym m i)));
-        sections = ap (λ (v : ℕ × (ℕ × ℕ)). numbers_passed (sections_in b v.0 v.1.1) (numbers_at numbers0 v.1.0 v.1.1) (lane c k n samples0)) (λ i. (sym q i, (sym a i, sym m i)));
-        others = λ i h low ne. refl;
-        elsewhere = λ i out. refl;
-        within = are;
-        long = refl;
-      }
-
-  pub passing-more : (numbers samples numbers' samples' : List ℤ) (s : ℕ) (first second : ℤ) → total ≤ 8 → s < total → Passing b p total base c k n numbers0 samples0 numbers samples s
-      → lane c k n samples' ≡ passed_samples (section_at b (p + 28 * s) ∷ []) (wide_at numbers (base + 8 * s) ∷ wide_at numbers (base + 8 * s + 4) ∷ []) (lane c k n samples)
-      → first ∷ second ∷ [] ≡ numbers_passed (section_at b (p + 28 * s) ∷ []) (wide_at numbers (base + 8 * s) ∷ wide_at numbers (base + 8 * s + 4) ∷ []) (lane c k n samples)
-      → ((i h : ℕ) → h < c → h ≢ k → sample_of samples' (i * c + h) ≡ sample_of samples (i * c + h))
-      → wide_at numbers' (base + 8 * s) ≡ first → wide_at numbers' (base + 8 * s + 4) ≡ second
-      → ((i : ℕ) → (i < base + 8 * s) ⊎ (base + 8 * s + 8 ≤ i) → sample_of numbers' i ≡ sample_of numbers i)
-      → AreNumbers numbers' → length samples' ≡ length samples
-      → Passing b p total base c k n numbers0 samples0 numbers' samples' (s + 1)
-  passing-more numbers samples numbers' samples' s first second few lt so lane' pair others' at_first at_second beside are long' =
-      let m : ℕ = total - suc s in
-      let here : ℕ = base + 8 * s in
-      let sec = section_at b (p + 28 * s) in
-      let rest = sections_in b (p + 28 * s + 28) m in
-      let kept : numbers_at numbers' (here + 8) m ≡ numbers_at numbers (here + 8) m = numbers_at-same numbers' numbers (here + 8) m (λ i le under. beside i (inr (omega arith))) in
-      let before : numbers_at numbers' base s ≡ numbers_at numbers base s = numbers_at-same numbers' numbers base s (λ i le under. beside i (inl (omega arith))) in
-      let one = wide_at numbers here in let two = wide_at numbers (here + 4) in
-      let tail = numbers_at numbers (here + 8) m in
-      let old : Behind numbers samples (p + 28 * s) here (suc m) s = subst (λ r. Behind numbers samples (p + 28 * s) here r s) (let e : total - s ≡ suc m = omega arith in e) (so.channel, so.sections) in
-      let new : Behind numbers' samples' (p + 28 * s + 28) (here + 8) m (suc s) = (
-        (λ i. passed_samples rest (kept i) (lane' i)) ∙ sym (passed-series sec rest one two tail (lane c k n samples)) ∙ old.0,
-        (λ i. (numbers_at-more numbers' base s ∙ (λ i. before i ++ (at_first ∙ refl) i ∷ at_second i ∷ []) ∙ ap (λ (t : List ℤ). numbers_at numbers base s ++ t) pair) i ++ numbers_passed rest (kept i) (lane' i))
-            ∙ append_assoc (numbers_at numbers base s) (numbers_passed (sec ∷ []) (one ∷ two ∷ []) (lane c k n samples)) (numbers_passed rest tail (passed_samples (sec ∷ []) (one ∷ two ∷ []) (lane c k n samples)))
-            ∙ ap (λ (t : List ℤ). numbers_at numbers base s ++ t) (sym (numbers-series sec rest one two tail (lane c k n samples)))
-            ∙ old.1,
-      ) in
-      let q : p + 28 * s + 28 ≡ p + 28 * (s + 1) = omega arith in let g : here + 8 ≡ base + 8 * (s + 1) = omega arith in let r : m ≡ total - (s + 1) = omega arith in let t : suc s ≡ s + 1 = omega arith in
-      let moved : Behind numbers' samples' (p + 28 * (s + 1)) (base + 8 * (s + 1)) (total - (s + 1)) (s + 1) =
-      subst (λ (v : (ℕ × ℕ) × (ℕ × ℕ)). Behind numbers' samples' v.0.0 v.0.1 v.1.0 v.1.1) (λ i. ((q i, g i), (r i, t i))) new in
-      record {
-        channel = moved.0;
-        sections = moved.1;
-        others = λ i h low ne. others' i h low ne ∙ so.others i h low ne;
-        elsewhere = λ i out. beside i (outside i out) ∙ so.elsewhere i out;
-        within = are;
-        long = long' ∙ so.long;
-      }
-    where
-      outside : (i : ℕ) → (i < base) ⊎ (base + 64 ≤ i) → (i < base + 8 * s) ⊎ (base + 8 * s + 8 ≤ i)
-      outside i (inl low) = inl (omega arith)
-      outside i (inr high) = inr (omega arith)
-
-  pub passing-all : (numbers samples : List ℤ) (s : ℕ) → Passing b p total base c k n numbers0 samples0 numbers samples s → s ≡ total
-      → (lane c k n samples ≡ passed_samples (sections_in b p total) (numbers_at numbers0 base total) (lane c k n samples0)) × (numbers_at numbers base total ≡ numbers_passed (sections_in b p total) (numbers_at numbers0 base total) (lane c k n samples0))
-  passing-all numbers samples s so e =
-      let none : Behind numbers samples (p + 28 * s) (base + 8 * s) 0 s = subst (λ r. Behind numbers samples (p + 28 * s) (base + 8 * s) r s) (let z : total - s ≡ 0 = omega arith in z) (so.channel, so.sections) in (
-        sym (passed-none [] (lane c k n samples)) ∙ none.0,
-        ap (numbers_at numbers base) (sym e) ∙ sym (append-nil (numbers_at numbers base s)) ∙ ap (λ (t : List ℤ). numbers_at numbers base s ++ t) (sym (numbers-none (lane c k n samples))) ∙ none.1,
-      )
-
 -- ---- frames, after so many of their channels
 
 pub record Passed_lanes (blob : List ℕ) (c n : ℕ) (numbers0 samples0 numbers samples : List ℤ) (k : ℕ) : Type 0 where
@@ -174,22 +97,6 @@ lanes-none blob c n numbers0 samples0 are = record {
 }
 
 module _ (blob : List ℕ) (c n : ℕ) (numbers0 samples0 : List ℤ) where
-  -- a channel without sections
-  pub lanes-skip : (numbers samples : List ℤ) (k : ℕ) → Passed_lanes blob c n numbers0 samples0 numbers samples k → k < c → sections_of blob k ≡ [] → Passed_lanes blob c n numbers0 samples0 numbers samples (k + 1)
-  lanes-skip numbers samples k so lt none = record {
-    done = λ h under. by_less h k (λ less. so.done h less) (λ ge. let e : k ≡ h = omega arith in
-        so.left h (omega arith) (omega arith) ∙ sym (ap (λ ss. passed_samples ss (channel_numbers blob numbers0 h) (lane c h n samples0)) (ap (sections_of blob) (sym e) ∙ none) ∙ passed-none (channel_numbers blob numbers0 h) (lane c h n samples0)));
-    left = λ h le low. so.left h (omega arith) low;
-    done_numbers = λ h under. by_less h k (λ less. so.done_numbers h less) (λ ge. let e : k ≡ h = omega arith in
-        let empty : sections_of blob h ≡ [] = ap (sections_of blob) (sym e) ∙ none in
-        ap (λ ss. numbers_at numbers (64 * h) (length ss)) empty
-        ∙ sym (numbers-none (lane c h n samples0))
-        ∙ sym (ap (λ ss. numbers_passed ss (numbers_at numbers0 (64 * h) (length ss)) (lane c h n samples0)) empty));
-    left_numbers = λ h le low. so.left_numbers h (omega arith) low;
-    within = so.within;
-    long = so.long;
-  }
-
   -- a channel that passed through its sections
   pub lanes-more : (numbers samples numbers' samples' : List ℤ) (k : ℕ) → Passed_lanes blob c n numbers0 samples0 numbers samples k → k < c → length (sections_of blob k) ≤ 8 → ((h : ℕ) → length (sections_of blob h) ≤ 8)
       → lane c k n samples' ≡ passed_samples (sections_of blob k) (channel_numbers blob numbers k) (lane c k n samples)
@@ -217,3 +124,50 @@ module _ (blob : List ℕ) (c n : ℕ) (numbers0 samples0 : List ℤ) where
       kept : (h : ℕ) → (h < k) ⊎ (k < h) → channel_numbers blob numbers' h ≡ channel_numbers blob numbers h
       kept h (inl less) = let n = all_few h in numbers_at-same numbers' numbers (64 * h) (length (sections_of blob h)) (λ i le under. elsewhere i (inl (omega arith)))
       kept h (inr more) = let n = all_few h in numbers_at-same numbers' numbers (64 * h) (length (sections_of blob h)) (λ i le under. elsewhere i (inr (omega arith)))
+
+  -- two channels that lie side by side
+  pub lanes-both : (numbers samples numbers' samples' : List ℤ) (k : ℕ) → Passed_lanes blob c n numbers0 samples0 numbers samples k → k + 1 < c → ((h : ℕ) → length (sections_of blob h) ≤ 8)
+      → LaneGoes (sections_of blob k) (64 * k) (length (sections_of blob k)) c k n numbers samples numbers' samples'
+      → LaneGoes (sections_of blob (k + 1)) (64 * (k + 1)) (length (sections_of blob (k + 1))) c (k + 1) n numbers samples numbers' samples'
+      → OnlyChannels c k samples samples'
+      → ((i : ℕ) → (i < 64 * k) ⊎ (64 * k + 128 ≤ i) → sample_of numbers' i ≡ sample_of numbers i)
+      → AreNumbers numbers' → length samples' ≡ length samples
+      → Passed_lanes blob c n numbers0 samples0 numbers' samples' (k + 2)
+  lanes-both numbers samples numbers' samples' k so lt all_few left right others elsewhere are long' = record {
+    done = λ h under. by_less h k (λ less. other h (omega arith) (λ e. absurd (omega arith)) (λ e. absurd (omega arith)) ∙ so.done h less)
+        (λ ge. by_less h (k + 1)
+        (λ here. let e : k ≡ h = omega arith in
+        subst (λ h. lane c h n samples' ≡ passed_samples (sections_of blob h) (channel_numbers blob numbers0 h) (lane c h n samples0)) e
+        (left.samples ∙ (λ i. passed_samples (sections_of blob k) (so.left_numbers k (omega arith) (omega arith) i) (so.left k (omega arith) (omega arith) i))))
+        (λ behind. let e : k + 1 ≡ h = omega arith in
+        subst (λ h. lane c h n samples' ≡ passed_samples (sections_of blob h) (channel_numbers blob numbers0 h) (lane c h n samples0)) e
+        (right.samples ∙ (λ i. passed_samples (sections_of blob (k + 1)) (so.left_numbers (k + 1) (omega arith) lt i) (so.left (k + 1) (omega arith) lt i)))));
+    left = λ h le low. other h low (λ e. absurd (omega arith)) (λ e. absurd (omega arith)) ∙ so.left h (omega arith) low;
+    done_numbers = λ h under. by_less h k (λ less. kept h (inl less) ∙ so.done_numbers h less)
+        (λ ge. by_less h (k + 1)
+        (λ here. let e : k ≡ h = omega arith in
+        subst (λ h. channel_numbers blob numbers' h ≡ numbers_passed (sections_of blob h) (channel_numbers blob numbers0 h) (lane c h n samples0)) e
+        (left.numbers ∙ (λ i. numbers_passed (sections_of blob k) (so.left_numbers k (omega arith) (omega arith) i) (so.left k (omega arith) (omega arith) i))))
+        (λ behind. let e : k + 1 ≡ h = omega arith in
+        subst (λ h. channel_numbers blob numbers' h ≡ numbers_passed (sections_of blob h) (channel_numbers blob numbers0 h) (lane c h n samples0)) e
+        (right.numbers ∙ (λ i. numbers_passed (sections_of blob (k + 1)) (so.left_numbers (k + 1) (omega arith) lt i) (so.left (k + 1) (omega arith) lt i)))));
+    left_numbers = λ h le low. kept h (inr le) ∙ so.left_numbers h (omega arith) low;
+    within = are;
+    long = long' ∙ so.long;
+  }
+    where
+      other : (h : ℕ) → h < c → h ≢ k → h ≢ k + 1 → lane c h n samples' ≡ lane c h n samples
+      other h low ne ne' = same-lane c h n samples' samples (λ j. others j h low ne ne')
+
+      kept : (h : ℕ) → (h < k) ⊎ (k + 2 ≤ h) → channel_numbers blob numbers' h ≡ channel_numbers blob numbers h
+      kept h (inl less) = let n = all_few h in numbers_at-same numbers' numbers (64 * h) (length (sections_of blob h)) (λ i le under. elsewhere i (inl (omega arith)))
+      kept h (inr more) = let n = all_few h in numbers_at-same numbers' numbers (64 * h) (length (sections_of blob h)) (λ i le under. elsewhere i (inr (omega arith)))
+
+  -- all channels
+  pub lanes-samples : (numbers samples : List ℤ) (k : ℕ) → Passed_lanes blob c n numbers0 samples0 numbers samples k → c ≤ k → 1 ≤ c → length samples0 ≡ n * c
+      → samples ≡ samples_of (passed_frames blob c (in_turn 0 (channel_numbers blob numbers0) c) (frames_of c n samples0))
+  lanes-samples numbers samples k so all some whole = passed-whole blob c n (channel_numbers blob numbers0) samples0 samples some (has-numbers blob numbers0) (so.long ∙ whole) (λ h low. so.done h (omega (arith, low, all)))
+
+  pub lanes-numbers : (numbers samples : List ℤ) (k : ℕ) → Passed_lanes blob c n numbers0 samples0 numbers samples k → c ≤ k
+      → in_turn 0 (channel_numbers blob numbers) c ≡ numbers_after blob c (in_turn 0 (channel_numbers blob numbers0) c) (frames_of c n samples0)
+  lanes-numbers numbers samples k so all = numbers-whole blob c n (channel_numbers blob numbers0) (channel_numbers blob numbers) samples0 (has-numbers blob numbers0) (λ h low. so.done_numbers h (omega (arith, low, all)))

@@ -3,6 +3,9 @@ pub mod EqLaid
 pub mod EqState
 pub mod Faults
 pub mod Lanes
+pub mod PairForms
+pub mod Pairs
 pub mod Passing
 pub mod PieceWords
 pub mod Sections
+pub mod Stretches

@@ -5,6 +5,7 @@ ghost use Rattle.sof_base.specs.Samples.{sat, rounded};
 ghost use Rattle.sof_base.specs.Blob.{is_shift};
 ghost use Rattle.stream_law.specs.Equaliser.{next_inner};
 ghost use Rattle.eq_biquad.specs.Sections.{law_section, IsNarrow};
+ghost use Rattle.eq_biquad.specs.PairForms.{FitsBeside, HasUnitGain};
 
 use crate::numbers::{Near, Numbers};
 use crate::section::Section;
@@ -62,6 +63,27 @@ pub fn is_narrow(section: &Section, numbers: Numbers) -> bool
     } else {
         false
     }
+}
+
+/// Whether a section may go beside another, with these numbers to begin with.
+pub fn fits_beside(section: &Section, numbers: Numbers) -> bool
+    requires { is_shift section.now.shift ≡ true }
+    ensures narrow { result ≡ true → IsNarrow (law_section section.now) numbers.first numbers.second }
+    ensures beside { result ≡ true → FitsBeside (law_section section.now) }
+{
+    let even = size(section.b0) + size(section.a1);
+    if even < 4294967296 {
+        is_narrow(section, numbers)
+    } else {
+        false
+    }
+}
+
+/// Whether the gain of a section is 1.
+pub fn has_unit_gain(section: &Section) -> bool
+    ensures { result ≡ true → HasUnitGain (law_section section.now) }
+{
+    section.shift == 0 && section.gain == 16384
 }
 
 /// How far a number is from 0.
@@ -129,8 +151,17 @@ pub fn scaled(w: Sample, gain: i32, bits: u32) -> Sample
     if gain == 16384 && bits == 14 {
         w
     } else {
-        sat32((times(w, gain) + half(bits)) >> bits)
+        rescaled(w, gain, bits)
     }
+}
+
+/// The same without a test.
+#[inline(always)]
+pub fn rescaled(w: Sample, gain: i32, bits: u32) -> Sample
+    requires { (1 ≤ bits) × (bits ≤ 45) }
+    ensures { result ≡ sat 32 (rounded bits (w *ℤ gain)) }
+{
+    sat32((times(w, gain) + half(bits)) >> bits)
 }
 
 /// Half of what so many bits are.

@@ -6,11 +6,17 @@ mod blob_walk;
 mod bytes;
 mod equaliser;
 mod fault;
+mod lane;
 mod laws;
 mod lookup;
 mod numbers;
+mod one_section;
+mod pair_arithmetic;
+mod pair_numbers;
 mod passing;
 mod section;
+mod side_by_side;
+mod stages;
 
 pub use blob_walk::check;
 pub use equaliser::Eq;

@@ -1,28 +1,22 @@
 // Samples through the sections of their channels.
-ghost use Rattle.std.specs.Prelude.{◌≡◌, ◌≢◌, ℕ, [], ◌∷◌, ◌+◌, ◌*◌, ◌/◌, ◌%◌, ◌≤◌, ◌<◌, ◌^◌, ◌⊎◌, length, take, nat_abs, true};
+ghost use Rattle.std.specs.Prelude.{◌≡◌, ℕ, ◌+◌, ◌-◌, ◌*◌, ◌/◌, ◌%◌, ◌≤◌, ◌<◌, ◌⊎◌, min, length, take, true};
 ghost use Rattle.sof_base.specs.Samples.{sample_of};
 ghost use Rattle.sof_base.specs.FrameLists.{frames_of, samples_of};
-ghost use Rattle.sof_base.specs.Blob as form;
 ghost use Rattle.sof_base.specs.BlobParts as blob_parts;
-ghost use Rattle.stream_law.specs.Equaliser.{passed_frames, numbers_after};
-ghost use Rattle.eq_biquad.specs.Lanes.{lane};
-ghost use Rattle.eq_biquad.specs.PieceWords.{bytes_of_words, numbers_at, AreNumbers};
-ghost use Rattle.eq_biquad.specs.Passing.{passed_samples, numbers_passed, in_turn, channel_numbers};
-ghost use Rattle.eq_biquad.specs.Sections.{law_section, sections_in, AreWithin, IsNarrow};
+ghost use Rattle.stream_law.specs.Equaliser.{sections_of, passed_frames, numbers_after};
+ghost use Rattle.eq_biquad.specs.PieceWords.{bytes_of_words, AreNumbers};
+ghost use Rattle.eq_biquad.specs.Passing.{in_turn, channel_numbers};
+ghost use Rattle.eq_biquad.specs.Sections.{sections_in, AreWithin};
+ghost use Rattle.eq_biquad.specs.Stretches.{LaneGoes, StretchGoes, IsElsewhere, OnlyChannel, OnlyChannels};
 
-use crate::arithmetic::{bits_of, inner, inner_near, is_narrow, next_near, products, scaled};
+use crate::lane::Lane;
 use crate::lookup::find_sections;
-use crate::numbers::{Near, Numbers, numbers_in, put_numbers};
-use crate::section::{Found, Section, section_at};
+use crate::numbers::{numbers_in, put_numbers};
+use crate::one_section::pass_section;
+use crate::pair_numbers::{near_series, put_series};
+use crate::section::{Found, Stretch, section_at};
+use crate::side_by_side::{pass_both, series_at};
 use sof_base::Sample;
-
-/// Which channel of how many frames of how many channels.
-#[derive(Clone, Copy)]
-pub struct Lane {
-    pub channel: usize,
-    pub channels: usize,
-    pub frames: usize,
-}
 
 /// Passes frames through the sections of their channels. A channel without sections passes unchanged.
 pub fn pass_channels(
@@ -42,113 +36,186 @@ pub fn pass_channels(
     ensures within { AreNumbers numbers.new }
 {
     let frames = samples.len() / channels;
-    for channel in 0..channels {
+    for pair in 0..channels / 2 {
         let lane = Lane {
-            channel,
+            channel: 2 * pair,
             channels,
             frames,
         };
-        if let Some(found) = find_sections(blob, len, channel) {
-            pass_channel(blob, len, found, numbers, samples, lane);
-        }
+        pass_pair(blob, len, numbers, samples, lane);
+    }
+    if channels % 2 == 1 {
+        let lane = Lane {
+            channel: channels - 1,
+            channels,
+            frames,
+        };
+        pass_alone(blob, len, numbers, samples, lane);
     }
 }
 
-/// Passes one channel through its sections.
-fn pass_channel(
+/// Passes a channel and the one behind it through their sections, two of each in one pass.
+fn pass_pair(blob: &[i32], len: usize, numbers: &mut [i32], samples: &mut [Sample], at: Lane)
+    requires words { (length blob.now ≡ 256) × (len ≤ 1024) × (length numbers.old ≡ 512) }
+    requires blob { 0 < len → blob_parts.IsBlob (take len (bytes_of_words blob.now)) }
+    requires numbers { AreNumbers numbers.old }
+    requires lane { (at.channel + 1 < at.channels) × (at.channels ≤ 8) × (at.frames * at.channels ≡ length samples.old) }
+    ensures left { LaneGoes (sections_of (take len (bytes_of_words blob.now)) at.channel) (64 * at.channel) (length (sections_of (take len (bytes_of_words blob.now)) at.channel)) at.channels at.channel at.frames numbers.old samples.old numbers.new samples.new }
+    ensures right { LaneGoes (sections_of (take len (bytes_of_words blob.now)) (at.channel + 1)) (64 * (at.channel + 1)) (length (sections_of (take len (bytes_of_words blob.now)) (at.channel + 1))) at.channels (at.channel + 1) at.frames numbers.old samples.old numbers.new samples.new }
+    ensures others { OnlyChannels at.channels at.channel samples.old samples.new }
+    ensures elsewhere { (i : ℕ) → (i < 64 * at.channel) ⊎ (64 * at.channel + 128 ≤ i) → sample_of numbers.new i ≡ sample_of numbers.old i }
+    ensures within { AreNumbers numbers.new }
+{
+    let left = sections_found(blob, len, at.channel);
+    let right = sections_found(blob, len, at.channel + 1);
+    for s in 0..4 {
+        let one = two_of(left, 8 * at.channel, s);
+        let other = two_of(right, 8 * at.channel + 8, s);
+        pass_two(blob, len, one, other, numbers, samples, at);
+    }
+}
+
+/// Passes a channel through its sections.
+fn pass_alone(blob: &[i32], len: usize, numbers: &mut [i32], samples: &mut [Sample], at: Lane)
+    requires words { (length blob.now ≡ 256) × (len ≤ 1024) × (length numbers.old ≡ 512) }
+    requires blob { 0 < len → blob_parts.IsBlob (take len (bytes_of_words blob.now)) }
+    requires numbers { AreNumbers numbers.old }
+    requires lane { (at.channel < at.channels) × (at.channels ≤ 8) × (at.frames * at.channels ≡ length samples.old) }
+    ensures lane { LaneGoes (sections_of (take len (bytes_of_words blob.now)) at.channel) (64 * at.channel) (length (sections_of (take len (bytes_of_words blob.now)) at.channel)) at.channels at.channel at.frames numbers.old samples.old numbers.new samples.new }
+    ensures others { OnlyChannel at.channels at.channel samples.old samples.new }
+    ensures elsewhere { (i : ℕ) → (i < 64 * at.channel) ⊎ (64 * at.channel + 64 ≤ i) → sample_of numbers.new i ≡ sample_of numbers.old i }
+    ensures within { AreNumbers numbers.new }
+{
+    let found = sections_found(blob, len, at.channel);
+    let slot = 8 * at.channel;
+    pass_stretch(blob, len, Stretch { found, slot }, numbers, samples, at);
+}
+
+/// The sections of a channel: their count is 0 where it has none.
+fn sections_found(blob: &[i32], len: usize, channel: usize) -> Found
+    requires words { (length blob.now ≡ 256) × (len ≤ 1024) }
+    requires blob { 0 < len → blob_parts.IsBlob (take len (bytes_of_words blob.now)) }
+    ensures sections { sections_in (take len (bytes_of_words blob.now)) (4 * result.place) result.count ≡ sections_of (take len (bytes_of_words blob.now)) channel }
+    ensures within { AreWithin (take len (bytes_of_words blob.now)) result }
+{
+    if let Some(found) = find_sections(blob, len, channel) {
+        return found;
+    }
+    Found { place: 0, count: 0 }
+}
+
+/// The sections 2s and 2s+1 of those that were found, as far as they are there. The numbers of the first one found stand in this slot.
+fn two_of(found: Found, slot: usize, s: usize) -> Stretch
+    requires { (found.count ≤ 8) × ((found.place ≤ 256) × ((slot ≤ 56) × (s ≤ 4))) }
+    ensures place { result.found.place ≡ found.place + 7 * min found.count (2 * s) }
+    ensures count { result.found.count ≡ min (found.count - min found.count (2 * s)) 2 }
+    ensures slot { result.slot ≡ slot + min found.count (2 * s) }
+{
+    let before = found.count.min(2 * s);
+    let place = found.place + 7 * before;
+    let count = (found.count - before).min(2);
+    Stretch {
+        found: Found { place, count },
+        slot: slot + before,
+    }
+}
+
+/// Passes a channel through a stretch of its sections, and the channel behind it through another.
+fn pass_two(
     blob: &[i32],
     len: usize,
-    found: Found,
+    left: Stretch,
+    right: Stretch,
     numbers: &mut [i32],
     samples: &mut [Sample],
     at: Lane,
 )
     requires words { (length blob.now ≡ 256) × (len ≤ 1024) × (length numbers.old ≡ 512) }
-    requires found { AreWithin (take len (bytes_of_words blob.now)) found }
+    requires left { AreWithin (take len (bytes_of_words blob.now)) left.found }
+    requires right { AreWithin (take len (bytes_of_words blob.now)) right.found }
+    requires slots { (left.slot + left.found.count ≤ right.slot) × (right.slot + right.found.count ≤ 64) }
     requires numbers { AreNumbers numbers.old }
-    requires lane { (at.channel < at.channels) × (at.channels ≤ 8) × (at.frames * at.channels ≡ length samples.old) }
-    ensures lane { lane at.channels at.channel at.frames samples.new ≡ passed_samples (sections_in (take len (bytes_of_words blob.now)) (4 * found.place) found.count) (numbers_at numbers.old (64 * at.channel) found.count) (lane at.channels at.channel at.frames samples.old) }
-    ensures others { (j k : ℕ) → k < at.channels → k ≢ at.channel → sample_of samples.new (j * at.channels + k) ≡ sample_of samples.old (j * at.channels + k) }
-    ensures numbers { numbers_at numbers.new (64 * at.channel) found.count ≡ numbers_passed (sections_in (take len (bytes_of_words blob.now)) (4 * found.place) found.count) (numbers_at numbers.old (64 * at.channel) found.count) (lane at.channels at.channel at.frames samples.old) }
-    ensures elsewhere { (i : ℕ) → (i < 64 * at.channel) ⊎ (64 * at.channel + 64 ≤ i) → sample_of numbers.new i ≡ sample_of numbers.old i }
+    requires lane { (at.channel + 1 < at.channels) × (at.channels ≤ 8) × (at.frames * at.channels ≡ length samples.old) }
+    ensures left { StretchGoes (take len (bytes_of_words blob.now)) left at.channel at numbers.old samples.old numbers.new samples.new }
+    ensures right { StretchGoes (take len (bytes_of_words blob.now)) right (at.channel + 1) at numbers.old samples.old numbers.new samples.new }
+    ensures others { OnlyChannels at.channels at.channel samples.old samples.new }
+    ensures elsewhere { (i : ℕ) → IsElsewhere left.slot left.found.count i → IsElsewhere right.slot right.found.count i → sample_of numbers.new i ≡ sample_of numbers.old i }
     ensures within { AreNumbers numbers.new }
 {
-    for s in 0..found.count {
-        let section = section_at(blob, len, found.place + 7 * s);
-        let place = 64 * at.channel + 8 * s;
+    if are_pairs(left, right) {
+        let one = series_at(blob, len, left.found.place);
+        let other = series_at(blob, len, right.found.place);
+        if let Some(near) = near_series(&one, &other, numbers, left.slot) {
+            let after = pass_both(&one, &other, near, samples, at);
+            put_series(numbers, left.slot, after);
+            return;
+        }
+    }
+    pass_apart(blob, len, left, right, numbers, samples, at);
+}
+
+/// Whether both stretches have two sections, whose slots are eight apart.
+fn are_pairs(left: Stretch, right: Stretch) -> bool
+    requires { left.slot ≤ 64 }
+    ensures { result ≡ true → (left.found.count ≡ 2) × ((right.found.count ≡ 2) × (right.slot ≡ left.slot + 8)) }
+{
+    left.found.count == 2 && right.found.count == 2 && right.slot == left.slot + 8
+}
+
+/// The same, one channel after the other.
+fn pass_apart(
+    blob: &[i32],
+    len: usize,
+    left: Stretch,
+    right: Stretch,
+    numbers: &mut [i32],
+    samples: &mut [Sample],
+    at: Lane,
+)
+    requires words { (length blob.now ≡ 256) × (len ≤ 1024) × (length numbers.old ≡ 512) }
+    requires left { AreWithin (take len (bytes_of_words blob.now)) left.found }
+    requires right { AreWithin (take len (bytes_of_words blob.now)) right.found }
+    requires slots { (left.slot + left.found.count ≤ right.slot) × (right.slot + right.found.count ≤ 64) }
+    requires numbers { AreNumbers numbers.old }
+    requires lane { (at.channel + 1 < at.channels) × (at.channels ≤ 8) × (at.frames * at.channels ≡ length samples.old) }
+    ensures left { StretchGoes (take len (bytes_of_words blob.now)) left at.channel at numbers.old samples.old numbers.new samples.new }
+    ensures right { StretchGoes (take len (bytes_of_words blob.now)) right (at.channel + 1) at numbers.old samples.old numbers.new samples.new }
+    ensures others { OnlyChannels at.channels at.channel samples.old samples.new }
+    ensures elsewhere { (i : ℕ) → IsElsewhere left.slot left.found.count i → IsElsewhere right.slot right.found.count i → sample_of numbers.new i ≡ sample_of numbers.old i }
+    ensures within { AreNumbers numbers.new }
+{
+    pass_stretch(blob, len, left, numbers, samples, at);
+    let behind = Lane {
+        channel: at.channel + 1,
+        channels: at.channels,
+        frames: at.frames,
+    };
+    pass_stretch(blob, len, right, numbers, samples, behind);
+}
+
+/// Passes one channel through a stretch of its sections, one after the other.
+fn pass_stretch(
+    blob: &[i32],
+    len: usize,
+    stretch: Stretch,
+    numbers: &mut [i32],
+    samples: &mut [Sample],
+    at: Lane,
+)
+    requires words { (length blob.now ≡ 256) × (len ≤ 1024) × (length numbers.old ≡ 512) }
+    requires found { AreWithin (take len (bytes_of_words blob.now)) stretch.found }
+    requires slots { stretch.slot + stretch.found.count ≤ 64 }
+    requires numbers { AreNumbers numbers.old }
+    requires lane { (at.channel < at.channels) × (at.channels ≤ 8) × (at.frames * at.channels ≡ length samples.old) }
+    ensures lane { StretchGoes (take len (bytes_of_words blob.now)) stretch at.channel at numbers.old samples.old numbers.new samples.new }
+    ensures others { OnlyChannel at.channels at.channel samples.old samples.new }
+    ensures elsewhere { (i : ℕ) → IsElsewhere stretch.slot stretch.found.count i → sample_of numbers.new i ≡ sample_of numbers.old i }
+    ensures within { AreNumbers numbers.new }
+{
+    for s in 0..stretch.found.count {
+        let section = section_at(blob, len, stretch.found.place + 7 * s);
+        let place = 8 * stretch.slot + 8 * s;
         let after = pass_section(&section, numbers_in(numbers, place), samples, at);
         put_numbers(numbers, place, after);
     }
-}
-
-/// Passes one channel through a section with these numbers. Those after the last frame come back.
-fn pass_section(section: &Section, numbers: Numbers, samples: &mut [Sample], at: Lane) -> Numbers
-    requires shift { form.is_shift section.now.shift ≡ true }
-    requires within { (nat_abs numbers.first ≤ 2 ^ 64) × (nat_abs numbers.second ≤ 2 ^ 63) }
-    requires lane { (at.channel < at.channels) × (at.channels ≤ 8) × (at.frames * at.channels ≡ length samples.old) }
-    ensures lane { lane at.channels at.channel at.frames samples.new ≡ passed_samples (law_section section.now ∷ []) (numbers.first ∷ numbers.second ∷ []) (lane at.channels at.channel at.frames samples.old) }
-    ensures others { (j k : ℕ) → k < at.channels → k ≢ at.channel → sample_of samples.new (j * at.channels + k) ≡ sample_of samples.old (j * at.channels + k) }
-    ensures numbers { result.first ∷ result.second ∷ [] ≡ numbers_passed (law_section section.now ∷ []) (numbers.first ∷ numbers.second ∷ []) (lane at.channels at.channel at.frames samples.old) }
-    ensures within { (nat_abs result.first ≤ 2 ^ 64) × (nat_abs result.second ≤ 2 ^ 63) }
-{
-    if is_narrow(section, numbers) {
-        pass_narrow(section, numbers, samples, at)
-    } else {
-        pass_wide(section, numbers, samples, at)
-    }
-}
-
-/// The same in 64 bits. It stands alone so that its loop has the registers.
-#[inline(never)]
-fn pass_narrow(section: &Section, numbers: Numbers, samples: &mut [Sample], at: Lane) -> Numbers
-    requires shift { form.is_shift section.now.shift ≡ true }
-    requires narrow { IsNarrow (law_section section.now) numbers.first numbers.second }
-    requires lane { (at.channel < at.channels) × (at.channels ≤ 8) × (at.frames * at.channels ≡ length samples.old) }
-    ensures lane { lane at.channels at.channel at.frames samples.new ≡ passed_samples (law_section section.now ∷ []) (numbers.first ∷ numbers.second ∷ []) (lane at.channels at.channel at.frames samples.old) }
-    ensures others { (j k : ℕ) → k < at.channels → k ≢ at.channel → sample_of samples.new (j * at.channels + k) ≡ sample_of samples.old (j * at.channels + k) }
-    ensures numbers { result.first ∷ result.second ∷ [] ≡ numbers_passed (law_section section.now ∷ []) (numbers.first ∷ numbers.second ∷ []) (lane at.channels at.channel at.frames samples.old) }
-    ensures within { (nat_abs result.first ≤ 2 ^ 64) × (nat_abs result.second ≤ 2 ^ 63) }
-{
-    let bits = bits_of(section);
-    // A copy, so that its fields stay in registers while samples are written.
-    let copy = *section;
-    let mut near = Near {
-        ahead: numbers.first as i64 + 536870912,
-        fed: 0,
-        second: numbers.second as i64,
-    };
-    for frame in 0..at.frames {
-        let place = frame * at.channels + at.channel;
-        let x = samples[place];
-        let w = inner_near(section, near.ahead, near.fed, x);
-        samples[place] = scaled(w as i32, copy.gain, bits);
-        near = next_near(copy, near.second, x, w);
-    }
-    Numbers {
-        first: i128::from(near.ahead) + i128::from(near.fed) - 536870912,
-        second: i128::from(near.second),
-    }
-}
-
-/// The same in 128 bits.
-fn pass_wide(section: &Section, numbers: Numbers, samples: &mut [Sample], at: Lane) -> Numbers
-    requires shift { form.is_shift section.now.shift ≡ true }
-    requires within { (nat_abs numbers.first ≤ 2 ^ 64) × (nat_abs numbers.second ≤ 2 ^ 63) }
-    requires lane { (at.channel < at.channels) × (at.channels ≤ 8) × (at.frames * at.channels ≡ length samples.old) }
-    ensures lane { lane at.channels at.channel at.frames samples.new ≡ passed_samples (law_section section.now ∷ []) (numbers.first ∷ numbers.second ∷ []) (lane at.channels at.channel at.frames samples.old) }
-    ensures others { (j k : ℕ) → k < at.channels → k ≢ at.channel → sample_of samples.new (j * at.channels + k) ≡ sample_of samples.old (j * at.channels + k) }
-    ensures numbers { result.first ∷ result.second ∷ [] ≡ numbers_passed (law_section section.now ∷ []) (numbers.first ∷ numbers.second ∷ []) (lane at.channels at.channel at.frames samples.old) }
-    ensures within { (nat_abs result.first ≤ 2 ^ 64) × (nat_abs result.second ≤ 2 ^ 63) }
-{
-    let bits = bits_of(section);
-    let (mut first, mut second) = (numbers.first, numbers.second);
-    for frame in 0..at.frames {
-        let place = frame * at.channels + at.channel;
-        let x = samples[place];
-        let w = inner(*section, first, x);
-        samples[place] = scaled(w, section.gain, bits);
-        first = products(section.b1, x, section.a1, w) + second;
-        second = products(section.b2, x, section.a2, w);
-    }
-    Numbers { first, second }
 }

@@ -23,6 +23,13 @@ pub struct Found {
     pub count: usize,
 }
 
+/// Sections in series, and the slot in which the numbers of the first one stand.
+#[derive(Clone, Copy)]
+pub struct Stretch {
+    pub found: Found,
+    pub slot: usize,
+}
+
 /// The section whose seven words begin at a place of a blob of so many bytes.
 pub fn section_at(blob: &[i32], _len: usize, place: usize) -> Section
     requires { (4 * place + 28 ≤ _len) × (_len ≤ 4 * length blob.now) }

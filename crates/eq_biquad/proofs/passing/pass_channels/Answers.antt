@@ -1,53 +1,55 @@
-use Rattle.std.proofs.Common.{◌≡◌, ap, sym, subst, ◌∙◌, ◌+◌, ◌*◌, ◌/◌, ◌<◌, ℕ, ℤ, List, length, take, arith}
+use Rattle.std.proofs.Common.{◌≡◌, subst, ◌+◌, ◌-◌, ◌*◌, ◌/◌, ◌≤◌, ℕ, length, take, arith}
 use Rattle.std.proofs.Math.Nat.{mod-add-div}
-use Rattle.sof_base.specs.Equations.{Section}
-use Rattle.stream_law.specs.Equaliser.{sections_of}
-use Rattle.eq_biquad.specs.Lanes.{lane}
-use Rattle.eq_biquad.specs.PieceWords.{bytes_of_words, numbers_at}
-use Rattle.eq_biquad.specs.Passing.{passed_samples, numbers_passed, channel_numbers}
-use Rattle.eq_biquad.specs.Sections.{sections_in, found_in}
-use Rattle.eq_biquad.proofs.NumberLaws.{has-numbers}
-use Rattle.eq_biquad.proofs.Lookups.{length-sections, few-all}
-use Rattle.eq_biquad.proofs.LaneLaws.{passed-whole, numbers-whole}
-use Rattle.eq_biquad.proofs.StepLaws.{Passed_lanes, lanes-skip, lanes-more}
+use Rattle.eq_biquad.specs.PieceWords.{bytes_of_words}
+use Rattle.eq_biquad.proofs.Lookups.{few-all}
+use Rattle.eq_biquad.proofs.StepLaws.{Passed_lanes, lanes-none, lanes-more, lanes-both, lanes-samples, lanes-numbers}
 use Rattle.eq_biquad.proofs.passing.pass_channels.Goals as goal
-use Rattle.eq_biquad.proofs.passing.pass_channels.Goals.{in-Some, in_default}
 
-pub loop-channel-preserved : goal.loop-channel-preserved
-loop-channel-preserved c =
-    let b = take c.args.len (bytes_of_words c.args.blob.now) in let n : ℕ = length c.args.samples.now / c.args.channels in let k = c.loop-channel.channel in
-    let numbers = c.loop-channel.numbers in let samples = c.loop-channel.samples in
-    let lt : k < c.args.channels = omega (arith, c.loop-channel-test.true, c.loop-channel.auto.channel-end) in
-    let P : List ℤ × List ℤ → Type 0 = λ v. Passed_lanes b c.args.channels n c.args.numbers.now c.args.samples.now v.0 v.1 (k + 1) in
-    elim c.match-find_sections.branch [
-      | in-Some w ↦
-          let f = w.in-Some.found in
-          let same : sections_in b (4 * f.place) f.count ≡ sections_of b k = ap (found_in b) (sym w.in-Some.is) ∙ c.find_sections.ensures.sections in
-          let count : f.count ≡ length (sections_of b k) = sym (length-sections b (4 * f.place) f.count) ∙ ap (λ (ss : List Section). length ss) same in
-          let old = lane c.args.channels k n samples in
-          let after = w.pass_channel.ensures in
-          subst P (λ i. (sym w.numbers-is i, sym w.samples-is i))
-          (lanes-more b c.args.channels n c.args.numbers.now c.args.samples.now numbers samples w.pass_channel.new.numbers w.pass_channel.new.samples k c.loop-channel.invariant lt
-          (few-all c.args.blob.now c.args.len c.requires.blob k) (few-all c.args.blob.now c.args.len c.requires.blob)
-          (after.lane ∙ (λ i. passed_samples (same i) (numbers_at numbers (64 * k) (count i)) old))
-          (ap (numbers_at w.pass_channel.new.numbers (64 * k)) (sym count) ∙ after.numbers ∙ (λ i. numbers_passed (same i) (numbers_at numbers (64 * k) (count i)) old))
-          after.others after.elsewhere after.within w.pass_channel.auto.samples)
-      | in_default w ↦
-          subst P (λ i. (sym w.numbers-is i, sym w.samples-is i))
-          (lanes-skip b c.args.channels n c.args.numbers.now c.args.samples.now numbers samples k c.loop-channel.invariant lt (sym c.find_sections.ensures.sections ∙ ap (found_in b) w.in_default.is))
-    ]
-
-pub returns-clause-samples : goal.returns-clause-samples
-returns-clause-samples c =
+pub loop-pair-init : goal.loop-pair-init
+loop-pair-init c =
     let b = take c.args.len (bytes_of_words c.args.blob.now) in let n : ℕ = length c.args.samples.now / c.args.channels in
-    let so = c.loop-channel.invariant in
-    let whole : length c.args.samples.now ≡ n * c.args.channels = omega (arith, mod-add-div (length c.args.samples.now) c.args.channels, c.requires.whole) in
-    passed-whole b c.args.channels n (channel_numbers b c.args.numbers.now) c.args.samples.now c.loop-channel.samples c.requires.channels.0 (has-numbers b c.args.numbers.now) (so.long ∙ whole)
-    (λ k low. so.done k (omega (arith, c.loop-channel-test.false, c.loop-channel.auto.channel-end)))
+    lanes-none b c.args.channels n c.args.numbers.now c.args.samples.now c.requires.numbers
 
-pub returns-clause-numbers : goal.returns-clause-numbers
-returns-clause-numbers c =
-    let b = take c.args.len (bytes_of_words c.args.blob.now) in let n : ℕ = length c.args.samples.now / c.args.channels in
-    let so = c.loop-channel.invariant in
-    numbers-whole b c.args.channels n (channel_numbers b c.args.numbers.now) (channel_numbers b c.loop-channel.numbers) c.args.samples.now (has-numbers b c.args.numbers.now)
-    (λ k low. so.done_numbers k (omega (arith, c.loop-channel-test.false, c.loop-channel.auto.channel-end)))
+pub loop-pair-preserved : goal.loop-pair-preserved
+loop-pair-preserved c =
+    let b = take c.args.len (bytes_of_words c.args.blob.now) in let n : ℕ = length c.args.samples.now / c.args.channels in let k : ℕ = 2 * c.loop-pair.pair in
+    let after = c.pass_pair.ensures in let next : k + 2 ≡ 2 * (c.loop-pair.pair + 1) = omega arith in
+    subst (Passed_lanes b c.args.channels n c.args.numbers.now c.args.samples.now c.pass_pair.new.numbers c.pass_pair.new.samples) next
+    (lanes-both b c.args.channels n c.args.numbers.now c.args.samples.now c.loop-pair.numbers c.loop-pair.samples c.pass_pair.new.numbers c.pass_pair.new.samples k c.loop-pair.invariant
+    (omega (arith, c.loop-pair-test.true, c.loop-pair.auto.pair-end)) (few-all c.args.blob.now c.args.len c.requires.blob) after.left after.right after.others after.elsewhere after.within c.pass_pair.auto.samples)
+
+pub returns-then-channels-eq1-clause-samples : goal.returns-then-channels-eq1-clause-samples
+returns-then-channels-eq1-clause-samples c =
+    let b = take c.args.len (bytes_of_words c.args.blob.now) in let channels = c.args.channels in let n : ℕ = length c.args.samples.now / channels in
+    let whole : length c.args.samples.now ≡ n * channels = omega (arith, mod-add-div (length c.args.samples.now) channels, c.requires.whole) in
+    let k : ℕ = channels - 1 in let after = c.pass_alone.ensures in let few = few-all c.args.blob.now c.args.len c.requires.blob in
+    let last : 2 * c.loop-pair.pair ≡ k = omega (arith, c.loop-pair-test.false, c.loop-pair.auto.pair-end, c.if-channels-eq1.true) in
+    let so = lanes-more b channels n c.args.numbers.now c.args.samples.now c.loop-pair.numbers c.loop-pair.samples c.pass_alone.new.numbers c.pass_alone.new.samples k
+    (subst (Passed_lanes b channels n c.args.numbers.now c.args.samples.now c.loop-pair.numbers c.loop-pair.samples) last c.loop-pair.invariant)
+    (omega (arith, c.requires.channels)) (few k) few after.lane.samples after.lane.numbers after.others after.elsewhere after.within c.pass_alone.auto.samples in
+    lanes-samples b channels n c.args.numbers.now c.args.samples.now c.pass_alone.new.numbers c.pass_alone.new.samples (k + 1) so (omega arith) c.requires.channels.0 whole
+
+pub returns-then-channels-eq1-clause-numbers : goal.returns-then-channels-eq1-clause-numbers
+returns-then-channels-eq1-clause-numbers c =
+    let b = take c.args.len (bytes_of_words c.args.blob.now) in let channels = c.args.channels in let n : ℕ = length c.args.samples.now / channels in
+    let whole : length c.args.samples.now ≡ n * channels = omega (arith, mod-add-div (length c.args.samples.now) channels, c.requires.whole) in
+    let k : ℕ = channels - 1 in let after = c.pass_alone.ensures in let few = few-all c.args.blob.now c.args.len c.requires.blob in
+    let last : 2 * c.loop-pair.pair ≡ k = omega (arith, c.loop-pair-test.false, c.loop-pair.auto.pair-end, c.if-channels-eq1.true) in
+    let so = lanes-more b channels n c.args.numbers.now c.args.samples.now c.loop-pair.numbers c.loop-pair.samples c.pass_alone.new.numbers c.pass_alone.new.samples k
+    (subst (Passed_lanes b channels n c.args.numbers.now c.args.samples.now c.loop-pair.numbers c.loop-pair.samples) last c.loop-pair.invariant)
+    (omega (arith, c.requires.channels)) (few k) few after.lane.samples after.lane.numbers after.others after.elsewhere after.within c.pass_alone.auto.samples in
+    lanes-numbers b channels n c.args.numbers.now c.args.samples.now c.pass_alone.new.numbers c.pass_alone.new.samples (k + 1) so (omega arith)
+
+pub returns-else-channels-eq1-clause-samples : goal.returns-else-channels-eq1-clause-samples
+returns-else-channels-eq1-clause-samples c =
+    let b = take c.args.len (bytes_of_words c.args.blob.now) in let channels = c.args.channels in let n : ℕ = length c.args.samples.now / channels in
+    let whole : length c.args.samples.now ≡ n * channels = omega (arith, mod-add-div (length c.args.samples.now) channels, c.requires.whole) in
+    let last : channels ≤ 2 * c.loop-pair.pair = omega (arith, c.loop-pair-test.false, c.loop-pair.auto.pair-end, c.if-channels-eq1.false) in
+    lanes-samples b channels n c.args.numbers.now c.args.samples.now c.loop-pair.numbers c.loop-pair.samples (2 * c.loop-pair.pair) c.loop-pair.invariant last c.requires.channels.0 whole
+
+pub returns-else-channels-eq1-clause-numbers : goal.returns-else-channels-eq1-clause-numbers
+returns-else-channels-eq1-clause-numbers c =
+    let b = take c.args.len (bytes_of_words c.args.blob.now) in let channels = c.args.channels in let n : ℕ = length c.args.samples.now / channels in
+    let whole : length c.args.samples.now ≡ n * channels = omega (arith, mod-add-div (length c.args.samples.now) channels, c.requires.whole) in
+    let last : channels ≤ 2 * c.loop-pair.pair = omega (arith, c.loop-pair-test.false, c.loop-pair.auto.pair-end, c.if-channels-eq1.false) in
+    lanes-numbers b channels n c.args.numbers.now c.args.samples.now c.loop-pair.numbers c.loop-pair.samples (2 * c.loop-pair.pair) c.loop-pair.invariant last

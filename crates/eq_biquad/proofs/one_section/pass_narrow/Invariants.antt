@@ -1,7 +1,7 @@
 use Rattle.std.proofs.Common.{◌+◌, ◌*◌, ◌<◌, ◌≤◌, ◌^◌, [], ◌∷◌, pos, ◌+ℤ◌, ◌-ℤ◌, nat_abs}
 use Rattle.eq_biquad.specs.Sections.{law_section}
 use Rattle.eq_biquad.proofs.StepLaws.{Passes}
-use Rattle.eq_biquad.proofs.passing.pass_narrow.Given as goal
+use Rattle.eq_biquad.proofs.one_section.pass_narrow.Given as goal
 
 abbrev pub invariant-loop-frame : goal.invariant-loop-frame
 invariant-loop-frame l = record {

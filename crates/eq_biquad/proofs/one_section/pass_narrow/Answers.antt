@@ -8,7 +8,7 @@ use Rattle.eq_biquad.specs.Sections.{law_section}
 use Rattle.eq_biquad.proofs.ArithLaws.{same-128}
 use Rattle.eq_biquad.proofs.NearLaws.{wider, kept-64, first-is, first-within, joined_parts, joined-is, joined-fits, less-half, with-half, less-within}
 use Rattle.eq_biquad.proofs.StepLaws.{Passes, passes-none, passes-more, passes-all}
-use Rattle.eq_biquad.proofs.passing.pass_narrow.Goals as goal
+use Rattle.eq_biquad.proofs.one_section.pass_narrow.Goals as goal
 
 pub loop-frame-init : goal.loop-frame-init
 loop-frame-init c =

@@ -7,7 +7,7 @@ use Rattle.stream_law.specs.Equaliser.{next_inner}
 use Rattle.eq_biquad.specs.Sections.{law_section}
 use Rattle.eq_biquad.proofs.ArithLaws.{same-128, abs-sum}
 use Rattle.eq_biquad.proofs.StepLaws.{passes-more, passes-all}
-use Rattle.eq_biquad.proofs.passing.pass_wide.Goals as goal
+use Rattle.eq_biquad.proofs.one_section.pass_wide.Goals as goal
 
 pub loop-frame-preserved : goal.loop-frame-preserved
 loop-frame-preserved c =

@@ -2,6 +2,7 @@
 ghost use Rattle.std.specs.Prelude.{◌≡◌, ℕ, ℤ, pos, [], ◌+◌, ◌*◌, ◌/◌, ◌%◌, ◌<◌, ◌≤◌, ◌^◌, ◌++◌, length, take, drop, slice_index_or};
 ghost use Rattle.sof_base.specs.Samples.{width, sample_of, frames_in};
 ghost use Rattle.sof_base.specs.FrameLists.{frames_of, samples_of};
+ghost use Rattle.fw_gain.specs.Kernels.{all_amplified};
 ghost use Rattle.fw_ring.specs.RingState.{capacity_of, place_after, IsRing, SameRing};
 ghost use Rattle.fw_ring.specs.RingWords.{IsWindow, window_frames};
 ghost use Rattle.fw_ring.specs.RingLaid.{own_words};
@@ -104,6 +105,18 @@ impl Ring {
         self.window = extend(self.piece.words_mut(), window, samples);
     }
 
+    /// Appends the frames of these samples, each times the gain of its channel, of which 65536 is 1; the ring has room for them.
+    pub fn push_amplified(&mut self, samples: &[Sample], channels: u8, gains: &[u32])
+        requires channels { self.old.channels ≡ channels }
+        requires whole { length samples.now % self.old.channels ≡ 0 }
+        requires fit { length self.old.frames + length samples.now / self.old.channels ≤ capacity_of self.old }
+        ensures frames { self.new.frames ≡ self.old.frames ++ frames_of self.old.channels (length samples.now / self.old.channels) (all_amplified self.old.channels gains.now samples.now) }
+        ensures same { SameRing self.old self.new }
+    {
+        let window = self.window;
+        self.window = extend_amplified(self.piece.words_mut(), window, samples, channels, gains);
+    }
+
     /// Appends the `n` frames whose bytes these are in a format; the ring has room for them.
     pub fn push_bytes(&mut self, format: Format, n: u32, bytes: &[u8])
         requires whole { length bytes.now ≡ n * (self.old.channels * width format) }
@@ -162,6 +175,32 @@ fn extend(words: &mut [Sample], window: Window, samples: &[Sample]) -> Window
 {
     let count = frames_in(samples.len(), window.channels);
     window.extended(&mut words[8..8 + window.words], count, samples)
+}
+
+/// Appends the frames of these samples times gains to those of a window of the words behind the first eight.
+fn extend_amplified(
+    words: &mut [Sample],
+    window: Window,
+    samples: &[Sample],
+    channels: u8,
+    gains: &[u32],
+) -> Window
+    requires window { IsWindow window }
+    requires words { 8 + window.words ≤ length words.old }
+    requires channels { window.channels ≡ channels }
+    requires whole { length samples.now % window.channels ≡ 0 }
+    requires fit { window.held + length samples.now / window.channels ≤ window.capacity }
+    ensures window { result ≡ record window { held = window.held + length samples.now / window.channels } }
+    ensures frames { window_frames result (own_words result.words words.new) ≡ window_frames window (own_words window.words words.old) ++ frames_of window.channels (length samples.now / window.channels) (all_amplified window.channels gains.now samples.now) }
+{
+    let count = frames_in(samples.len(), window.channels);
+    window.amplified(
+        &mut words[8..8 + window.words],
+        count,
+        samples,
+        channels,
+        gains,
+    )
 }
 
 /// Appends the frames of these bytes to those of a window of the words behind the first eight.

@@ -2,9 +2,11 @@
 ghost use Rattle.std.specs.Prelude.{◌≡◌, ◌+◌, ◌-◌, ◌*◌, ◌/◌, ◌%◌, ◌<◌, ◌≤◌, ◌^◌, ◌++◌, length, take, drop};
 ghost use Rattle.sof_base.specs.Samples.{width, frames_in};
 ghost use Rattle.sof_base.specs.FrameLists.{frames_of, samples_of};
+ghost use Rattle.fw_gain.specs.Kernels.{all_amplified};
 ghost use Rattle.fw_ring.specs.RingWords.{IsWindow, window_frames, wrapped};
 
 use crate::samples::read_samples;
+use fw_gain::volume;
 use sof_base::{Format, Sample};
 
 /// How a ring holds its frames: `words` words have room for `capacity` frames of `channels` samples. Of these the `held` frames
@@ -52,6 +54,32 @@ impl Window {
         let (front, back) = samples.split_at(near * self.channels);
         let first = self.copied(words, near, front);
         first.copied(words, count - near, back)
+    }
+
+    /// Appends the `count` frames of these samples, each times the gain of its channel.
+    pub fn amplified(
+        self,
+        words: &mut [Sample],
+        count: usize,
+        samples: &[Sample],
+        channels: u8,
+        gains: &[u32],
+    ) -> Window
+        requires window { IsWindow self }
+        requires words { length words.old ≡ self.words }
+        requires channels { self.channels ≡ channels }
+        requires whole { length samples.now ≡ count * self.channels }
+        requires fit { self.held + count ≤ self.capacity }
+        ensures window { result ≡ record self { held = self.held + count } }
+        ensures frames { window_frames result words.new ≡ window_frames self words.old ++ frames_of self.channels count (all_amplified self.channels gains.now samples.now) }
+    {
+        let near = self.capacity - wrap(self.capacity, self.start, self.held);
+        if count <= near {
+            return self.scaled(words, count, samples, channels, gains);
+        }
+        let (front, back) = samples.split_at(near * self.channels);
+        let first = self.scaled(words, near, front, channels, gains);
+        first.scaled(words, count - near, back, channels, gains)
     }
 
     /// Appends the `count` frames whose bytes these are in a format.
@@ -118,6 +146,37 @@ impl Window {
     {
         let at = wrap(self.capacity, self.start, self.held) * self.channels;
         words[at..at + count * self.channels].copy_from_slice(samples);
+        Window {
+            held: self.held + count,
+            ..self
+        }
+    }
+
+    // Appends frames of samples times gains that come to lie before the end of the words.
+    fn scaled(
+        self,
+        words: &mut [Sample],
+        count: usize,
+        samples: &[Sample],
+        channels: u8,
+        gains: &[u32],
+    ) -> Window
+        requires window { IsWindow self }
+        requires words { length words.old ≡ self.words }
+        requires channels { self.channels ≡ channels }
+        requires whole { length samples.now ≡ count * self.channels }
+        requires fit { self.held + count ≤ self.capacity }
+        requires near { wrapped self.capacity self.start self.held + count ≤ self.capacity }
+        ensures window { result ≡ record self { held = self.held + count } }
+        ensures frames { window_frames result words.new ≡ window_frames self words.old ++ frames_of self.channels count (all_amplified self.channels gains.now samples.now) }
+    {
+        let at = wrap(self.capacity, self.start, self.held) * self.channels;
+        volume(
+            samples,
+            &mut words[at..at + count * self.channels],
+            channels,
+            gains,
+        );
         Window {
             held: self.held + count,
             ..self

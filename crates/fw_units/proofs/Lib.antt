@@ -1,3 +1,4 @@
+pub mod Amplifying
 pub mod Draining
 pub mod Found
 pub mod FrameLaws

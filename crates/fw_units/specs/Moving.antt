@@ -1,5 +1,5 @@
 -- One component moves frames between the buffers of a table.
-use Rattle.std.specs.Prelude.{◌≡◌, nat_eq, ℕ, ◌≤◌, List, [], ◌∷◌, map, take, length, get_or, true, false, ◌==◌, Option, Some, None, if◌then◌else◌, ℤ, find}
+use Rattle.std.specs.Prelude.{◌≡◌, nat_eq, nat_le, ℕ, ◌≤◌, List, [], ◌∷◌, map, take, length, get_or, Bool, true, false, ◌==◌, Option, Some, None, if◌then◌else◌, ℤ, find}
 use Rattle.std.specs.List.{AllByRecursion, IsDistinct}
 use Rattle.sof_base.specs.Samples.{Frame}
 use Rattle.sof_base.specs.FrameLists.{AreFrames, samples_of}
@@ -9,7 +9,7 @@ use Rattle.stream_law.specs.Order.{is_among}
 use Rattle.fw_demux.specs.Splits.{all_kept}
 use Rattle.fw_units.specs.declared.component.Component.{Component}
 use Rattle.fw_units.specs.declared.component.Unit as units
-use Rattle.fw_units.specs.declared.component.Unit.TheVariants.{Demux}
+use Rattle.fw_units.specs.declared.component.Unit.TheVariants.{Volume, Demux}
 use Rattle.fw_units.specs.Units.{numbers_by}
 use Rattle.fw_units.specs.Frames.{kept_words, words_by, staged_by, buffer_frames, channels_in}
 use Rattle.fw_units.specs.Processed.{moves_of, feeds_of, IsLevel, IsInlet, IsOutlet, slices_in, made_frames, made_numbers, output_frames, fed_at, drained_at, run_by}
@@ -38,6 +38,11 @@ IsWhole buffers b = AreFrames (channels_in buffers b) (buffer_frames buffers b)
 abbrev pub looked_choice : List ℕ → Option ℕ → Option ℕ
 looked_choice looked None = None
 looked_choice looked (Some b) = if is_among looked b then Some b else None
+
+-- a volume is past its ramp
+abbrev pub is_past : units.Unit → Bool
+is_past (Volume gains ramp from done frames piece) = nat_le frames done
+is_past unit = false
 
 -- ---- frames
 

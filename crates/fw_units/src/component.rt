@@ -3,6 +3,7 @@ ghost use Rattle.std.specs.Prelude.{◌≡◌, ◌+◌, length, nat_le};
 ghost use Rattle.stream_law.specs.Ways.{splits};
 ghost use Rattle.fw_units.specs.Units.{is_buffer, is_pipeline, kind_by, piece_of, unit_frames, capacity_by};
 ghost use Rattle.fw_units.specs.Values.{unit_values, takes_values};
+ghost use Rattle.fw_units.specs.Moving.{is_past};
 ghost use Rattle.std.specs.List.{list_all};
 
 use eq_biquad::Eq;
@@ -99,6 +100,16 @@ impl Unit {
         ensures { result ≡ splits (kind_by self.now) }
     {
         matches!(self, Unit::Demux { .. })
+    }
+
+    /// Whether it is a volume past its ramp.
+    pub(crate) fn is_past(&self) -> bool
+        ensures { result ≡ is_past self.now }
+    {
+        match self {
+            Unit::Volume { done, length, .. } => *length <= *done,
+            _ => false,
+        }
     }
 }
 

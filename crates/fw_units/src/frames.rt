@@ -2,6 +2,7 @@
 ghost use Rattle.std.specs.Prelude.{◌≡◌, ◌+◌, ◌*◌, ◌/◌, ◌%◌, ◌≤◌, ◌++◌, length, take};
 ghost use Rattle.sof_base.specs.Samples.{width, frames_in};
 ghost use Rattle.sof_base.specs.FrameLists.{frames_of, samples_of, AreFrames};
+ghost use Rattle.fw_gain.specs.Kernels.{all_amplified};
 ghost use Rattle.stream_law.specs.Ways.{is_end};
 ghost use Rattle.sof_base.specs.Ramps.{ramp_frames};
 ghost use Rattle.fw_units.specs.Units.{ramp_by, unit_frames, capacity_by};
@@ -62,6 +63,35 @@ impl Component {
     {
         if let Unit::Buffer { ring, .. } = &mut self.unit {
             ring.push_frames(samples);
+        }
+    }
+
+    /// The ring of a buffer has the frames of these samples behind its own, each times the gain of its channel.
+    fn push_amplified(&mut self, samples: &[Sample], channels: u8, gains: &[u32])
+        requires channels { channels_by self.old.unit ≡ channels }
+        requires whole { length samples.now % channels_by self.old.unit ≡ 0 }
+        requires fit { length (unit_frames self.old.unit) + length samples.now / channels_by self.old.unit ≤ capacity_by self.old.unit }
+        ensures { self.new ≡ pushed_by (frames_of (channels_by self.old.unit) (length samples.now / channels_by self.old.unit) (all_amplified (channels_by self.old.unit) gains.now samples.now)) (kept_words self.new) self.old }
+    {
+        if let Unit::Buffer { ring, .. } = &mut self.unit {
+            ring.push_amplified(samples, channels, gains);
+        }
+    }
+
+    /// The ring of a buffer has the first `n` frames of another behind its own, each sample times the gain of its channel.
+    pub(crate) fn amplify_from(&mut self, from: &Component, n: u32, channels: u8, gains: &[u32])
+        requires channels { 1 ≤ channels }
+        requires shape { channels_by from.now.unit ≡ channels }
+        requires own { channels_by self.old.unit ≡ channels }
+        requires held { n ≤ length (unit_frames from.now.unit) }
+        requires fit { length (unit_frames self.old.unit) + n ≤ capacity_by self.old.unit }
+        ensures pushed { self.new ≡ pushed_by (frames_of channels n (all_amplified channels gains.now (samples_of (take n (unit_frames from.now.unit))))) (kept_words self.new) self.old }
+        ensures frames { AreFrames (channels_by from.now.unit) (unit_frames from.now.unit) }
+    {
+        let (front, back) = from.spans(n);
+        self.push_amplified(front, channels, gains);
+        if !back.is_empty() {
+            self.push_amplified(back, channels, gains);
         }
     }
 

@@ -154,8 +154,8 @@ fn copy(inlet: u32, n: u32, hints: &Hints, buffers: &[Component], samples: &mut 
     copy_both(front, back, samples);
 }
 
-// How many frames of a ramp are done after `n` more: held at its end, where a ramp over no frame ends after one.
-fn done_after(count: u32, done: u32, n: u32) -> u32
+/// How many frames of a ramp are done after `n` more: held at its end, where a ramp over no frame ends after one.
+pub(crate) fn done_after(count: u32, done: u32, n: u32) -> u32
     ensures { result ≡ done_after count done n }
 {
     if n == 0 {

@@ -1,14 +1,19 @@
 // One component moves frames between the buffers of a table.
-ghost use Rattle.std.specs.Prelude.{◌≡◌, ◌*◌, ◌/◌, ◌≤◌, true, map, length, nat_eq, vec_capacity};
+ghost use Rattle.std.specs.Prelude.{◌≡◌, ◌==◌, ◌+◌, ◌*◌, ◌/◌, ◌<◌, ◌≤◌, ℕ, Option, true, false, map, take, find, set, get_or, length, nat_eq, vec_capacity};
 ghost use Rattle.std.specs.List.{AllByRecursion, IsDistinct};
 ghost use Rattle.stream_law.specs.Placed.{Ascends};
+ghost use Rattle.fw_units.specs.declared.component.Component.{Component};
 ghost use Rattle.fw_units.specs.Changes.{has_id};
-ghost use Rattle.fw_units.specs.Frames.{channels_in, buffer_frames};
-ghost use Rattle.fw_units.specs.Processed.{chosen_by, drained_at, output_number};
-ghost use Rattle.fw_units.specs.Moving.{CanMove, IsMoved};
+ghost use Rattle.sof_base.specs.FrameLists.{AreFrames, frames_of, samples_of};
+ghost use Rattle.fw_gain.specs.Kernels.{all_amplified};
+ghost use Rattle.fw_units.specs.Units.{unit_frames, capacity_by};
+ghost use Rattle.fw_units.specs.Frames.{kept_words, words_by, channels_by, channels_in, buffer_frames, pushed_by, pushed_at};
+ghost use Rattle.fw_units.specs.Processed.{IsInlet, IsOutlet, chosen_by, drained_at, output_number};
+ghost use Rattle.fw_units.specs.Moving.{CanMove, IsMoved, IsWhole, is_past, samples_in};
 
-use crate::component::Component;
+use crate::component::{Component, Unit};
 use crate::hints::Hints;
+use crate::making::done_after;
 use crate::workspace::{MOST, Workspace};
 use sof_base::Sample;
 use stream_law::Join;
@@ -29,16 +34,57 @@ impl Component {
         ensures moved { IsMoved (chosen_by self.old.unit self.old.id joins.now) (output_number joins.now self.old.id) looked.now fed.now n buffers.old.items self.old buffers.new.items self.new }
         ensures capacity { vec_capacity buffers.new ≡ vec_capacity buffers.old }
     {
-        self.steps(
-            joins,
-            hints,
-            buffers,
-            looked,
-            fed,
-            n,
-            &mut workspace.sums,
-            &mut workspace.samples,
-        );
+        if self.unit.is_past() {
+            self.amplify(hints, buffers, looked, fed, n);
+        } else {
+            self.steps(
+                joins,
+                hints,
+                buffers,
+                looked,
+                fed,
+                n,
+                &mut workspace.sums,
+                &mut workspace.samples,
+            );
+        }
+    }
+
+    // Moves frames from ring to ring, each sample times its gain.
+    fn amplify(
+        &mut self,
+        hints: &Hints,
+        buffers: &mut Vec<Component>,
+        looked: &[u32],
+        fed: &[u32],
+        n: u32,
+    )
+        requires can { CanMove buffers.old.items looked.now fed.now n self.old }
+        requires past { is_past self.old.unit ≡ true }
+        ensures moved { (chosen : Option ℕ) (outputs : ℕ → ℕ) → IsMoved chosen outputs looked.now fed.now n buffers.old.items self.old buffers.new.items self.new }
+        ensures capacity { vec_capacity buffers.new ≡ vec_capacity buffers.old }
+    {
+        // For the proof alone: a frame has a sample at least.
+        let _width = width_of(hints, buffers.as_slice(), fed[0]);
+        if let Unit::Volume {
+            gains,
+            done,
+            length,
+            ..
+        } = &mut self.unit
+        {
+            amplify_over(
+                hints,
+                buffers,
+                looked[0],
+                fed[0],
+                n,
+                self.channels,
+                gains.items(),
+            );
+            drain_in(hints, buffers, looked, n);
+            *done = done_after(*length, *done, n);
+        }
     }
 
     // Moves them as many at a time as there is room for.
@@ -124,6 +170,60 @@ fn width_of(hints: &Hints, buffers: &[Component], id: u32) -> usize
 {
     let at = hints.place(buffers, id);
     buffers[at].frame_samples()
+}
+
+// A buffer has the first `n` frames of another behind its own, each sample times the gain of its channel.
+fn amplify_over(
+    hints: &Hints,
+    buffers: &mut Vec<Component>,
+    inlet: u32,
+    outlet: u32,
+    n: u32,
+    channels: u8,
+    gains: &[u32],
+)
+    requires ascends { Ascends (λ c. c.id) buffers.old.items }
+    requires apart { (inlet == outlet) ≡ false }
+    requires channels { 1 ≤ channels }
+    requires inlet { IsInlet buffers.old.items channels n inlet }
+    requires outlet { IsOutlet buffers.old.items channels n outlet }
+    ensures items { buffers.new.items ≡ map (pushed_at outlet (frames_of channels n (all_amplified channels gains.now (samples_in buffers.old.items n inlet))) (words_by (find (λ x. x.id == outlet) buffers.new.items))) buffers.old.items }
+    ensures capacity { vec_capacity buffers.new ≡ vec_capacity buffers.old }
+    ensures frames { IsWhole buffers.old.items inlet }
+{
+    let components = buffers.as_slice();
+    let from = hints.place(components, inlet);
+    let to = hints.place(components, outlet);
+    amplify_between(buffers.as_mut_slice(), from, to, n, channels, gains);
+}
+
+// The same by their places.
+fn amplify_between(
+    buffers: &mut [Component],
+    from: usize,
+    to: usize,
+    n: u32,
+    channels: u8,
+    gains: &[u32],
+)
+    requires apart { (from == to) ≡ false }
+    requires there { (from < length buffers.old) × (to < length buffers.old) }
+    requires channels { 1 ≤ channels }
+    requires shape { (d : Component) → channels_by (get_or buffers.old from d).unit ≡ channels }
+    requires own { (d : Component) → channels_by (get_or buffers.old to d).unit ≡ channels }
+    requires held { (d : Component) → n ≤ length (unit_frames (get_or buffers.old from d).unit) }
+    requires room { (d : Component) → length (unit_frames (get_or buffers.old to d).unit) + n ≤ capacity_by (get_or buffers.old to d).unit }
+    ensures put { (d : Component) → buffers.new ≡ set buffers.old to (get_or buffers.new to d) }
+    ensures pushed { (d : Component) → get_or buffers.new to d ≡ pushed_by (frames_of channels n (all_amplified channels gains.now (samples_of (take n (unit_frames (get_or buffers.old from d).unit))))) (kept_words (get_or buffers.new to d)) (get_or buffers.old to d) }
+    ensures frames { (d : Component) → AreFrames (channels_by (get_or buffers.old from d).unit) (unit_frames (get_or buffers.old from d).unit) }
+{
+    if from < to {
+        let (near, far) = buffers.split_at_mut(to);
+        far[0].amplify_from(&near[from], n, channels, gains);
+    } else {
+        let (front, back) = buffers.split_at_mut(from);
+        front[to].amplify_from(&back[0], n, channels, gains);
+    }
 }
 
 // The buffers that are looked at, each of them named once, lose their first frames.

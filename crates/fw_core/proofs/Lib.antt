@@ -20,6 +20,7 @@ pub mod Gains
 pub mod Shapes
 pub mod Played
 pub mod Ticks
+pub mod SetRows
 pub mod Scheduled
 pub mod InputMoves
 pub mod Bare

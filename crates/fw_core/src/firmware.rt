@@ -1,18 +1,18 @@
 // The firmware, its making and its end.
-ghost use Rattle.std.specs.Prelude.{◌≡◌, ◌&&◌, IfOk, None, Some, true, is_some};
+ghost use Rattle.std.specs.Prelude.{◌≡◌, ◌&&◌, ◌||◌, IfOk, None, Some, true, is_some};
 ghost use Rattle.fw_components.specs.States.{AreOf, with_tables};
 ghost use Rattle.stream_law.specs.State.{FwState};
 ghost use Rattle.fw_core.specs.Device.{used_of, stepped, reply_to, with_state};
 ghost use Rattle.fw_core.specs.Laid.{no_tables};
 ghost use Rattle.ipc3_model.specs.Replies.{reply_spelling};
 ghost use Rattle.fw_core.specs.Answers.{reply_with};
-ghost use Rattle.fw_core.specs.Unchanged.{tells, changes_nothing};
+ghost use Rattle.fw_core.specs.Unchanged.{tells, changes_nothing, keeps_steps};
 
 use crate::messages::answer;
 use fw_components::Registry;
 use fw_heap::Region;
 use fw_schedule::{Schedule, Scratch};
-use ipc3_codec::{Body, Reply};
+use ipc3_codec::{Body, CodecFault, Message, Reply, decode};
 use sof_base::{Errno, NoMemory};
 use std::alloc::Global;
 use std::marker::Model;
@@ -93,17 +93,35 @@ impl Firmware {
         ensures step { self.new ≡ with_state (stepped self.old.state request.now) self.old }
         ensures reply { reply_to self.old.state request.now ≡ Some (reply_spelling result) }
     {
-        let answer = answer(&mut self.registry, &mut self.region, request);
-        self.current = is_still_current(self.current, &answer);
+        let message = decode(request);
+        let answer = answer(&mut self.registry, &mut self.region, &message);
+        self.current = is_still_current(self.current, &message, &answer);
         reply_of(answer)
     }
 }
 
 // Whether what was current before a message with this answer still is.
-fn is_still_current(current: bool, answer: &Result<Body, Errno>) -> bool
-    ensures { result ≡ (current && changes_nothing answer.now) }
+fn is_still_current(
+    current: bool,
+    message: &Result<Message, CodecFault>,
+    answer: &Result<Body, Errno>,
+) -> bool
+    ensures { result ≡ (current && (changes_nothing answer.now || keeps_steps message.now)) }
 {
-    current && changes_nothing(answer)
+    current && (changes_nothing(answer) || keeps_steps(message))
+}
+
+// Whether a message leaves what the steps of a schedule are made of: it changes at most what is set at a component.
+fn keeps_steps(message: &Result<Message, CodecFault>) -> bool
+    ensures { result ≡ keeps_steps message.now }
+{
+    match message {
+        Ok(message) => matches!(
+            message,
+            Message::SetValue { .. } | Message::SetData { .. } | Message::CtxSave
+        ),
+        Err(_) => false,
+    }
 }
 
 // Whether a message with this answer changed nothing: it was refused, or it told something.

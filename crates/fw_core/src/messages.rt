@@ -1,6 +1,5 @@
 // What each message does, and what is answered.
 ghost use Rattle.std.specs.Prelude.{◌≡◌, ℕ, IfOk, Err};
-ghost use Rattle.ipc3_model.specs.Messages.{decoded};
 ghost use Rattle.ipc3_model.specs.Meanings.{IsAllowed};
 ghost use Rattle.mbox_link.specs.Step.{row, row_of, body, body_of};
 ghost use Rattle.row_laws.specs.RowLaws.{HasBytes};
@@ -16,21 +15,22 @@ use crate::value_rows::{get_value, set_value};
 use fw_components::Registry;
 use fw_heap::Region;
 use fw_pipeline::{Item, Trigger};
-use ipc3_codec::{Body, Message, decode};
+use ipc3_codec::{Body, CodecFault, Message};
 use sof_base::Errno;
 
-/// Does what a message's bytes say, and gives the body of its reply, or tells why not. Bytes that are no message are not valid.
+/// Does what a message says, and gives the body of its reply, or tells why not. Bytes that were no message are not valid.
 pub(crate) fn answer(
     registry: &mut Registry,
     region: &mut Region,
-    request: &[u8],
+    message: &Result<Message, CodecFault>,
 ) -> Result<Body, Errno>
-    requires { IsPieceHeld registry.old region.old }
-    ensures row { IsRow (λ f. row_of f (decoded request.now)) registry.old registry.new region.old region.new result }
-    ensures body { IfOk result (λ said. (clock : ℕ) → said ≡ body_of (state_in registry.old region.old clock) (decoded request.now)) }
+    requires message { IfOk message.now (λ m. IsAllowed m × HasBytes m) }
+    requires held { IsPieceHeld registry.old region.old }
+    ensures row { IsRow (λ f. row_of f message.now) registry.old registry.new region.old region.new result }
+    ensures body { IfOk result (λ said. (clock : ℕ) → said ≡ body_of (state_in registry.old region.old clock) message.now) }
 {
-    match decode(request) {
-        Ok(message) => handle(registry, region, &message),
+    match message {
+        Ok(message) => handle(registry, region, message),
         Err(_fault) => Err(Errno::INVALID),
     }
 }

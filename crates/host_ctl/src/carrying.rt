@@ -144,7 +144,7 @@ fn pass_parts<P: Dsp>(side: &mut Side<'_, P>, comp: u32, blob: &[u8]) -> Result<
 {
     let passed = send_parts(comp, blob, side.dsp, side.io, side.out);
     if is_down(&passed) {
-        link_down(side.plan, side.kept, side.heap, side.dsp, side.io, side.out);
+        link_down(side.plan, side.kept, side.dsp, side.io, side.out);
     }
     passed
 }

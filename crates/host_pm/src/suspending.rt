@@ -110,7 +110,7 @@ fn go_down<P: Dsp>(side: &mut Side<'_, P>) -> Result<(), HostFault>
     ensures same { SameSide side.old side.new }
 {
     let sent = send_down(side.plan, side.kept, side.dsp, side.io, side.out);
-    link_down(side.plan, side.kept, side.heap, side.dsp, side.io, side.out);
+    link_down(side.plan, side.kept, side.dsp, side.io, side.out);
     sent
 }
 

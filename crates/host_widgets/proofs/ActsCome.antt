@@ -1,5 +1,6 @@
 -- What an act's exchange came to, where the firmware answers the act as the record says.
 use Rattle.std.proofs.Common.{◌≡◌, ⊎_elim, refl, sym, ap, ◌∙◌, ℕ, zero, suc, ◌-◌, List, Option, Some, None, Result, Ok, Err, ℤ}
+use Rattle.std.specs.Prelude.{is_some}
 use Rattle.sof_base.specs.declared.errno.Errno.{Errno}
 use Rattle.sof_base.specs.Ports.{Io}
 use Rattle.stream_law.specs.State.{FwState, view_of}
@@ -53,6 +54,8 @@ module _ {D : Type 0} (means : Meaning D) (plan : Plan) (heap : ℕ) (kept : Rec
       let free = was-free (own plan heap kept act) next took.next (sym answered ∙ sym (row-decoded before.0 (act_message plan act) message) ∙ took.row) in (
         record { lag = lag; fate = Pass },
         record {
+          on = ap is_some on;
+          message = message;
           answer = answer;
           exchanged = exchanged;
           lag = refl;
@@ -66,6 +69,8 @@ module _ {D : Type 0} (means : Meaning D) (plan : Plan) (heap : ℕ) (kept : Rec
       let same = was-refused (own plan heap kept act) next it.error (sym answered ∙ sym (row-decoded before.0 (act_message plan act) message) ∙ it.row) in (
         record { lag = lag; fate = Pass },
         record {
+          on = ap is_some on;
+          message = message;
           answer = answer;
           exchanged = exchanged;
           lag = refl;
@@ -78,6 +83,8 @@ module _ {D : Type 0} (means : Meaning D) (plan : Plan) (heap : ℕ) (kept : Rec
       (λ it. (
         record { lag = lag; fate = Refuse it.error },
         record {
+          on = ap is_some on;
+          message = message;
           answer = answer;
           exchanged = exchanged;
           lag = refl;
@@ -89,6 +96,8 @@ module _ {D : Type 0} (means : Meaning D) (plan : Plan) (heap : ℕ) (kept : Rec
       (λ it. (
         record { lag = lag; fate = Drop },
         record {
+          on = ap is_some on;
+          message = message;
           answer = answer;
           exchanged = exchanged;
           lag = refl;

@@ -1,8 +1,9 @@
 -- Acts over any device: the exchange of each, and what its message met there.
-use Rattle.std.specs.Prelude.{◌≡◌, ℕ, ◌-◌, List, [], ◌∷◌, Bool, true, false, Option, Result, Ok, Err}
+use Rattle.std.specs.Prelude.{◌≡◌, ℕ, ◌-◌, List, [], ◌∷◌, Bool, true, false, Option, is_some, Result, Ok, Err}
 use Rattle.stream_law.specs.Past as past
 use Rattle.stream_law.specs.Past.{Moment}
 use Rattle.ipc3_model.specs.declared.reply.Reply.{Reply}
+use Rattle.ipc3_model.specs.Meanings.{IsMessage}
 use Rattle.ipc3_model.specs.Messages.{message_spelling}
 use Rattle.mbox_link.specs.declared.fates.Fate.{Fate}
 use Rattle.mbox_link.specs.declared.fates.Fate.TheVariants.{Pass, Refuse, Drop, Lose}
@@ -32,9 +33,11 @@ Counted means (Refuse e) old new = Rose (means.refusals old) (means.refusals new
 Counted means Drop old new = Rose (means.faults old) (means.faults new)
 Counted means Lose old new = Rose (means.faults old) (means.faults new)
 
--- One exchange, of the act's message. What that met is what the exchange did: the ticks that `pending` fell by, and the fate that
--- its answer shows.
+-- One exchange with a device that is on, of the act's message, which is one that is written. What that met is what the exchange did: the
+-- ticks that `pending` fell by, and the fate that its answer shows.
 pub record ActDid {D : Type 0} (means : Meaning D) (plan : Plan) (heap : ℕ) (kept : Record) (act : Act) (m : Meeting) (w v : World D) : Type 0 where
+  pub on : is_some (means.on w.device) ≡ true
+  pub message : IsMessage (act_message plan act)
   pub answer : Option (List ℕ)
   pub exchanged : Exchanged means (message_spelling (act_message plan act)) answer w v
   pub lag : m.lag ≡ means.pending w.device - means.pending v.device

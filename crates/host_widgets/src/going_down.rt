@@ -43,7 +43,6 @@ fn halt_all(streams: &mut Items<StreamRec>)
 pub fn link_down<P: Dsp>(
     plan: &Plan,
     kept: &mut Record,
-    heap: u32,
     dsp: &mut P,
     io: &mut Inputs,
     out: &mut Outputs,

@@ -28,7 +28,7 @@ pub fn hear<P: Dsp>(message: &Message, side: &mut Side<'_, P>) -> Result<Reply, 
 {
     let answer = send(message, side.dsp, side.io, side.out);
     if is_down(&answer) {
-        link_down(side.plan, side.kept, side.heap, side.dsp, side.io, side.out);
+        link_down(side.plan, side.kept, side.dsp, side.io, side.out);
     }
     answer
 }

@@ -1,5 +1,6 @@
 pub mod LinesAt
 pub mod LinkFates
+pub mod Draining
 pub mod StayedCounts
 pub mod Agreement
 pub mod Keeping

@@ -42,7 +42,7 @@ module _ {P : Type 0} (means : Meaning P) (plan : Plan) (heap : ℕ) (kept : Rec
   after_is : v.device ≡ after_message w.device v.device.device
   after_is = did.exchanged.did.1
 
-  still-quiet : means.pending v.device.device ≡ 0
+  pub still-quiet : means.pending v.device.device ≡ 0
   still-quiet = let less = (exchange_steady means request did.answer w v did.exchanged).pending in omega (arith, quiet, less)
 
   still-held : AreHeld v.device.entries
@@ -63,10 +63,10 @@ module _ {P : Type 0} (means : Meaning P) (plan : Plan) (heap : ℕ) (kept : Rec
   by_fate Lose meant u met = sym did.came ∙ ap (λ (a : Option (List ℕ)). came_to (verdict a)) met.0
 
   -- the queue goes on as the link does
-  next-is : (doing : Doing) → fate_met (next_fate w.device) (doing number) ≡ fate_met (next_fate w.device) m.fate → next_meeting doing (queue_of w.device) ≡ (record { lag = m.lag; fate = fate_met (next_fate w.device) m.fate }, queue_of v.device)
+  pub next-is : (doing : Doing) → fate_met (next_fate w.device) (doing number) ≡ fate_met (next_fate w.device) m.fate → next_meeting doing (queue_of w.device) ≡ (record { lag = m.lag; fate = fate_met (next_fate w.device) m.fate }, queue_of v.device)
   next-is doing is = λ i. (record { lag = sym lag-is i; fate = is i }, queue_of (sym after_is i))
 
-  same-act : one_act plan heap kept act m ≡ one_act plan heap kept act (record { lag = m.lag; fate = fate_met (next_fate w.device) m.fate })
+  pub same-act : one_act plan heap kept act m ≡ one_act plan heap kept act (record { lag = m.lag; fate = fate_met (next_fate w.device) m.fate })
   same-act =
       let late = did.exchanged.did.0 in
       λ i. performed plan act kept (lag_of m) (by_fate (next_fate w.device) (planned-meant number w.device.entries held.meant) late.0 late.2 i)

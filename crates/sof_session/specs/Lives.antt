@@ -2,7 +2,7 @@
 use Rattle.std.specs.Prelude.{◌≡◌, ℕ, List, [], ◌∷◌, Option}
 use Rattle.std.specs.List.{flat_map}
 use Rattle.sof_base.specs.Ports.{InputView, OutputView}
-use Rattle.mbox_link.specs.Calls.{Meaning, world}
+use Rattle.mbox_link.specs.Calls.{Meaning, Call, Did, world}
 use Rattle.tplg_plan.specs.declared.plans.Plan.{Plan}
 use Rattle.sof_script.specs.declared.script.Command.{Command}
 use Rattle.sof_session.specs.Agreement.{AreAgreed}
@@ -30,11 +30,12 @@ inputs_of (Seated seat inputs slots) = inputs
 -- ---- turns
 
 -- A session is begun, its inputs are filled by reads, each a slot with the bytes that came, after which that slot would be read next
--- if any, or it carries out a command.
+-- if any, or it carries out a command. Or a device outside a session is given a call.
 pub data Task : Type 0 where
   Begin : (plan : Plan) (heap : ℕ) (inputs : List InputView) (slots : List ℕ) → Task
   Fill : (reads : List (ℕ × List ℕ)) (next : Option ℕ) → Task
   Carry : (command : Command) → Task
+  Give : (call : Call) → Task
 
 -- a task with what it answered
 pub record Turn : Type 0 where
@@ -52,19 +53,29 @@ pub record Carries {P : Type 0} (means : Meaning P) (command : Command) (out : O
   pub heap_is : new.heap ≡ old.heap
   pub agrees : AreAgreed means new
 
--- a turn: a session is begun over a bare device, has its inputs filled and stays as it is, or carries out a command
+-- a turn: a session is begun over a bare device, has its inputs filled and stays as it is, or carries out a command; or a bare device
+-- does a call, with endpoints that have no slots
 abbrev pub Turned : {P : Type 0} → Meaning P → Task → Out → Life P → Life P → Type 0
 Turned means (Begin plan heap inputs slots) out (Bare dsp) new = new ≡ Seated (new_seat plan heap dsp) inputs slots
 Turned means (Fill reads next) out (Seated seat inputs slots) (Seated seat' inputs' slots') =
     (seat' ≡ seat) × (slots' ≡ slots) × FilledBy reads inputs inputs' × (next_read inputs' ≡ next)
 Turned means (Carry command) out (Seated seat inputs slots) (Seated seat' inputs' slots') =
     (slots' ≡ slots) × Carries means command out seat seat' inputs inputs' slots
+Turned means (Give call) out (Bare dsp) (Bare dsp') = Did means call (world dsp [] []) (world dsp' [] [])
 Turned means _ out old new = ⊥
 
--- turns, one after another
+-- what a turn may be, by its task and what it answered, from one life to the next
+abbrev pub Turning : Type 0 → Type 1
+Turning L = Task → Out → L → L → Type 0
+
+-- turns, one after another, each of which is so
+abbrev pub AreTurns : {L : Type 0} → Turning L → L → List Turn → L → Type 0
+AreTurns by p [] q = q ≡ p
+AreTurns {L} by p (turn ∷ turns) q = (m : L) × by turn.task turn.out p m × AreTurns by m turns q
+
+-- of sessions
 abbrev pub Turns : {P : Type 0} → Meaning P → Life P → List Turn → Life P → Type 0
-Turns means p [] q = q ≡ p
-Turns {P} means p (turn ∷ turns) q = (m : Life P) × Turned means turn.task turn.out p m × Turns means m turns q
+Turns means p turns q = AreTurns (Turned means) p turns q
 
 -- ---- what turns read and answered
 

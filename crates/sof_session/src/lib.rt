@@ -9,3 +9,4 @@ mod words;
 
 pub use laws::one_run;
 pub use session::Session;
+pub use words::kind_words;

@@ -3,6 +3,7 @@ ghost use Rattle.std.specs.Prelude.{◌≡◌, ℕ, ◌+◌, ◌<◌, ◌≤◌,
 ghost use Rattle.sof_base.specs.Ports.{Io, HasRoom};
 ghost use Rattle.sof_base.specs.DrainedOutputs.{drained};
 ghost use Rattle.mbox_link.specs.Calls.{MovesBy, world};
+ghost use Rattle.mbox_link.specs.Drained.{Drained};
 ghost use Rattle.mbox_link.specs.Fates.{IsMeant};
 ghost use Rattle.mbox_link.specs.Link.{link};
 ghost use Rattle.tplg_plan.specs.Sound.{IsSound};
@@ -17,7 +18,7 @@ ghost use Rattle.sof_session.specs.Agreement.{AreAgreed};
 ghost use Rattle.sof_session.specs.CommandRanges.{is_in_range, most_sent};
 ghost use Rattle.sof_session.specs.Commands.{is_tick};
 ghost use Rattle.sof_session.specs.Fills.{input_ends};
-ghost use Rattle.sof_session.specs.Seat.{new_seat};
+ghost use Rattle.sof_session.specs.Seat.{new_seat, with_device};
 ghost use Rattle.sof_session.specs.SessionCalls.{Stays, CallRan, LoadRan, ResumeRan, PlanRan, LagRan, ports};
 ghost use Rattle.sof_session.specs.SessionStep.{CommandDone};
 ghost use Rattle.sof_session.specs.Show.{show_lines};
@@ -29,7 +30,7 @@ use host_ctl::{get, read, set, set_bytes};
 use host_pcm::Ask;
 use host_pm::{resume, suspend};
 use host_widgets::{Answer, Power, Record, Trigger, load, unload};
-use mbox_link::{Dsp, Fate, FaultLink, NoRoom};
+use mbox_link::{Drain, Dsp, Fate, FaultLink, NoRoom};
 use sof_base::{Bounded, Name44, NoMemory};
 use sof_io::{Inputs, Outputs};
 use sof_script::{Command, Line};
@@ -88,6 +89,13 @@ impl<P: Dsp> Session<P> {
         ensures agreed { AreAgreed P.means self }
     {
         self.link.into_dsp()
+    }
+
+    /// The device as it stands.
+    pub fn dsp(&self) -> &P
+        ensures { result.now ≡ self.now.link.device }
+    {
+        self.link.dsp()
     }
 
     /// The plan that it loads.
@@ -392,5 +400,16 @@ impl<P: Dsp> Session<P> {
         ensures { result ≡ self.now.link.sent }
     {
         self.link.sent()
+    }
+}
+
+impl<P: Drain> Session<P> {
+    /// Lets the device let go of what it holds. All else stays: the record, what is planned, what was sent, the plan and the heap.
+    pub fn drain(&mut self)
+        ensures drained { Drained P.means P.empties self.old.link.device self.new.link.device }
+        ensures rest { self.new ≡ with_device self.old self.new.link.device }
+        ensures agreed { AreAgreed P.means self.new }
+    {
+        self.link.drain()
     }
 }

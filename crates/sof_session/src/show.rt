@@ -7,7 +7,7 @@ ghost use Rattle.sof_session.specs.Show as show;
 ghost use Rattle.sof_session.specs.StateLines as state_lines;
 ghost use Rattle.sof_session.specs.ShownLines as shown_lines;
 
-use crate::words::{say_end, say_format, say_found, say_kind, say_params, write_power};
+use crate::words::{kind_words, say_end, say_found, say_params, write_power};
 use host_widgets::{ControlRec, Power, Record, StreamRec};
 use sof_script::{Line, say_bytes, say_values};
 use stream_law::{Comp, Edge, Pipe};
@@ -33,7 +33,7 @@ fn write_comp(id: u32, comp: &Comp, name: &[u8], line: &mut Line)
     line.say(b"comp ");
     line.say_number(id);
     line.say(b" ");
-    say_kind(comp.kind, line);
+    line.say(kind_words(comp.kind));
     line.say(b" pipe ");
     line.say_number(comp.pipe);
     line.say(b" ");

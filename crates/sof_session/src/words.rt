@@ -20,40 +20,37 @@ pub fn write_power(power: Power, line: &mut Line)
     }
 }
 
-pub fn say_format(format: Format, line: &mut Line)
-    requires { length line.old + 3 ≤ 2304 }
-    ensures said { line.new ≡ line.old ++ show.format_words format }
-    ensures longer { length line.new ≤ length line.old + 3 }
+/// A format, as scripts write it.
+pub fn format_words(format: Format) -> &'static [u8]
+    ensures words { result.now ≡ show.format_words format }
+    ensures short { length result.now ≤ 3 }
 {
     match format {
-        Format::S16 => line.say(b"s16"),
-        Format::S24 => line.say(b"s24"),
-        Format::S32 => line.say(b"s32"),
+        Format::S16 => b"s16",
+        Format::S24 => b"s24",
+        Format::S32 => b"s32",
     }
 }
 
-// A component's kind, with the format of a DAI.
-pub fn say_kind(kind: Kind, line: &mut Line)
-    requires { length line.old + 15 ≤ 2304 }
-    ensures said { line.new ≡ line.old ++ show.kind_words kind }
-    ensures longer { length line.new ≤ length line.old + 15 }
+/// A component's kind, with the format of a DAI.
+pub fn kind_words(kind: Kind) -> &'static [u8]
+    ensures words { result.now ≡ show.kind_words kind }
+    ensures short { length result.now ≤ 15 }
 {
     match kind {
-        Kind::HostPlay => line.say(b"host-play"),
-        Kind::HostCapture => line.say(b"host-capture"),
-        Kind::DaiPlay(format) => {
-            line.say(b"dai-play ");
-            say_format(format, line);
-        }
-        Kind::DaiCapture(format) => {
-            line.say(b"dai-capture ");
-            say_format(format, line);
-        }
-        Kind::Volume => line.say(b"volume"),
-        Kind::Mixer => line.say(b"mixer"),
-        Kind::Mux => line.say(b"mux"),
-        Kind::Eq => line.say(b"eq"),
-        Kind::Demux => line.say(b"demux"),
+        Kind::HostPlay => b"host-play",
+        Kind::HostCapture => b"host-capture",
+        Kind::DaiPlay(Format::S16) => b"dai-play s16",
+        Kind::DaiPlay(Format::S24) => b"dai-play s24",
+        Kind::DaiPlay(Format::S32) => b"dai-play s32",
+        Kind::DaiCapture(Format::S16) => b"dai-capture s16",
+        Kind::DaiCapture(Format::S24) => b"dai-capture s24",
+        Kind::DaiCapture(Format::S32) => b"dai-capture s32",
+        Kind::Volume => b"volume",
+        Kind::Mixer => b"mixer",
+        Kind::Mux => b"mux",
+        Kind::Eq => b"eq",
+        Kind::Demux => b"demux",
     }
 }
 
@@ -97,6 +94,6 @@ pub fn say_params(params: Option<Params>, line: &mut Line)
         line.say(b" ");
         line.say_number(u32::from(params.channels));
         line.say(b" ");
-        say_format(params.format, line);
+        line.say(format_words(params.format));
     }
 }

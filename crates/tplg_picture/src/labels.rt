@@ -6,8 +6,9 @@ ghost use Rattle.sof_session.specs.Show as show;
 ghost use Rattle.tplg_picture.specs.Labels as parts;
 ghost use Rattle.tplg_picture.specs.Picture as law;
 
-use crate::words::{say, say_escaped, say_kind, say_number};
+use crate::words::{say, say_escaped, say_number};
 use sof_base::NoMemory;
+use sof_session::kind_words;
 use stream_law::Comp;
 use tplg_plan::{ControlKind, ControlPlan, Plan};
 
@@ -108,7 +109,7 @@ pub fn say_comp(line: &mut Vec<u8>, plan: &Plan, comp: &Comp) -> Result<(), NoMe
 {
     say_name(line, plan, comp.id)?;
     say(line, b"\\n")?;
-    say_kind(line, comp.kind)?;
+    say(line, kind_words(comp.kind))?;
     say_ramp(line, comp.ramp)?;
     say_control(line, plan, comp.id)
 }

@@ -5,8 +5,7 @@ ghost use Rattle.sof_session.specs.Show as show;
 ghost use Rattle.tplg_picture.specs.Picture as law;
 
 use itoa::Buffer;
-use sof_base::{Format, NoMemory};
-use stream_law::Kind;
+use sof_base::NoMemory;
 
 /// Bytes behind those of a line.
 pub fn say(line: &mut Vec<u8>, piece: &[u8]) -> Result<(), NoMemory>
@@ -54,37 +53,4 @@ pub fn say_escaped(line: &mut Vec<u8>, text: &[u8]) -> Result<(), NoMemory>
         say_escaped_byte(line, *byte)?;
     }
     Ok(())
-}
-
-fn say_format(line: &mut Vec<u8>, format: Format) -> Result<(), NoMemory>
-    ensures { OnOk result (line.new.items ≡ line.old.items ++ show.format_words format) }
-{
-    match format {
-        Format::S16 => say(line, b"s16"),
-        Format::S24 => say(line, b"s24"),
-        Format::S32 => say(line, b"s32"),
-    }
-}
-
-/// A component's kind, with the format of a DAI.
-pub fn say_kind(line: &mut Vec<u8>, kind: Kind) -> Result<(), NoMemory>
-    ensures { OnOk result (line.new.items ≡ line.old.items ++ show.kind_words kind) }
-{
-    match kind {
-        Kind::HostPlay => say(line, b"host-play"),
-        Kind::HostCapture => say(line, b"host-capture"),
-        Kind::DaiPlay(format) => {
-            say(line, b"dai-play ")?;
-            say_format(line, format)
-        }
-        Kind::DaiCapture(format) => {
-            say(line, b"dai-capture ")?;
-            say_format(line, format)
-        }
-        Kind::Volume => say(line, b"volume"),
-        Kind::Mixer => say(line, b"mixer"),
-        Kind::Mux => say(line, b"mux"),
-        Kind::Eq => say(line, b"eq"),
-        Kind::Demux => say(line, b"demux"),
-    }
 }

@@ -47,13 +47,32 @@ fn fated(alloc: Global, failing: Failing) -> Result<FaultLink<Firmware>, Fail>
     }
 }
 
-/// What a run came to: its status, whether the device is on, what its link still holds, and what was said.
-#[derive(Debug, Drop)]
-struct Outcome {
+/// How a run ended: its status, whether the device is on, and what its link still holds.
+#[derive(Clone, Copy, Debug)]
+struct Ending {
     status: u8,
     on: bool,
     held: u32,
-    said: Vec<u8>,
+}
+
+// A run of these words over a desk and this device. Every test calls `run` through here, so its contract is read once.
+fn run_over(
+    alloc: Global,
+    words: &[&str],
+    failing: Failing,
+    desk: &mut MemDesk,
+) -> Result<Ending, Fail> {
+    let mut texts = Vec::new(alloc);
+    for word in words {
+        texts.push(String::from_str(alloc, word)?)?;
+    }
+    let dsp = fated(alloc, failing)?;
+    let ended = run(alloc, &texts, desk, dsp);
+    Ok(Ending {
+        status: ended.status,
+        on: ended.dsp.on(),
+        held: ended.dsp.held(),
+    })
 }
 
 const SCRIPT: &[u8] = b"load
@@ -61,27 +80,6 @@ open PCM0P
 params PCM0P 48000 2 s16
 start PCM0P
 ";
-
-// A run of the script over the thin graph and this device.
-fn played_over(alloc: Global, failing: Failing) -> Result<Outcome, Fail> {
-    let topology = thin(alloc)?;
-    let mut desk = MemDesk::new(alloc, 4096)?;
-    desk.put_file("a.tplg", &topology)?;
-    desk.put_file("s.txt", SCRIPT)?;
-    let mut words = Vec::new(alloc);
-    for word in ["play", "992", "a.tplg", "s.txt"] {
-        words.push(String::from_str(alloc, word)?)?;
-    }
-    let dsp = fated(alloc, failing)?;
-    let ended = run(alloc, &words, &mut desk, dsp);
-    let said = Vec::from_slice(alloc, desk.said())?;
-    Ok(Outcome {
-        status: ended.status,
-        on: ended.dsp.on(),
-        held: ended.dsp.held(),
-        said,
-    })
-}
 
 // Plays the script over such a device: the run ends with 0, the device is on or off, and its link holds so many plans.
 fn expect(
@@ -92,11 +90,16 @@ fn expect(
     held: u32,
     said: &[u8],
 ) -> Result<(), Fail> {
-    let outcome = played_over(alloc, failing)?;
-    same(rt, &"a status", &outcome.status, &0);
-    same(rt, &"the power", &outcome.on, &on);
-    same(rt, &"what is planned", &outcome.held, &held);
-    same(rt, &"what is said", &outcome.said.as_slice(), &said);
+    let topology = thin(alloc)?;
+    let mut desk = MemDesk::new(alloc, 4096)?;
+    desk.put_file("a.tplg", &topology)?;
+    desk.put_file("s.txt", SCRIPT)?;
+    let words = ["play", "992", "a.tplg", "s.txt"];
+    let ending = run_over(alloc, words.as_slice(), failing, &mut desk)?;
+    same(rt, &"a status", &ending.status, &0);
+    same(rt, &"the power", &ending.on, &on);
+    same(rt, &"what is planned", &ending.held, &held);
+    same(rt, &"what is said", &desk.said(), &said);
     Ok(())
 }
 
@@ -139,5 +142,49 @@ fn a_device_refuses_and_loses_messages(rt: HostRuntime) -> Result<(), Fail> {
         true,
         1,
         b"1 ok\n2 ok\n3 ok\n4 ok\n",
+    )
+}
+
+// A boot with 992 bytes, and an empty message with its reply of -22.
+const TRACE: [u8; 40] = [
+    1, 0, 0, 0, 4, 0, 0, 0, 0xE0, 3, 0, 0, 3, 0, 0, 0, 0, 0, 0, 0, 4, 0, 0, 0, 12, 0, 0, 0, 12, 0,
+    0, 0, 0, 0, 0, 0x10, 0xEA, 0xFF, 0xFF, 0xFF,
+];
+
+// Replays the trace over such a device: the run ends with this status, and says so.
+fn expect_replay(
+    rt: &impl Abort,
+    alloc: Global,
+    failing: Failing,
+    status: u8,
+    said: &[u8],
+) -> Result<(), Fail> {
+    let mut desk = MemDesk::new(alloc, 4096)?;
+    desk.put_file("x.trace", TRACE.as_slice())?;
+    let words = ["replay", "x.trace"];
+    let ending = run_over(alloc, words.as_slice(), failing, &mut desk)?;
+    same(rt, &"a status", &ending.status, &status);
+    same(rt, &"what is said", &desk.said(), &said);
+    Ok(())
+}
+
+// A message that the device drops ends a replay; its own refusal is another reply than the recorded one.
+#[test]
+fn a_device_that_fails_ends_a_replay(rt: HostRuntime) -> Result<(), Fail> {
+    let alloc = rt.alloc();
+    expect_replay(&rt, alloc, Failing::DropsFirst, 10, b"device\n".as_slice())?;
+    expect_replay(
+        &rt,
+        alloc,
+        Failing::RefusesFirst,
+        2,
+        b"trace reply 20\n".as_slice(),
+    )?;
+    expect_replay(
+        &rt,
+        alloc,
+        Failing::DropsTenth,
+        0,
+        b"boots 1\nmessages 1\nticks 0\npower on\n",
     )
 }

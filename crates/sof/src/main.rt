@@ -18,7 +18,7 @@ use std::process::ExitCode;
 use std::{env, fmt, io};
 
 /// The greatest heap of the firmware, in bytes.
-const ROOM: u32 = 16777216;
+pub const ROOM: u32 = 16777216;
 
 const HELP: &str = "\
 Forms:
@@ -28,7 +28,10 @@ Forms:
   sof compile SOURCE OUT          makes a topology file from a source in TOML
   sof source TOPOLOGY OUT         makes the source of a topology file, in TOML
   sof stress N                    carries out what N draws, from 1 to 1000, and counts it
+  sof trace HEAP TOPOLOGY SCRIPT TRACE
+                                  plays a script, and keeps the device's messages in TRACE
   sof decode TRACE                tells the records of a trace in words, one a line
+  sof replay TRACE                gives the records of a trace to a device, and judges its replies
   sof --help, sof -h              prints this text
   sof --version, sof -V           prints the version
 
@@ -39,13 +42,14 @@ Statuses:
   0  all was carried out; the transcript tells which commands were refused
   1  the words have none of the forms
   2  TOPOLOGY is no topology file, it breaks a rule, or no source carries it; or
-     TRACE has a fault
+     TRACE has a fault, or a record of it is not what the device does
   3  a file or standard output failed; standard error tells which and why
   4  a line of SCRIPT or an entry of SOURCE is at fault
   5  a file is longer than its limit
   6  an argument is no text in UTF-8
   7  memory was wanting
   8  the ticks of SCRIPT sum to more than 60000
+ 10  the device failed while a trace was given to it
 ";
 
 const VERSION: &str = "sof 0.1.0\n";
@@ -130,12 +134,14 @@ fn explain(rt: &HostRuntime, words: &[String], status: u8) -> Result<(), NoMemor
     if let Some(sentence) = reason(rt, words, status)? {
         tell(rt, sentence.as_str());
     }
-    if let [form, _, _, script] = words {
-        if form.as_str() == "play" && status == 0 {
-            return tell_waves(rt, script.as_str());
-        }
+    if status != 0 {
+        return Ok(());
     }
-    Ok(())
+    match words {
+        [form, _, _, script] if form.as_str() == "play" => tell_waves(rt, script.as_str()),
+        [form, _, _, script, _] if form.as_str() == "trace" => tell_waves(rt, script.as_str()),
+        _ => Ok(()),
+    }
 }
 
 // The top call over real files and a firmware.

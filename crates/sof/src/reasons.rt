@@ -1,13 +1,15 @@
 // Why a run came to its status, read off its files once more.
 ghost use Rattle.std.specs.Prelude.{◌≤◌, length, IfOk, IfSome};
 
-use crate::tell;
+use crate::{ROOM, tell};
+use fw_core::Firmware;
 use sof_base::NoMemory;
 use sof_desk::{Desk, LoadFault, OsDesk};
 use sof_faults::{
-    Wave, binding_sentence, no_source_sentence, script_sentence, source_sentence,
-    topology_sentence, trace_sentence,
+    Misfit, Wave, binding_sentence, misfit_sentence, no_source_sentence, script_sentence,
+    source_sentence, topology_sentence, trace_sentence,
 };
+use sof_run::{ReplayFault, record_at_fault};
 use sof_script::parse;
 use std::fs;
 use std::fs::File;
@@ -70,6 +72,23 @@ fn trace_reason(rt: &HostRuntime, name: &str) -> Result<Option<String>, NoMemory
     }
 }
 
+// What is wrong with a record of the trace of a name that is given to a device.
+fn replay_reason(rt: &HostRuntime, name: &str) -> Result<Option<String>, NoMemory> {
+    let Some(bytes) = loaded(rt, name, TRACE_LIMIT)? else {
+        return Ok(None);
+    };
+    let dsp = Firmware::new(rt.alloc(), ROOM)?;
+    let (misfit, at) = match record_at_fault(rt.alloc(), &bytes, dsp)? {
+        Some(ReplayFault::Broken(_)) => return trace_sentence(rt.alloc(), name, &bytes),
+        Some(ReplayFault::Order(at)) if at == bytes.len() => (Misfit::End, at),
+        Some(ReplayFault::Order(at)) => (Misfit::Order, at),
+        Some(ReplayFault::Lost(at)) => (Misfit::Lost, at),
+        Some(ReplayFault::Replied(at)) => (Misfit::Reply, at),
+        None => return Ok(None),
+    };
+    Ok(Some(misfit_sentence(rt.alloc(), name, at, misfit)?))
+}
+
 // What is wrong with the source of a name.
 fn source_reason(rt: &HostRuntime, name: &str) -> Result<Option<String>, NoMemory> {
     match loaded(rt, name, LIMIT)? {
@@ -101,11 +120,14 @@ fn script_reason(
 pub fn reason(rt: &HostRuntime, words: &[String], status: u8) -> Result<Option<String>, NoMemory> {
     match (status, words) {
         (2, [form, trace]) if form.as_str() == "decode" => trace_reason(rt, trace.as_str()),
+        (2, [form, trace]) if form.as_str() == "replay" => replay_reason(rt, trace.as_str()),
         (2, [_, topology]) => topology_reason(rt, topology.as_str()),
         (2, [_, topology, _]) => no_source_reason(rt, topology.as_str()),
-        (2, [_, _, topology, _]) => topology_reason(rt, topology.as_str()),
+        (2, [_, _, topology, _] | [_, _, topology, _, _]) => topology_reason(rt, topology.as_str()),
         (4, [_, source, _]) => source_reason(rt, source.as_str()),
-        (4, [_, _, topology, script]) => script_reason(rt, topology.as_str(), script.as_str()),
+        (4, [_, _, topology, script] | [_, _, topology, script, _]) => {
+            script_reason(rt, topology.as_str(), script.as_str())
+        }
         _ => Ok(None),
     }
 }

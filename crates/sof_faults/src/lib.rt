@@ -16,5 +16,5 @@ pub use script_fault::{binding_sentence, script_sentence};
 pub use shown::{ShownName, Wave};
 pub use source_fault::source_sentence;
 pub use topology_fault::{no_source_sentence, topology_sentence};
-pub use trace_fault::trace_sentence;
+pub use trace_fault::{Misfit, misfit_sentence, trace_sentence};
 pub use words::{WordsFault, words_fault};

@@ -76,6 +76,29 @@ fn record_fault(bytes: &[u8]) -> RecordFault {
     }
 }
 
+/// What is wrong with a record that is given to a device.
+#[derive(Clone, Copy, Debug, Error)]
+pub enum Misfit {
+    #[error("nothing of its kind can come there")]
+    Order,
+    #[error("the trace ends, and its last message has no reply")]
+    End,
+    #[error("a loss, where the device gave a reply")]
+    Lost,
+    #[error("not the reply that the device gave")]
+    Reply,
+}
+
+/// The sentence of a record that is at fault where it is given to a device, with the name of the file in front.
+pub fn misfit_sentence(
+    alloc: Global,
+    file: &str,
+    at: usize,
+    misfit: Misfit,
+) -> Result<String, NoMemory> {
+    Ok(format!(in alloc; "{}: record at byte {at}: {misfit}", ShownName(file))?)
+}
+
 /// The sentence of the first fault of a trace, with the name of the file in front; none where nothing is wrong.
 pub fn trace_sentence(alloc: Global, file: &str, bytes: &[u8]) -> Result<Option<String>, NoMemory> {
     let Some(fault) = first_fault(bytes) else {

@@ -50,7 +50,7 @@ enum Slot {
     File(&'static str),
 }
 
-const FORMS: [Form; 7] = [
+const FORMS: [Form; 9] = [
     Form {
         word: "play",
         takes: "HEAP TOPOLOGY SCRIPT",
@@ -82,7 +82,22 @@ const FORMS: [Form; 7] = [
         slots: &[Slot::Seed],
     },
     Form {
+        word: "trace",
+        takes: "HEAP TOPOLOGY SCRIPT TRACE",
+        slots: &[
+            Slot::Heap,
+            Slot::File("TOPOLOGY"),
+            Slot::File("SCRIPT"),
+            Slot::File("TRACE"),
+        ],
+    },
+    Form {
         word: "decode",
+        takes: "TRACE",
+        slots: &[Slot::File("TRACE")],
+    },
+    Form {
+        word: "replay",
         takes: "TRACE",
         slots: &[Slot::File("TRACE")],
     },

@@ -9,13 +9,14 @@ use Rattle.sof_script.specs.declared.script.Command.{Command}
 use Rattle.sof_session.specs.Seat.{Seat}
 use Rattle.sof_session.specs.Written.{Out}
 use Rattle.sof_session.specs.Fills.{bytes_read, may_grow}
-use Rattle.sof_session.specs.Lives.{Life, Bare, Seated, Task, Fill, Carry, Turn, Turned, Turns, inputs_of, reads_in, carried_outs}
+use Rattle.sof_session.specs.Lives.{Life, Bare, Seated, Task, Fill, Carry, Turn, Turned, AreTurns, inputs_of, reads_in, carried_outs}
 use Rattle.sof_session.proofs.FilledRuns.{AreFilled}
 use Rattle.sof_run.specs.Todo.{End, FillTurn, Over, DoneBy}
 use Rattle.sof_run.specs.Rounds.{Round}
 use Rattle.sof_run.specs.Lines.{lines_after}
 use Rattle.sof_run.specs.Play.{unit_todo, rounds_todo}
 use Rattle.sof_run.specs.Pieces.{Piece, pieces_of, bytes_of_pieces, AreWritten}
+use Rattle.sof_run.proofs.RecordedTurns.{Fronted}
 use Rattle.sof_run.proofs.WrittenPieces.{puts_flush, commands_of, more_none, Wrote, wrote-none, wrote-append, Through, Broke, puts_go}
 use Rattle.sof_run.proofs.UnreadBytes.{Unread, unread_ends, unread_same, ReadOn, reads_go, splits_on}
 
@@ -38,7 +39,7 @@ module _ {D P : Type 0} (means : DeskMeaning D) (dsp : Meaning P) where
 
   abbrev Goes : List Round → Type 0
   Goes rounds = (turns : List Turn) (calls : List DeskCall) (status : ℕ) (old new : D) (seat : Seat P) (inputs : List InputView) (slots : List ℕ) (rest : ℕ → List ℕ) (last : Life P) →
-      DoneBy (rounds_todo rounds End) turns calls status → DeskLed means old calls new → Turns dsp (Seated seat inputs slots) turns last → Unread means inputs rest old → Carried rounds turns status old new rest last
+      DoneBy (rounds_todo rounds End) turns calls status → DeskLed means old calls new → AreTurns (Fronted dsp) (Seated seat inputs slots) turns last → Unread means inputs rest old → Carried rounds turns status old new rest last
 
   -- from a desk where the same was written
   wrote_from : (made : List Piece) (a b e : D) → ((place : DeskPlace) → means.wrote b place ≡ means.wrote a place) → Wrote means made b e → Wrote means made a e
@@ -100,40 +101,40 @@ module _ {D P : Type 0} (means : DeskMeaning D) (dsp : Meaning P) where
         none = λ n none. u.none n (ap (may_grow n) (sym is) ∙ none);
       }
 
-      by_pieces : (turns : List Turn) (seat' : Seat P) (slots' : List ℕ) → Turns dsp (Seated seat' inputs' slots') turns last → Through means (pieces_of round out) (rounds_todo rounds End) turns status on.mid new ⊎ Broke means (pieces_of round out) turns status on.mid new → Carried (round ∷ rounds) (fills reads None fill_out ∷ carries command out ∷ turns) status old new rest last
+      by_pieces : (turns : List Turn) (seat' : Seat P) (slots' : List ℕ) → AreTurns (Fronted dsp) (Seated seat' inputs' slots') turns last → Through means (pieces_of round out) (rounds_todo rounds End) turns status on.mid new ⊎ Broke means (pieces_of round out) turns status on.mid new → Carried (round ∷ rounds) (fills reads None fill_out ∷ carries command out ∷ turns) status old new rest last
       by_pieces turns seat' slots' turned (inl t) =
           before_others turns t.mid t.wrote (others turns t.calls status t.mid new seat' inputs' slots' on.last last t.goes t.led turned (unread_same means inputs' on.last on.mid t.mid t.unread u))
       by_pieces turns seat' slots' turned (inr b) =
-          let is : last ≡ Seated seat' inputs' slots' = subst (λ ts. Turns dsp (Seated seat' inputs' slots') ts last) b.none turned in
+          let is : last ≡ Seated seat' inputs' slots' = subst (λ ts. AreTurns (Fronted dsp) (Seated seat' inputs' slots') ts last) b.none turned in
           subst (λ ts. Carried (round ∷ rounds) (fills reads None fill_out ∷ carries command out ∷ ts) status old new rest last) (sym b.none)
           (last_one b.made b.wrote (inr (b.breaks, refl, b.three)) (ap inputs_of is))
 
-    carried : (reads : List (ℕ × List ℕ)) (fill_out : Out) (turns : List Turn) (later : List DeskCall) (seat : Seat P) (inputs : List InputView) (slots : List ℕ) → ReadOn means reads None later inputs rest old new → DoneBy (unit_todo round (rounds_todo rounds End)) turns later status → Turns dsp (Seated seat inputs slots) turns last → Carried (round ∷ rounds) (fills reads None fill_out ∷ turns) status old new rest last
+    carried : (reads : List (ℕ × List ℕ)) (fill_out : Out) (turns : List Turn) (later : List DeskCall) (seat : Seat P) (inputs : List InputView) (slots : List ℕ) → ReadOn means reads None later inputs rest old new → DoneBy (unit_todo round (rounds_todo rounds End)) turns later status → AreTurns (Fronted dsp) (Seated seat inputs slots) turns last → Carried (round ∷ rounds) (fills reads None fill_out ∷ turns) status old new rest last
     carried reads fill_out [] later seat inputs slots on goes turned = absurd goes
     carried reads fill_out (turn ∷ turns) later seat inputs slots on goes turned =
         let is : turn ≡ carries command turn.out = λ i. record { task = goes.0 i; out = turn.out } in
         let flushes = puts_flush turn.out.written (lines_after round turn.out) (rounds_todo rounds End) in
         let went = puts_go means (pieces_of round turn.out) (rounds_todo rounds End) turns later status on.mid new (subst (λ todo. DoneBy todo turns later status) flushes goes.1) on.led in
-        (elim turned.0 as (λ (m : Life P). Turned dsp (Carry command) turn.out (Seated seat inputs slots) m → Turns dsp m turns last → Carried (round ∷ rounds) (fills reads None fill_out ∷ turn ∷ turns) status old new rest last) [
+        (elim turned.0 as (λ (m : Life P). Turned dsp (Carry command) turned.1.0 (Seated seat inputs slots) m → AreTurns (Fronted dsp) m turns last → Carried (round ∷ rounds) (fills reads None fill_out ∷ turn ∷ turns) status old new rest last) [
           | Bare q ↦ λ step more. absurd step
           | Seated seat' inputs' slots' ↦ λ step more.
               subst (λ (t : Turn). Carried (round ∷ rounds) (fills reads None fill_out ∷ t ∷ turns) status old new rest last) (sym is)
               (by_pieces reads fill_out turn.out later inputs on inputs' (unread_ends means inputs inputs' on.last on.mid step.1.ends on.unread) turns seat' slots' more went)
-        ]) (subst (λ (task : Task). Turned dsp task turn.out (Seated seat inputs slots) turned.0) goes.0 turned.1) turned.2
+        ]) (subst (λ (task : Task). Turned dsp task turned.1.0 (Seated seat inputs slots) turned.0) goes.0 turned.1.1) turned.2
 
     -- ---- behind the reads
 
-    stopped : (reads : List (ℕ × List ℕ)) (slot : ℕ) (out : Out) (turns : List Turn) (later : List DeskCall) (seat : Seat P) (inputs : List InputView) (slots : List ℕ) → ReadOn means reads (Some slot) later inputs rest old new → Over 3 turns later status → Turns dsp (Seated seat inputs slots) turns last → Carried (round ∷ rounds) (fills reads (Some slot) out ∷ turns) status old new rest last
+    stopped : (reads : List (ℕ × List ℕ)) (slot : ℕ) (out : Out) (turns : List Turn) (later : List DeskCall) (seat : Seat P) (inputs : List InputView) (slots : List ℕ) → ReadOn means reads (Some slot) later inputs rest old new → Over 3 turns later status → AreTurns (Fronted dsp) (Seated seat inputs slots) turns last → Carried (round ∷ rounds) (fills reads (Some slot) out ∷ turns) status old new rest last
     stopped reads slot out turns later seat inputs slots on over turned =
-        let is : last ≡ Seated seat inputs slots = subst (λ ts. Turns dsp (Seated seat inputs slots) ts last) over.0 turned in
+        let is : last ≡ Seated seat inputs slots = subst (λ ts. AreTurns (Fronted dsp) (Seated seat inputs slots) ts last) over.0 turned in
         subst (λ n. Carried (round ∷ rounds) (fills reads (Some slot) out ∷ turns) n old new rest last) (sym over.2)
         (subst (λ ts. Carried (round ∷ rounds) (fills reads (Some slot) out ∷ ts) 3 old new rest last) (sym over.0)
         (broke_off reads slot out inputs (ap inputs_of is) (subst (λ cs. ReadOn means reads (Some slot) cs inputs rest old new) over.1 on)))
 
-    filled_go : (turn : Turn) (turns : List Turn) (calls : List DeskCall) (seat : Seat P) (inputs : List InputView) (slots : List ℕ) (f : FillTurn turn calls) → MatchOption f.failed (DoneBy (unit_todo round (rounds_todo rounds End)) turns f.later status) (λ slot. Over 3 turns f.later status) → DeskLed means old calls new → Turns dsp (Seated seat inputs slots) (turn ∷ turns) last → Unread means inputs rest old → Carried (round ∷ rounds) (turn ∷ turns) status old new rest last
+    filled_go : (turn : Turn) (turns : List Turn) (calls : List DeskCall) (seat : Seat P) (inputs : List InputView) (slots : List ℕ) (f : FillTurn turn calls) → MatchOption f.failed (DoneBy (unit_todo round (rounds_todo rounds End)) turns f.later status) (λ slot. Over 3 turns f.later status) → DeskLed means old calls new → AreTurns (Fronted dsp) (Seated seat inputs slots) (turn ∷ turns) last → Unread means inputs rest old → Carried (round ∷ rounds) (turn ∷ turns) status old new rest last
     filled_go turn turns calls seat inputs slots f goes led turned u =
         let is : turn ≡ fills f.reads f.failed turn.out = λ i. record { task = f.task i; out = turn.out } in
-        (elim turned.0 as (λ (m : Life P). Turned dsp (Fill f.reads f.failed) turn.out (Seated seat inputs slots) m → Turns dsp m turns last → Carried (round ∷ rounds) (turn ∷ turns) status old new rest last) [
+        (elim turned.0 as (λ (m : Life P). Turned dsp (Fill f.reads f.failed) turned.1.0 (Seated seat inputs slots) m → AreTurns (Fronted dsp) m turns last → Carried (round ∷ rounds) (turn ∷ turns) status old new rest last) [
           | Bare q ↦ λ step more. absurd step
           | Seated seat' inputs' slots' ↦ λ step more.
               let on = reads_go means f.reads f.failed f.later inputs inputs' rest old new step.2 u (subst (λ cs. DeskLed means old cs new) f.calls_are led) in
@@ -142,12 +143,12 @@ module _ {D P : Type 0} (means : DeskMeaning D) (dsp : Meaning P) where
                 | None ↦ λ on done. carried f.reads turn.out turns f.later seat' inputs' slots' on done more
                 | Some slot ↦ λ on over. stopped f.reads slot turn.out turns f.later seat' inputs' slots' on over more
               ]) on goes)
-        ]) (subst (λ (task : Task). Turned dsp task turn.out (Seated seat inputs slots) turned.0) f.task turned.1) turned.2
+        ]) (subst (λ (task : Task). Turned dsp task turned.1.0 (Seated seat inputs slots) turned.0) f.task turned.1.1) turned.2
 
   pub rounds_go : (rounds : List Round) → Goes rounds
   rounds_go [] turns calls status old new seat inputs slots rest last goes led turned u =
       let same : new ≡ old = subst (λ cs. DeskLed means old cs new) goes.1 led in
-      let is : last ≡ Seated seat inputs slots = subst (λ ts. Turns dsp (Seated seat inputs slots) ts last) goes.0 turned in
+      let is : last ≡ Seated seat inputs slots = subst (λ ts. AreTurns (Fronted dsp) (Seated seat inputs slots) ts last) goes.0 turned in
       subst (λ n. Carried [] turns n old new rest last) (sym goes.2)
       (subst (λ ts. Carried [] ts 0 old new rest last) (sym goes.0) (nothing old new rest inputs last same (ap inputs_of is) u))
   rounds_go (round ∷ rounds) [] calls status old new seat inputs slots rest last goes led turned u = absurd goes

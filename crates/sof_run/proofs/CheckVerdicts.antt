@@ -4,12 +4,11 @@ use Rattle.std.specs.List.{concat}
 use Rattle.std.proofs.lemmas.List.{append-nil}
 use Rattle.sof_desk.specs.declared.calls.LoadFault.TheVariants.{Failed, TooLong, OutOfMemory}
 use Rattle.sof_desk.specs.Desk.{DeskMeaning, DeskCall, Load, Did, Read, Heard, DeskLed, Loaded, Acted}
-use Rattle.mbox_link.specs.Calls.{Meaning}
-use Rattle.sof_session.specs.Lives.{Life, Turn, Turns}
+use Rattle.sof_session.specs.Lives.{Turn}
 use Rattle.tplg_model.specs.declared.block.Topology.{Topology}
 use Rattle.sof_run.specs.declared.prepare.Halt.{Halt}
 use Rattle.sof_run.specs.declared.prepare.Halt.TheVariants as halts
-use Rattle.sof_run.specs.Todo.{End, Says, DoneBy, RanOn}
+use Rattle.sof_run.specs.Todo.{End, Says, DoneBy, Played}
 use Rattle.sof_run.specs.Lines.{no_memory_line, with_newline, halt_line, halt_status}
 use Rattle.sof_run.specs.Play.{lines_todo}
 use Rattle.sof_run.specs.Checking.{check_of, count_lines}
@@ -245,31 +244,31 @@ module _ {D : Type 0} (means : DeskMeaning D) where
     check_told turns (Load n l (Err Failed) ∷ calls) d e status told goes led =
         loaded_told text 0 n l (Err Failed) d led.0 e status led.1 (failed_told text 0 calls led.0 e status goes.2.1 goes.2.2 led.2)
 
-module _ {D P : Type 0} (means : DeskMeaning D) (dsp : Meaning P) (words : List (List ℕ)) (old new : D) (room sent : ℕ) (p q : Life P) (status : ℕ) (ran : RanOn means dsp (todo_of room sent words) old p status new q) where
+module _ {D P : Type 0} (means : DeskMeaning D) (words : List (List ℕ)) (old new : D) (room sent : ℕ) (p q : P) (status : ℕ) (turns : List Turn) (still : turns ≡ [] → q ≡ p) (played : Played means (todo_of room sent words) old turns status new) where
   -- these words name a file, and what was done is that of a check
   module _ (lines : Topology → List (List ℕ)) (named : Option (List ℕ)) (only : (name : List ℕ) → named ≡ Some name → todo_of room sent words ≡ check lines name) where
-    goes_on : (name : List ℕ) → named ≡ Some name → DoneBy (check lines name) ran.turns ran.played.calls status
-    goes_on name is = subst (λ todo. DoneBy todo ran.turns ran.played.calls status) (only name is) ran.played.goes
+    goes_on : (name : List ℕ) → named ≡ Some name → DoneBy (check lines name) turns played.calls status
+    goes_on name is = subst (λ todo. DoneBy todo turns played.calls status) (only name is) played.goes
 
-    none : (name : List ℕ) → named ≡ Some name → ran.turns ≡ []
-    none name is = no_turn lines name ran.turns ran.played.calls status (goes_on name is)
+    none : (name : List ℕ) → named ≡ Some name → turns ≡ []
+    none name is = no_turn lines name turns played.calls status (goes_on name is)
 
     untouched : (name : List ℕ) → named ≡ Some name → q ≡ p
-    untouched name is = subst (λ ts. Turns dsp p ts q) (none name is) ran.turned
+    untouched name is = still (none name is)
 
-    checks_by : Checks means lines named old p ran.played.calls status new q
+    checks_by : Checks means lines named old p played.calls status new q
     checks_by =
         record {
           alone = untouched;
           judged = λ name bytes is by. elim by [
-            | inl told ↦ judge lines name bytes means ran.turns ran.played.calls status old new told (goes_on name is) ran.played.led
-            | inr heard ↦ heard_judge lines name bytes means ran.turns ran.played.calls status old new heard (goes_on name is) ran.played.led
+            | inl told ↦ judge lines name bytes means turns played.calls status old new told (goes_on name is) played.led
+            | inr heard ↦ heard_judge lines name bytes means turns played.calls status old new heard (goes_on name is) played.led
           ];
-          told = λ name bytes t is told short right. check_told means lines name bytes t short (checked_only bytes (Ok t) right) ran.turns ran.played.calls old new status told (goes_on name is) ran.played.led;
+          told = λ name bytes t is told short right. check_told means lines name bytes t short (checked_only bytes (Ok t) right) turns played.calls old new status told (goes_on name is) played.led;
         }
 
-  pub checks : Checks means count_lines (check_of words) old p ran.played.calls status new q
+  pub checks : Checks means count_lines (check_of words) old p played.calls status new q
   checks = checks_by count_lines (check_of words) (checks_alone room sent words)
 
-  pub pictures : Checks means picture_lines (graph_file_of words) old p ran.played.calls status new q
+  pub pictures : Checks means picture_lines (graph_file_of words) old p played.calls status new q
   pictures = checks_by picture_lines (graph_file_of words) (pictures_alone room sent words)

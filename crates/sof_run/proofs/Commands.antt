@@ -10,6 +10,7 @@ use Rattle.sof_base.specs.DrainedOutputs.{drained}
 use Rattle.sof_io.specs.Bound.{output_slots}
 use Rattle.mbox_link.specs.Calls.{Meaning, World, world}
 use Rattle.mbox_link.specs.Wire.{Wire}
+use Rattle.mbox_link.specs.Drained.{Drained}
 use Rattle.sof_script.specs.declared.script.Command.{Command}
 use Rattle.sof_script.specs.declared.script.Command.TheVariants as commands
 use Rattle.sof_script.specs.declared.script.Numbered.{Numbered}
@@ -17,14 +18,16 @@ use Rattle.host_widgets.specs.declared.kept.Record.{Record}
 use Rattle.tplg_plan.specs.declared.plans.Plan.{Plan}
 use Rattle.sof_session.specs.Commands.{Known}
 use Rattle.sof_session.specs.Agreement.{AreAgreed}
-use Rattle.sof_session.specs.Seat.{Seat}
+use Rattle.sof_session.specs.Seat.{Seat, with_device}
 use Rattle.sof_session.specs.SessionStep.{CommandDone}
 use Rattle.sof_session.specs.Show.{show_lines, shown_by}
 use Rattle.sof_session.specs.ShownLines.{IsLineAt}
 use Rattle.sof_session.specs.Fills.{input_ends}
-use Rattle.sof_session.specs.Written.{Out, Written, written_in}
+use Rattle.sof_session.specs.Written.{Out, Written, with_bytes, written_in}
 use Rattle.sof_session.proofs.Writings.{empty-outputs}
-use Rattle.sof_session.specs.Lives.{Life, Seated, Turn, Turned, Carry}
+use Rattle.sof_session.specs.Lives.{Life, Seated, Turn, Turning, Turned, Carry}
+use Rattle.sof_run.specs.Keeping.{trace_slot}
+use Rattle.sof_run.specs.KeptTurns.{KeptTurn}
 use Rattle.sof_run.specs.Todo as todo
 use Rattle.sof_run.specs.Todo.{Todo, Refill, Played, DeskPhase, LeadsOn, PhaseFails, Phase}
 use Rattle.sof_run.specs.Rounds.{Round, command_rounds, rounds_of}
@@ -138,7 +141,7 @@ module _ {D : Type 0} (means : DeskMeaning D) where
     shown_all (commands.Lose k) done old new is phase = absurd (cc is)
     shown_all (commands.Lag k t) done old new is phase = absurd (cc is)
 
-  module _ {P : Type 0} (dsp : Meaning P) where
+  module _ {L : Type 0} (by : Turning L) where
     -- ---- one unit
 
     module _ (round : Round) (answer : Answer) (shown : List (List ℕ)) (written : List Written) where
@@ -152,35 +155,35 @@ module _ {D : Type 0} (means : DeskMeaning D) where
       after rest out = flush_todo out.written (lines_todo (lines_after round out) rest)
 
       -- a turn, the bytes, and the lines
-      pub round_said : (done : Bool) (old m new : D) (p q : Life P) → Turned dsp (Carry round.numbered.command) out p q → DeskPhase means (flush_todo written) true old m → DeskPhase means (lines_todo lines) done m new → Phase means dsp (unit_todo round) done old p new q
+      pub round_said : (done : Bool) (old m new : D) (p q : L) → by (Carry round.numbered.command) out p q → DeskPhase means (flush_todo written) true old m → DeskPhase means (lines_todo lines) done m new → Phase means by (unit_todo round) done old p new q
       round_said true old m new p q turned flushed said = λ rest status end r ran.
-          step_on means dsp (record { task = Carry round.numbered.command; out = out }) (after rest) status old end p q r turned
-          (beside means dsp (flush_todo written) old m q flushed (lines_todo lines rest) status end r (beside means dsp (lines_todo lines) m new q said rest status end r ran))
+          step_on means by (record { task = Carry round.numbered.command; out = out }) (after rest) status old end p q r turned
+          (beside means by (flush_todo written) old m q flushed (lines_todo lines rest) status end r (beside means by (lines_todo lines) m new q said rest status end r ran))
       round_said false old m new p q turned flushed said = λ rest.
-          step_on means dsp (record { task = Carry round.numbered.command; out = out }) (after rest) 3 old new p q q turned
-          (beside means dsp (flush_todo written) old m q flushed (lines_todo lines rest) 3 new q (beside_failed means dsp (lines_todo lines) m new q said rest))
+          step_on means by (record { task = Carry round.numbered.command; out = out }) (after rest) 3 old new p q q turned
+          (beside means by (flush_todo written) old m q flushed (lines_todo lines rest) 3 new q (beside_failed means by (lines_todo lines) m new q said rest))
 
       -- the bytes were not all appended
-      pub round_cut : (old new : D) (p q : Life P) → Turned dsp (Carry round.numbered.command) out p q → DeskPhase means (flush_todo written) false old new → Phase means dsp (unit_todo round) false old p new q
+      pub round_cut : (old new : D) (p q : L) → by (Carry round.numbered.command) out p q → DeskPhase means (flush_todo written) false old new → Phase means by (unit_todo round) false old p new q
       round_cut old new p q turned failed = λ rest.
-          step_on means dsp (record { task = Carry round.numbered.command; out = out }) (after rest) 3 old new p q q turned
-          (beside_failed means dsp (flush_todo written) old new q failed (lines_todo lines rest))
+          step_on means by (record { task = Carry round.numbered.command; out = out }) (after rest) 3 old new p q q turned
+          (beside_failed means by (flush_todo written) old new q failed (lines_todo lines rest))
 
     -- one that is not the last of its command has no lines
-    pub earlier_said : (numbered : Numbered) (answer : Answer) (shown : List (List ℕ)) (written : List Written) (done : Bool) (old new : D) (p q : Life P) →
-        Turned dsp (Carry numbered.command) (record { answer = answer; shown = shown; written = written }) p q → DeskPhase means (flush_todo written) done old new →
-        Phase means dsp (unit_todo (record { numbered = numbered; last = false })) done old p new q
+    pub earlier_said : (numbered : Numbered) (answer : Answer) (shown : List (List ℕ)) (written : List Written) (done : Bool) (old new : D) (p q : L) →
+        by (Carry numbered.command) (record { answer = answer; shown = shown; written = written }) p q → DeskPhase means (flush_todo written) done old new →
+        Phase means by (unit_todo (record { numbered = numbered; last = false })) done old p new q
     earlier_said numbered answer shown written true old new p q turned flushed = round_said (record { numbered = numbered; last = false }) answer shown written true old new new p q turned flushed (none_said new)
     earlier_said numbered answer shown written false old new p q turned failed = round_cut (record { numbered = numbered; last = false }) answer shown written old new p q turned failed
 
     -- ---- the inputs are filled first
 
-    module _ (round : Round) (old m new : D) (p r q : Life P) where
-      pub round_on : (done : Bool) → Phase means dsp Refill true old p m r → Phase means dsp (unit_todo round) done m r new q → Phase means dsp (round_todo round) done old p new q
+    module _ (round : Round) (old m new : D) (p r q : L) where
+      pub round_on : (done : Bool) → Phase means by Refill true old p m r → Phase means by (unit_todo round) done m r new q → Phase means by (round_todo round) done old p new q
       round_on true filled unit = λ rest status end t ran. filled (unit_todo round rest) status end t (unit rest status end t ran)
       round_on false filled unit = λ rest. filled (unit_todo round rest) 3 new q (unit rest)
 
-    pub round_unfilled : (round : Round) (old new : D) (p q : Life P) → Phase means dsp Refill false old p new q → Phase means dsp (round_todo round) false old p new q
+    pub round_unfilled : (round : Round) (old new : D) (p q : L) → Phase means by Refill false old p new q → Phase means by (round_todo round) false old p new q
     round_unfilled round old new p q failed = λ rest. failed (unit_todo round rest)
 
     -- ---- the units of a command
@@ -188,25 +191,25 @@ module _ {D : Type 0} (means : DeskMeaning D) where
     left : (n i : ℕ) → i < n → n - i ≡ suc (n - (i + 1))
     left n i within = omega (arith, within)
 
-    module _ (numbered : Numbered) (n i : ℕ) (old m new : D) (p r q : Life P) (so_far : LeadsOn means dsp (rounds_todo (rounds_after n numbered)) (rounds_todo (rounds_after (n - i) numbered)) old p m r) where
+    module _ (numbered : Numbered) (n i : ℕ) (old m new : D) (p r q : L) (so_far : LeadsOn means by (rounds_todo (rounds_after n numbered)) (rounds_todo (rounds_after (n - i) numbered)) old p m r) where
       -- one that is not the last
-      pub rounds_on : i < n → LeadsOn means dsp (round_todo (record { numbered = numbered; last = false })) (λ rest. rest) m r new q → LeadsOn means dsp (rounds_todo (rounds_after n numbered)) (rounds_todo (rounds_after (n - (i + 1)) numbered)) old p new q
+      pub rounds_on : i < n → LeadsOn means by (round_todo (record { numbered = numbered; last = false })) (λ rest. rest) m r new q → LeadsOn means by (rounds_todo (rounds_after n numbered)) (rounds_todo (rounds_after (n - (i + 1)) numbered)) old p new q
       rounds_on within done = λ rest status end t ran.
-          so_far rest status end t (subst (λ k. todo.RanOn means dsp (rounds_todo (rounds_after k numbered) rest) m r status end t) (sym (left n i within)) (done (rounds_todo (rounds_after (n - (i + 1)) numbered) rest) status end t ran))
+          so_far rest status end t (subst (λ k. todo.RanOn means by (rounds_todo (rounds_after k numbered) rest) m r status end t) (sym (left n i within)) (done (rounds_todo (rounds_after (n - (i + 1)) numbered) rest) status end t ran))
 
-      pub rounds_off : i < n → PhaseFails means dsp (round_todo (record { numbered = numbered; last = false })) m r new q → PhaseFails means dsp (rounds_todo (rounds_after n numbered)) old p new q
+      pub rounds_off : i < n → PhaseFails means by (round_todo (record { numbered = numbered; last = false })) m r new q → PhaseFails means by (rounds_todo (rounds_after n numbered)) old p new q
       rounds_off within failed = λ rest.
-          so_far rest 3 new q (subst (λ k. todo.RanOn means dsp (rounds_todo (rounds_after k numbered) rest) m r 3 new q) (sym (left n i within)) (failed (rounds_todo (rounds_after (n - (i + 1)) numbered) rest)))
+          so_far rest 3 new q (subst (λ k. todo.RanOn means by (rounds_todo (rounds_after k numbered) rest) m r 3 new q) (sym (left n i within)) (failed (rounds_todo (rounds_after (n - (i + 1)) numbered) rest)))
 
       -- the last
-      pub rounds_last : (done : Bool) → n ≤ i → Phase means dsp (round_todo (record { numbered = numbered; last = true })) done m r new q → Phase means dsp (rounds_todo (rounds_after n numbered)) done old p new q
+      pub rounds_last : (done : Bool) → n ≤ i → Phase means by (round_todo (record { numbered = numbered; last = true })) done m r new q → Phase means by (rounds_todo (rounds_after n numbered)) done old p new q
       rounds_last true past phase = λ rest status end t ran.
-          so_far rest status end t (subst (λ k. todo.RanOn means dsp (rounds_todo (rounds_after k numbered) rest) m r status end t) (sym (none n i past)) (phase rest status end t ran))
+          so_far rest status end t (subst (λ k. todo.RanOn means by (rounds_todo (rounds_after k numbered) rest) m r status end t) (sym (none n i past)) (phase rest status end t ran))
         where
           none : (n i : ℕ) → n ≤ i → n - i ≡ 0
           none n i past = omega (arith, past)
       rounds_last false past phase = λ rest.
-          so_far rest 3 new q (subst (λ k. todo.RanOn means dsp (rounds_todo (rounds_after k numbered) rest) m r 3 new q) (sym (none n i past)) (phase rest))
+          so_far rest 3 new q (subst (λ k. todo.RanOn means by (rounds_todo (rounds_after k numbered) rest) m r 3 new q) (sym (none n i past)) (phase rest))
         where
           none : (n i : ℕ) → n ≤ i → n - i ≡ 0
           none n i past = omega (arith, past)
@@ -217,18 +220,18 @@ module _ {D : Type 0} (means : DeskMeaning D) where
     rounds_append [] b rest = refl
     rounds_append (round ∷ a) b rest = ap (round_todo round) (rounds_append a b rest)
 
-    module _ (script : List Numbered) (i : ℕ) (other : Numbered) (old m new : D) (p r q : Life P) (within : i < length script) (so_far : LeadsOn means dsp (commands_todo script) (commands_todo (drop i script)) old p m r) where
+    module _ (script : List Numbered) (i : ℕ) (other : Numbered) (old m new : D) (p r q : L) (within : i < length script) (so_far : LeadsOn means by (commands_todo script) (commands_todo (drop i script)) old p m r) where
       here : (rest : Todo) → commands_todo (drop i script) rest ≡ rounds_todo (command_rounds (get_or script i other)) (commands_todo (drop (i + 1) script) rest)
       here rest = ap (λ cs. commands_todo cs rest) (drop_more script i other within) ∙ rounds_append (command_rounds (get_or script i other)) (rounds_of (drop (i + 1) script)) rest
 
       -- a command more
-      pub commands_on : LeadsOn means dsp (rounds_todo (command_rounds (get_or script i other))) (λ rest. rest) m r new q → LeadsOn means dsp (commands_todo script) (commands_todo (drop (i + 1) script)) old p new q
+      pub commands_on : LeadsOn means by (rounds_todo (command_rounds (get_or script i other))) (λ rest. rest) m r new q → LeadsOn means by (commands_todo script) (commands_todo (drop (i + 1) script)) old p new q
       commands_on done = λ rest status end t ran.
-          so_far rest status end t (subst (λ x. todo.RanOn means dsp x m r status end t) (sym (here rest)) (done (commands_todo (drop (i + 1) script) rest) status end t ran))
+          so_far rest status end t (subst (λ x. todo.RanOn means by x m r status end t) (sym (here rest)) (done (commands_todo (drop (i + 1) script) rest) status end t ran))
 
-      pub commands_off : PhaseFails means dsp (rounds_todo (command_rounds (get_or script i other))) m r new q → PhaseFails means dsp (commands_todo script) old p new q
+      pub commands_off : PhaseFails means by (rounds_todo (command_rounds (get_or script i other))) m r new q → PhaseFails means by (commands_todo script) old p new q
       commands_off failed = λ rest.
-          so_far rest 3 new q (subst (λ x. todo.RanOn means dsp x m r 3 new q) (sym (here rest)) (failed (commands_todo (drop (i + 1) script) rest)))
+          so_far rest 3 new q (subst (λ x. todo.RanOn means by x m r 3 new q) (sym (here rest)) (failed (commands_todo (drop (i + 1) script) rest)))
 
 -- a command leaves what it shows
 pub shown_same : (command : Command) (plan plan' : Plan) (kept kept' : Record) → plan' ≡ plan → (command ≡ commands.Show → kept' ≡ kept) → shown_by command plan' kept' ≡ shown_by command plan kept
@@ -277,7 +280,22 @@ carries_on means command seat seat' inputs inputs' outputs outputs' answer empty
   },
 )
 
+-- and what its device holds is written before all else, and let go
+pub kept_on : {K : Type 0} (means : Meaning K) (holds : K → List ℕ) (empties : K → K → Type 0) (command : Command) (seat left seat' : Seat K) (inputs inputs' : List InputView) (outputs outputs' : List OutputView) (answer : Answer) →
+    drained outputs ≡ outputs → CommandDone means seat.plan seat.heap command seat.kept left.kept (world seat.link inputs outputs) (world left.link inputs' outputs') answer → input_ends inputs' ≡ input_ends inputs → left.plan ≡ seat.plan → left.heap ≡ seat.heap → AreAgreed means left →
+    Drained means empties left.link.device seat'.link.device → seat' ≡ with_device left seat'.link.device →
+    KeptTurn means holds empties (Carry command) (record { answer = answer; shown = shown_by command seat.plan seat.kept; written = with_bytes trace_slot (holds left.link.device) (written_in outputs') })
+    (Seated seat inputs (output_slots outputs)) (Seated seat' inputs' (output_slots outputs))
+kept_on means holds empties command seat left seat' inputs inputs' outputs outputs' answer empty stepped ends plan heap agreed emptied rest = record {
+  left = left;
+  bare = record { answer = answer; shown = shown_by command seat.plan seat.kept; written = written_in outputs' };
+  turned = carries_on means command seat left inputs inputs' outputs outputs' answer empty stepped ends plan heap agreed;
+  out_is = refl;
+  emptied = emptied;
+  rest = rest;
+}
+
 -- the same slots, told otherwise
-module _ {D P : Type 0} (means : DeskMeaning D) (device : Meaning P) where
-  pub same_slots : (phase : Todo → Todo) (done : Bool) (old new : D) (p : Life P) (seat : Seat P) (inputs : List InputView) (slots slots' : List ℕ) → slots' ≡ slots → Phase means device phase done old p new (Seated seat inputs slots) → Phase means device phase done old p new (Seated seat inputs slots')
-  same_slots phase done old new p seat inputs slots slots' same made = subst (λ (xs : List ℕ). Phase means device phase done old p new (Seated seat inputs xs)) (sym same) made
+module _ {D P : Type 0} (means : DeskMeaning D) (by : Turning (Life P)) where
+  pub same_slots : (phase : Todo → Todo) (done : Bool) (old new : D) (p : Life P) (seat : Seat P) (inputs : List InputView) (slots slots' : List ℕ) → slots' ≡ slots → Phase means by phase done old p new (Seated seat inputs slots) → Phase means by phase done old p new (Seated seat inputs slots')
+  same_slots phase done old new p seat inputs slots slots' same made = subst (λ (xs : List ℕ). Phase means by phase done old p new (Seated seat inputs xs)) (sym same) made

@@ -2,8 +2,7 @@
 use Rattle.std.proofs.Common.{◌≡◌, ◌⊎◌, inl, inr, ℕ, nat_eq, ◌≤◌, ◌<◌, Bool, true, false, List, [], ◌∷◌, length, Option, Some, None, Result, Ok, Err, refl, sym, ◌∙◌, ap, subst, codes, arith, if◌then◌else◌}
 use Rattle.sof_desk.specs.declared.calls.LoadFault.TheVariants.{Failed, TooLong, OutOfMemory}
 use Rattle.sof_desk.specs.Desk.{DeskMeaning, DeskPlace, Slot, Spoken, DeskAct, Create, Put, DeskCall, Load, Did, Read, DeskLed, Loaded, Acted, Part, Takes, with_more, with_nothing, written_after}
-use Rattle.mbox_link.specs.Calls.{Meaning}
-use Rattle.sof_session.specs.Lives.{Life, Turn, Turns}
+use Rattle.sof_session.specs.Lives.{Turn}
 use Rattle.tplg_model.specs.declared.block.Topology.{Topology}
 use Rattle.tplg_model.specs.File.{IsTopology, spelling}
 use Rattle.tplg_model.proofs.FileLaws.{IsFileOf-spelling}
@@ -12,7 +11,7 @@ use Rattle.tplg_compile.specs.declared.source_fault.SourceFault.TheVariants as f
 use Rattle.tplg_compile.specs.Compiled.{IsCompiled, IsCompileFault}
 use Rattle.tplg_compile.specs.InOrder.{compiled_of}
 use Rattle.tplg_compile.proofs.CompileLaws.{compiled_take, compiled_again, text_fault_take}
-use Rattle.sof_run.specs.Todo.{Todo, End, Do, Says, DoneBy, RanOn}
+use Rattle.sof_run.specs.Todo.{Todo, End, Do, Says, DoneBy, Played}
 use Rattle.sof_run.specs.Lines.{no_memory_line, with_newline}
 use Rattle.sof_run.specs.Play.{lines_todo}
 use Rattle.sof_run.specs.Compiling.{CompileNames, compile_of, source_line, source_status, wrote_line}
@@ -296,22 +295,22 @@ module _ {D : Type 0} (means : DeskMeaning D) (room : ℕ) (words : List (List �
       let same : others ≡ names = cc (sym (compile_asked room words others source.named) ∙ is) in
       sound zero text t (ap (λ (n : CompileNames). means.holds old n.source) (sym same) ∙ source.told) got
 
-module _ {D P : Type 0} (means : DeskMeaning D) (dsp : Meaning P) (words : List (List ℕ)) (old new : D) (room sent : ℕ) (p q : Life P) (status : ℕ) (ran : RanOn means dsp (todo_of room sent words) old p status new q) (makes : MakesTopology means words old status) where
+module _ {D P : Type 0} (means : DeskMeaning D) (words : List (List ℕ)) (old new : D) (room sent : ℕ) (p q : P) (status : ℕ) (turns : List Turn) (still : turns ≡ [] → q ≡ p) (played : Played means (todo_of room sent words) old turns status new) (makes : MakesTopology means words old status) where
   -- what it did is that of compiling
-  goes_on : (names : CompileNames) → compile_of words ≡ Some names → DoneBy (compile names) ran.turns ran.played.calls status
-  goes_on names is = subst (λ todo. DoneBy todo ran.turns ran.played.calls status) (compiles_alone room sent words names is) ran.played.goes
+  goes_on : (names : CompileNames) → compile_of words ≡ Some names → DoneBy (compile names) turns played.calls status
+  goes_on names is = subst (λ todo. DoneBy todo turns played.calls status) (compiles_alone room sent words names is) played.goes
 
   untouched : (names : CompileNames) → compile_of words ≡ Some names → q ≡ p
-  untouched names is = subst (λ ts. Turns dsp p ts q) (no_turn names ran.turns ran.played.calls status (goes_on names is)) ran.turned
+  untouched names is = still (no_turn names turns played.calls status (goes_on names is))
 
-  pub compiles : Compiles means words old p ran.played.calls status new q
+  pub compiles : Compiles means words old p played.calls status new q
   compiles =
       record {
         alone = untouched;
         judged = λ names text is by. elim by [
-          | inl told ↦ judge names text means ran.turns ran.played.calls status old new told (goes_on names is) ran.played.led
-          | inr heard ↦ heard_judge names text means ran.turns ran.played.calls status old new heard (goes_on names is) ran.played.led
+          | inl told ↦ judge names text means turns played.calls status old new told (goes_on names is) played.led
+          | inr heard ↦ heard_judge names text means turns played.calls status old new heard (goes_on names is) played.led
         ];
-        wrote = λ names text t named told short is. compile_wrote means names text t short (compiled_again text t is) ran.turns ran.played.calls old new status told (goes_on names named) ran.played.led;
+        wrote = λ names text t named told short is. compile_wrote means names text t short (compiled_again text t is) turns played.calls old new status told (goes_on names named) played.led;
         reads_back = λ names text t named told is done. (makes names text t (record { named = named; told = told }) (compiled_again text t is) done, IsFileOf-spelling t);
       }

@@ -1,7 +1,7 @@
 -- What is to do, as one list: what was done is that list, or its front.
-use Rattle.std.proofs.Common.{◌≡◌, inl, inr, ℕ, true, false, List, [], ◌∷◌, ◌++◌, map, Option, Some, None, MatchOption, Result, Ok, Err, refl, sym, ◌∙◌, ap, subst, codes}
+use Rattle.std.proofs.Common.{◌≡◌, inl, inr, ℕ, Bool, true, false, List, [], ◌∷◌, ◌++◌, map, Option, Some, None, MatchOption, Result, Ok, Err, refl, sym, ◌∙◌, ap, subst, codes}
 use Rattle.sof_desk.specs.declared.calls.LoadFault.TheVariants.{Failed, TooLong, OutOfMemory}
-use Rattle.sof_desk.specs.Desk.{Heard, DeskCall, Load, Did, Read}
+use Rattle.sof_desk.specs.Desk.{DeskAct, Heard, DeskCall, Load, Did, Read}
 use Rattle.tplg_model.specs.declared.block.Topology.{Topology}
 use Rattle.tplg_plan.specs.declared.plans.Plan.{Plan}
 use Rattle.tplg_compile.specs.declared.source_fault.SourceFault.{SourceFault}
@@ -9,17 +9,19 @@ use Rattle.tplg_graph.specs.PlanOf.{plan_of}
 use Rattle.tplg_compile.specs.InOrder.{compiled_of}
 use Rattle.sof_script.specs.Commands.{Bound, Read as ReadScript}
 use Rattle.sof_session.specs.Written.{Out}
-use Rattle.sof_session.specs.Lives.{Task, Begin, Carry, Fill, Turn}
+use Rattle.mbox_link.specs.Calls as device
+use Rattle.sof_session.specs.Lives.{Task, Begin, Carry, Fill, Give, Turn}
 use Rattle.sof_run.specs.declared.prepare.Halt.{Halt}
 use Rattle.sof_run.specs.Words.{Form}
-use Rattle.sof_run.specs.Todo.{Todo, End, Stop, Ask, Do, Step, Refill, Free, Says, Over, DoneBy}
-use Rattle.sof_run.specs.Calls.{reading}
+use Rattle.sof_run.specs.Todo.{Todo, End, Stop, Ask, Do, Step, Refill, Send, Free, Says, Over, DoneBy}
+use Rattle.sof_run.specs.Calls.{reading, answer_in}
 use Rattle.sof_run.specs.Bindings.{binding_act, bound_inputs, bound_slots}
+use Rattle.sof_run.specs.Keeping.{trace_acts}
 use Rattle.sof_run.specs.Rounds.{Round, rounds_of}
 use Rattle.sof_run.specs.Lines.{no_memory_line, with_newline, lines_after}
 use Rattle.sof_run.specs.Prepared.{prepared, checked}
 use Rattle.tplg_source.specs.Outcome.{source_for}
-use Rattle.sof_run.specs.Play.{prepared_todo, ready_todo, lines_todo, rounds_todo, session_todo, bindings_todo, play}
+use Rattle.sof_run.specs.Play.{prepared_todo, ready_todo, lines_todo, rounds_todo, session_todo, bindings_todo, acts_todo, traced_todo, play}
 use Rattle.sof_run.specs.Pieces.{Piece, pieces_of}
 use Rattle.sof_run.specs.Checking.{count_lines}
 use Rattle.sof_run.specs.Picturing.{picture_lines}
@@ -34,13 +36,17 @@ use Rattle.sof_stress.specs.StressRun.{stress_begins, stress_turns}
 use Rattle.sof_run.specs.Stressing.{stress_lines}
 use Rattle.sof_run.specs.StressTodo.{counted_todo, told_todo, stress}
 use Rattle.ipc3_trace.specs.declared.entry.Entry.{Entry}
+use Rattle.ipc3_trace.specs.declared.entry.Entry.TheVariants as entries
 use Rattle.ipc3_trace.specs.declared.fault.TraceFault.{TraceFault}
 use Rattle.ipc3_trace.specs.EntryLines.{entry_line}
 use Rattle.ipc3_trace.specs.Reading.{trace_in}
 use Rattle.sof_run.specs.DecodeTodo.{decoded_todo}
-use Rattle.sof_run.specs.Requests.{Request, Play, Check, Picture, Compile, Source, Stress, Decode, request_of}
+use Rattle.sof_run.specs.declared.replay_fault.ReplayFault.{ReplayFault}
+use Rattle.sof_run.specs.Replaying.{next_place, record_fault, end_fault, on_after, tally_of, replay_lines}
+use Rattle.sof_run.specs.ReplayTodo.{without_fault, replied_todo, give_todo, given_todo, replayed_todo}
+use Rattle.sof_run.specs.Requests.{Request, Play, Check, Picture, Compile, Source, Stress, Decode, Replay, request_of}
 use Rattle.sof_run.specs.Forms.{todo_for, todo_of}
-use Rattle.sof_run.specs.Calls.{Item, Calls, Turns, Memory, Course, before_course, saying, last_line, load_course, turning, filling_by, filling, putting, units, bindings, files, playing, counting, checking, making, keeping, sourcing, recounting, counting_turns, telling, stressing, heard_in, Wants, Made, course}
+use Rattle.sof_run.specs.Calls.{Item, Calls, Turns, Memory, Course, before_course, saying, last_line, load_course, turning, filling_by, filling, putting, units, bindings, files, playing, counting, checking, making, keeping, sourcing, recounting, sending, faulting, replying, giving, giving_all, replaying, counting_turns, telling, stressing, heard_in, Wants, Made, course}
 use Rattle.sof_run.specs.ComeTo.{IsMade}
 use Rattle.sof_run.specs.Findings.{FollowsCourse}
 use Rattle.sof_run.proofs.WrittenPieces.{puts, puts_flush}
@@ -64,6 +70,7 @@ unrolled (Ask name limit line next) heard turns = loading name limit line heard 
 unrolled (Do act next) heard turns = before_course (Calls (Did act true) ∷ []) (unrolled next heard turns)
 unrolled (Step task next) heard turns = turning task turns (λ out turns. unrolled (next out) heard turns)
 unrolled (Refill next) heard turns = filling turns (λ turns. unrolled next heard turns)
+unrolled (Send message next) heard turns = sending message turns (λ reply turns. unrolled (next reply) heard turns)
 unrolled (Free next) heard turns = before_course (Memory ∷ []) (unrolled next heard turns)
 
 said : (line : List ℕ) (n : ℕ) (turns : List Turn) (calls : List DeskCall) (status : ℕ) → Says line n turns calls status → IsMade (last_line line n) turns calls status
@@ -133,6 +140,8 @@ made (Refill next) (turn ∷ turns) calls status goes =
       | None ↦ λ is done. filling_made (λ ts heard. unrolled next heard ts) f.reads turn turns f.later status is (made next turns f.later status done)
       | Some slot ↦ λ is over. filling_broke (λ ts heard. unrolled next heard ts) f.reads turn turns f.later status slot is over (unrolled next (heard_in (reading f.reads (Some slot) ++ f.later)) turns)
     ]) f.task goes.1)
+made (Send message next) [] calls status goes = absurd goes
+made (Send message next) (turn ∷ turns) calls status goes = (goes.0, made (next (answer_in turn.task)) turns calls status goes.1)
 made (Free next) turns calls status (inl goes) = inl (made next turns calls status goes)
 made (Free next) turns calls status (inr says) = inr (wanted turns calls status says)
 
@@ -178,29 +187,38 @@ bindings-same : (plan : Plan) (bs : List Bound) (rest : Todo) (heard : List Hear
 bindings-same plan [] rest heard turns = refl
 bindings-same plan (b ∷ bs) rest heard turns = ap (before_course (Calls (Did (binding_act plan b) true) ∷ [])) (bindings-same plan bs rest heard turns)
 
-abbrev session : ℕ → Plan → ReadScript → List Turn → Course
-session heap plan read turns =
-    bindings plan read.bindings
-    (turning (Begin plan heap (bound_inputs plan [] read.bindings) (bound_slots plan read.bindings)) turns (λ out turns. units (rounds_of read.commands) turns))
+acts-same : (acts : List DeskAct) (rest : Todo) (heard : List Heard) (turns : List Turn) → unrolled (acts_todo acts rest) heard turns ≡ before_course (map (λ act. Calls (Did act true)) acts) (unrolled rest heard turns)
+acts-same [] rest heard turns = refl
+acts-same (act ∷ acts) rest heard turns = ap (before_course (Calls (Did act true) ∷ [])) (acts-same acts rest heard turns)
 
-session-same : (heap : ℕ) (plan : Plan) (read : ReadScript) (heard : List Heard) (turns : List Turn) → unrolled (ready_todo heap plan read) heard turns ≡ session heap plan read turns
-session-same heap plan read heard turns =
+abbrev session : ℕ → Option (List ℕ) → Plan → ReadScript → List Turn → Course
+session heap trace plan read turns =
+    bindings plan read.bindings
+    (before_course (map (λ act. Calls (Did act true)) (trace_acts trace))
+    (turning (Begin plan heap (bound_inputs plan [] read.bindings) (bound_slots plan read.bindings)) turns (λ out turns. units (rounds_of read.commands) turns)))
+
+session-same : (heap : ℕ) (trace : Option (List ℕ)) (plan : Plan) (read : ReadScript) (heard : List Heard) (turns : List Turn) → unrolled (ready_todo heap trace plan read) heard turns ≡ session heap trace plan read turns
+session-same heap trace plan read heard turns =
     let inputs = bound_inputs plan [] read.bindings in
     let slots = bound_slots plan read.bindings in
-    bindings-same plan read.bindings (session_todo heap plan read.commands inputs slots) heard turns
-    ∙ ap (bindings plan read.bindings) (turning-same (Begin plan heap inputs slots) turns _ _ (λ out turns. units-same (rounds_of read.commands) heard turns))
+    let whole = session_todo heap plan read.commands inputs slots in
+    bindings-same plan read.bindings (traced_todo trace whole) heard turns
+    ∙ ap (bindings plan read.bindings) (
+    acts-same (trace_acts trace) whole heard turns
+    ∙ ap (before_course (map (λ act. Calls (Did act true)) (trace_acts trace))) (turning-same (Begin plan heap inputs slots) turns _ _ (λ out turns. units-same (rounds_of read.commands) heard turns))
+    )
 
-files-same : (heap : ℕ) (r : Result (Topology × ReadScript) Halt) (heard : List Heard) (turns : List Turn) → unrolled (prepared_todo heap (as_prepared r)) heard turns ≡ files heap r turns
-files-same heap (Err why) heard turns = refl
-files-same heap (Ok (t, read)) heard turns = session-same heap (plan_of t) read heard turns
+files-same : (heap : ℕ) (trace : Option (List ℕ)) (r : Result (Topology × ReadScript) Halt) (heard : List Heard) (turns : List Turn) → unrolled (prepared_todo heap trace (as_prepared r)) heard turns ≡ files heap trace r turns
+files-same heap trace (Err why) heard turns = refl
+files-same heap trace (Ok (t, read)) heard turns = session-same heap trace (plan_of t) read heard turns
 
 -- the files by the run that they make
 module _ (form : Form) (topology script : List ℕ) (heard last : List Heard) (turns : List Turn) (brought : heard ≡ Ok topology ∷ Ok script ∷ last) where
-  brought-same : unrolled (prepared_todo form.heap (prepared topology script)) last turns ≡ files form.heap (run_heard heard) turns
+  brought-same : unrolled (prepared_todo form.heap form.trace (prepared topology script)) last turns ≡ files form.heap form.trace (run_heard heard) turns
   brought-same =
-      ap (λ p. unrolled (prepared_todo form.heap p) last turns) (prepared_same topology script)
-      ∙ files-same form.heap (run_of topology script) last turns
-      ∙ ap (λ r. files form.heap r turns) (sym (ap run_heard brought))
+      ap (λ p. unrolled (prepared_todo form.heap form.trace p) last turns) (prepared_same topology script)
+      ∙ files-same form.heap form.trace (run_of topology script) last turns
+      ∙ ap (λ r. files form.heap form.trace r turns) (sym (ap run_heard brought))
 
 playing-same : (form : Form) (heard : List Heard) (turns : List Turn) → unrolled (play form) heard turns ≡ playing form (run_heard heard) heard turns
 playing-same form heard turns =
@@ -245,6 +263,43 @@ decoded-same [] None heard turns = refl
 decoded-same [] (Some fault) heard turns = refl
 decoded-same (e ∷ es) fault heard turns = ap (before_course (saying (with_newline (entry_line e)) ∷ [])) (decoded-same es fault heard turns)
 
+faulting-same : (fault : Option ReplayFault) (rest : Todo) (course : Course) (heard : List Heard) (turns : List Turn) → unrolled rest heard turns ≡ course → unrolled (without_fault fault rest) heard turns ≡ faulting fault course
+faulting-same None rest course heard turns same = same
+faulting-same (Some fault) rest course heard turns same = refl
+
+replying-same : (f : Option (List ℕ) → Todo) (g : Option (List ℕ) → List Turn → Course) (heard : List Heard) → ((reply : Option (List ℕ)) (turns : List Turn) → unrolled (f reply) heard turns ≡ g reply turns)
+    → (reply : Option (List ℕ)) (turns : List Turn) → unrolled (replied_todo f reply) heard turns ≡ replying reply (g reply turns)
+replying-same f g heard same None turns = refl
+replying-same f g heard same (Some reply) turns = same (Some reply) turns
+
+sending-same : (message : List ℕ) (turns : List Turn) (f g : Option (List ℕ) → List Turn → Course) → ((reply : Option (List ℕ)) (turns : List Turn) → f reply turns ≡ g reply turns) → sending message turns f ≡ sending message turns g
+sending-same message [] f g same = refl
+sending-same message (turn ∷ turns) f g same =
+    ap (before_course (Turns (Give (device.Exchange message (answer_in turn.task))) ∷ [])) (same (answer_in turn.task) turns)
+
+giving-same : (e : Entry) (f : Option (List ℕ) → Todo) (g : Option (List ℕ) → List Turn → Course) (heard : List Heard) → ((reply : Option (List ℕ)) (turns : List Turn) → unrolled (f reply) heard turns ≡ g reply turns)
+    → (turns : List Turn) → unrolled (give_todo e f) heard turns ≡ giving e turns g
+giving-same (entries.Boot heap) f g heard same turns = turning-same (Give (device.Boot heap)) turns _ _ (λ out turns. same None turns)
+giving-same entries.Cut f g heard same turns = turning-same (Give device.Cut) turns _ _ (λ out turns. same None turns)
+giving-same (entries.Request message) f g heard same turns = sending-same message turns _ _ (replying-same f g heard same)
+giving-same entries.Tick f g heard same turns = turning-same (Give device.Tick) turns _ _ (λ out turns. same None turns)
+giving-same (entries.Reply reply) f g heard same turns = same None turns
+giving-same entries.Lost f g heard same turns = same None turns
+
+-- records that are given, whatever comes behind them
+module _ (room : ℕ) (end : Option TraceFault) (f : Bool → Todo) (g : Bool → Course) (heard : List Heard) (same : (on : Bool) (turns : List Turn) → unrolled (f on) heard turns ≡ g on) where
+  given-same : (es : List Entry) (on : Bool) (awaited : Option (List ℕ)) (at : ℕ) (turns : List Turn) → unrolled (given_todo room es end on awaited at f) heard turns ≡ giving_all room es end on awaited at g turns
+  given-same [] on awaited at turns = faulting-same (end_fault awaited at end) (f on) (g on) heard turns (same on turns)
+  given-same (e ∷ es) on awaited at turns =
+      faulting-same (record_fault room on awaited at e) (give_todo e (λ reply. given_todo room es end (on_after on e) reply (next_place at e) f)) _ heard turns
+      (giving-same e (λ reply. given_todo room es end (on_after on e) reply (next_place at e) f) (λ reply turns. giving_all room es end (on_after on e) reply (next_place at e) g turns) heard
+      (λ reply turns. given-same es (on_after on e) reply (next_place at e) turns) turns)
+
+replayed-same : (room : ℕ) (es : List Entry) (end : Option TraceFault) (heard : List Heard) (turns : List Turn) → unrolled (replayed_todo room es end) heard turns ≡ replaying room (es, end) turns
+replayed-same room es end heard turns =
+    given-same room end (λ on. lines_todo (replay_lines (tally_of es) on) End) (λ on. record { items = map (λ line. saying (with_newline line)) (replay_lines (tally_of es) on); status = 0 }) heard
+    (λ on turns. lines-same (replay_lines (tally_of es) on) heard turns) es false None 0 turns
+
 request-same : (room sent : ℕ) (r : Option Request) (heard : List Heard) (turns : List Turn) → unrolled (todo_for room sent r) heard turns ≡ course room sent r (findings_of heard) heard turns
 request-same room sent (Some (Play form)) heard turns = playing-same form heard turns
 request-same room sent (Some (Check name)) heard turns = checking-same count_lines name heard turns
@@ -259,6 +314,9 @@ request-same room sent (Some (Stress seed)) heard turns = stressing-same room se
 request-same room sent (Some (Decode name)) heard turns =
     loading-same name 16777216 (codes "too long trace\n") heard _ _ (λ bytes later is.
     decoded-same (trace_in bytes).0 (trace_in bytes).1 later turns ∙ ap recounting (sym (ap trace_heard is)))
+request-same room sent (Some (Replay name)) heard turns =
+    loading-same name 16777216 (codes "too long trace\n") heard _ _ (λ bytes later is.
+    ap (before_course (Memory ∷ [])) (replayed-same room (trace_in bytes).0 (trace_in bytes).1 later turns ∙ ap (λ trace. replaying room trace turns) (sym (ap trace_heard is))))
 request-same room sent None heard turns = refl
 
 -- what was done is the course of the words, or its front

@@ -4,15 +4,14 @@ use Rattle.std.specs.List.{concat}
 use Rattle.std.proofs.lemmas.List.{append-nil}
 use Rattle.sof_desk.specs.declared.calls.LoadFault.TheVariants.{Failed, TooLong, OutOfMemory}
 use Rattle.sof_desk.specs.Desk.{DeskMeaning, DeskCall, Load, Did, Read, DeskLed, Loaded, Acted}
-use Rattle.mbox_link.specs.Calls.{Meaning}
 use Rattle.ipc3_trace.specs.declared.entry.Entry.{Entry}
 use Rattle.ipc3_trace.specs.declared.fault.TraceFault.{TraceFault}
 use Rattle.ipc3_trace.specs.EntryLines.{entry_line}
 use Rattle.ipc3_trace.specs.WholeTraces.{IsTraceOf}
 use Rattle.ipc3_trace.specs.Reading.{trace_in}
 use Rattle.ipc3_trace.proofs.WholeLaws.{has-trace, one-trace}
-use Rattle.sof_session.specs.Lives.{Life, Turn, Turns}
-use Rattle.sof_run.specs.Todo.{Says, DoneBy, RanOn}
+use Rattle.sof_session.specs.Lives.{Turn}
+use Rattle.sof_run.specs.Todo.{Says, DoneBy, Played}
 use Rattle.sof_run.specs.Lines.{no_memory_line, with_newline}
 use Rattle.sof_run.specs.TopologyBytes.{AreBytes}
 use Rattle.sof_run.specs.TraceForms.{decode_of}
@@ -196,21 +195,21 @@ module _ {D : Type 0} (means : DeskMeaning D) where
 
 -- ---- all
 
-module _ {D P : Type 0} (means : DeskMeaning D) (dsp : Meaning P) (words : List (List ℕ)) (old new : D) (room sent : ℕ) (p q : Life P) (status : ℕ) (ran : RanOn means dsp (todo_of room sent words) old p status new q) where
+module _ {D P : Type 0} (means : DeskMeaning D) (words : List (List ℕ)) (old new : D) (room sent : ℕ) (p q : P) (status : ℕ) (turns : List Turn) (still : turns ≡ [] → q ≡ p) (played : Played means (todo_of room sent words) old turns status new) where
   -- what it did is that of `decode`
-  goes_on : (name : List ℕ) → decode_of words ≡ Some name → DoneBy (decode name) ran.turns ran.played.calls status
-  goes_on name is = subst (λ todo. DoneBy todo ran.turns ran.played.calls status) (decodes_alone room sent words name is) ran.played.goes
+  goes_on : (name : List ℕ) → decode_of words ≡ Some name → DoneBy (decode name) turns played.calls status
+  goes_on name is = subst (λ todo. DoneBy todo turns played.calls status) (decodes_alone room sent words name is) played.goes
 
   untouched : (name : List ℕ) → decode_of words ≡ Some name → q ≡ p
-  untouched name is = subst (λ ts. Turns dsp p ts q) (no_turn name ran.turns ran.played.calls status (goes_on name is)) ran.turned
+  untouched name is = still (no_turn name turns played.calls status (goes_on name is))
 
-  pub decodes : Decodes means words old p ran.played.calls status new q
+  pub decodes : Decodes means words old p played.calls status new q
   decodes =
       record {
         alone = untouched;
         judged = λ name bytes is by. elim by [
-          | inl told ↦ judge name bytes means ran.turns ran.played.calls status old new told (goes_on name is) ran.played.led
-          | inr heard ↦ heard_judge name bytes means ran.turns ran.played.calls status old new heard (goes_on name is) ran.played.led
+          | inl told ↦ judge name bytes means turns played.calls status old new told (goes_on name is) played.led
+          | inr heard ↦ heard_judge name bytes means turns played.calls status old new heard (goes_on name is) played.led
         ];
-        told = λ name bytes es fault is told short trace. decode_told means name bytes es fault short trace ran.turns ran.played.calls old new status told (goes_on name is) ran.played.led;
+        told = λ name bytes es fault is told short trace. decode_told means name bytes es fault short trace turns played.calls old new status told (goes_on name is) played.led;
       }

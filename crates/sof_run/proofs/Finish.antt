@@ -1,15 +1,26 @@
 -- All that `run` ensures, from what it did.
-use Rattle.std.proofs.Common.{◌≡◌, ◌⊎◌, inl, inr, ℕ, List, [], length, map, take, Option, Some, None, Ok, refl, sym, ap, ◌∙◌, subst, arith, codes}
+use Rattle.std.proofs.Common.{◌≡◌, ◌⊎◌, inl, inr, ℕ, ◌<◌, ◌^◌, List, [], ◌∷◌, ◌++◌, length, map, take, Option, Some, None, Ok, refl, sym, ap, ◌∙◌, subst, arith, codes}
+use Rattle.std.specs.Prelude.{option_map}
 use Rattle.std.specs.List.{AllByRecursion}
-use Rattle.sof_desk.specs.Desk.{DeskMeaning, DeskCall, CountRose}
+use Rattle.std.proofs.lemmas.List.{length-map, take_all}
+use Rattle.sof_desk.specs.Desk.{DeskMeaning, Slot, DeskCall, CountRose, with_more}
+use Rattle.stream_law.specs.State.{view_of}
 use Rattle.mbox_link.specs.Calls.{Meaning}
 use Rattle.tplg_model.specs.declared.block.Topology.{Topology}
 use Rattle.tplg_graph.specs.PlanOf.{plan_of}
 use Rattle.sof_script.specs.Commands.{Read}
-use Rattle.sof_session.specs.Written.{Ground, Leg}
+use Rattle.tplg_plan.specs.Sound.{IsSound}
+use Rattle.sof_script.specs.declared.script.Command.{Command}
+use Rattle.sof_session.specs.SessionStep.{Calm}
+use Rattle.sof_session.specs.Written.{Out, Ground, Leg, first_at}
 use Rattle.sof_session.specs.Fills.{bytes_read}
 use Rattle.sof_session.specs.RunOver.{RunOver}
-use Rattle.sof_session.specs.Lives.{Bare, Turn, Turns, reads_in}
+use Rattle.ipc3_trace.specs.declared.entry.Entry.{Entry}
+use Rattle.ipc3_trace.specs.Records.{IsEntry, records_bytes}
+use Rattle.ipc3_trace.specs.Steps.{steps_of}
+use Rattle.ipc3_trace.specs.WholeTraces.{IsTraceOf}
+use Rattle.sof_session.specs.Lives.{Bare, Turn, Turns, AreTurns, device_of, reads_in}
+use Rattle.sof_stress.specs.StressRun.{sent_in}
 use Rattle.sof_run.specs.Todo.{Todo, Says, DoneBy}
 use Rattle.sof_run.specs.Throughout.{Throughout}
 use Rattle.sof_run.specs.Bindings.{bound_files}
@@ -23,18 +34,24 @@ use Rattle.sof_run.specs.CompileTodo.{compile}
 use Rattle.sof_run.specs.SourceTodo.{make_source}
 use Rattle.sof_run.specs.StressTodo.{stress}
 use Rattle.sof_run.specs.DecodeTodo.{decode}
-use Rattle.sof_run.specs.Requests.{Request, Play, Check, Picture, Compile, Source, Stress, Decode, request_of}
-use Rattle.sof_run.specs.Forms.{todo_for, todo_of}
+use Rattle.sof_run.specs.ReplayTodo.{replay}
+use Rattle.sof_run.specs.Requests.{Request, Play, Check, Picture, Compile, Source, Stress, Decode, Replay, request_of}
+use Rattle.sof_run.specs.TraceForms.{replay_of}
+use Rattle.sof_run.specs.Words.{Form, play_of}
+use Rattle.sof_run.specs.Met.{met_units}
+use Rattle.sof_run.specs.Pieces.{AreWritten, opened, bytes_of_pieces}
+use Rattle.sof_run.specs.Traces.{met_in, TracesWhole}
+use Rattle.sof_run.specs.Keeping.{trace_slot, trace_slots, recorded_turns, recorded_outs, TurnsLeft, KeptRecords}
+use Rattle.sof_run.specs.Forms.{todo_for, todo_of, GaveSent}
 use Rattle.sof_run.specs.Ends.{IsEarly, Worded}
 use Rattle.sof_run.specs.Verdicts.{MakeRun, Judged}
-use Rattle.sof_run.specs.Plays.{Plays, Unbegun, PlaysWhole, ground_of}
+use Rattle.sof_run.specs.Plays.{ToPlay, AreFilesTold, AreMet, Plays, Unbegun, PlaysWhole, written_slots, ground_of, commands_in}
 use Rattle.sof_run.specs.HeardRuns.{PlaysWhatIsHeard}
-use Rattle.sof_run.specs.Todo.{Gave}
 use Rattle.sof_run.specs.Run.{Left}
 use Rattle.sof_run.specs.Findings.{FollowsCourse}
 use Rattle.sof_run.specs.TopologyBytes.{BringsBytes}
 use Rattle.sof_run.specs.Calls.{heard_in}
-use Rattle.sof_run.proofs.Requests.{play_asked, nothing_asked, formless_asked}
+use Rattle.sof_run.proofs.Requests.{play_asked, replay_meant, kept_of, nothing_asked, formless_asked}
 use Rattle.sof_run.proofs.SaidLines.{said}
 use Rattle.sof_run.proofs.Judging.{judge}
 use Rattle.sof_run.proofs.PlanWords.{sound_plan}
@@ -44,9 +61,14 @@ use Rattle.sof_run.proofs.Findings.{as_prepared, prepared_same, files_only}
 use Rattle.sof_run.proofs.LoadedBytes.{loads_bring}
 use Rattle.sof_run.proofs.Courses.{follows}
 use Rattle.sof_run.proofs.PlayRuns.{play_goes, plays, before_begun}
-use Rattle.sof_run.proofs.HeardRuns.{play_heard, legs, over_is}
-use Rattle.sof_run.proofs.Statuses.{IsLate, TurnsLast, ends, none_turned, none_asked, three_rose}
-use Rattle.sof_run.proofs.Throughout.{play_all, check_all, compile_all, source_all, stress_all, decode_all, words_last}
+use Rattle.sof_run.proofs.HeardRuns.{Began, Ended, play_heard, legs, over_is, met_is, view_is, all_legs}
+use Rattle.sof_run.proofs.RecordedTurns.{Fronted, fronted_turns, none_recorded, as_many_outs}
+use Rattle.sof_run.proofs.MetRuns.{all_records, met-length}
+use Rattle.sof_run.proofs.TraceFiles.{trace-apart, file-bytes, trace-bytes}
+use Rattle.sof_run.proofs.RecordEntries.{records-each, trace-written, told_heard}
+use Rattle.sof_run.proofs.OnePlay.{all_made}
+use Rattle.sof_run.proofs.Statuses.{IsLate, ends, none_turned, none_asked, three_rose}
+use Rattle.sof_run.proofs.Throughout.{play_all, check_all, compile_all, source_all, stress_all, decode_all, replay_all, words_last}
 
 not_late : (status : ℕ) → IsEarly status → IsLate status → ⊥
 not_late status (inl is) (inl late) = cc (sym is ∙ late)
@@ -64,6 +86,7 @@ not_late status (inr (inr (inr (inr (inr is))))) (inr late) = cc (sym is ∙ lat
 
 pub words_other : (room sent : ℕ) (r : Option Request) → Throughout (λ n. n ≡ 3 → ⊥) (λ name. Unit {0}) (todo_for room sent r)
 words_other room sent None = λ e. cc e
+words_other room sent (Some (Replay name)) = replay_all (λ n. n ≡ 3 → ⊥) (λ name. Unit {0}) room name (λ e. cc e) (λ e. cc e) (λ e. cc e) (λ e. cc e) (λ e. cc e) tt
 words_other room sent (Some (Decode name)) = decode_all (λ n. n ≡ 3 → ⊥) (λ name. Unit {0}) name (λ e. cc e) (λ e. cc e) (λ e. cc e) (λ e. cc e) tt
 words_other room sent (Some (Stress seed)) = stress_all (λ n. n ≡ 3 → ⊥) (λ name. Unit {0}) room sent seed (λ e. cc e) (λ e. cc e)
 words_other room sent (Some (Compile names)) = compile_all (λ n. n ≡ 3 → ⊥) (λ name. Unit {0}) names (λ e. cc e) (λ e. cc e) (λ e. cc e) (λ e. cc e) tt
@@ -75,6 +98,8 @@ words_other room sent (Some (Play form)) = play_all (λ n. n ≡ 3 → ⊥) (λ 
 -- status 1 is that of words without a form
 one_only : (room sent : ℕ) (r : Option Request) (turns : List Turn) (calls : List DeskCall) (status : ℕ) → DoneBy (todo_for room sent r) turns calls status → status ≡ 1 → r ≡ None
 one_only room sent None turns calls status goes one = refl
+one_only room sent (Some (Replay name)) turns calls status goes one =
+    absurd (ends (λ n. n ≡ 1 → ⊥) (λ name. Unit {0}) (replay room name) turns calls status goes (replay_all (λ n. n ≡ 1 → ⊥) (λ name. Unit {0}) room name (λ e. cc e) (λ e. cc e) (λ e. cc e) (λ e. cc e) (λ e. cc e) tt) (λ e. cc e) one)
 one_only room sent (Some (Decode name)) turns calls status goes one =
     absurd (ends (λ n. n ≡ 1 → ⊥) (λ name. Unit {0}) (decode name) turns calls status goes (decode_all (λ n. n ≡ 1 → ⊥) (λ name. Unit {0}) name (λ e. cc e) (λ e. cc e) (λ e. cc e) (λ e. cc e) tt) (λ e. cc e) one)
 one_only room sent (Some (Stress seed)) turns calls status goes one =
@@ -97,8 +122,8 @@ pub worded : (room sent : ℕ) (words : List (List ℕ)) (turns : List Turn) (ca
 worded room sent words turns calls status goes =
     record {
       only = λ one. nothing_asked room words (one_only room sent (request_of room words) turns calls status goes one);
-      each = λ no_play no_check no_graph no_compile no_source no_stress no_decode.
-          one_each turns calls status (subst (λ r. DoneBy (todo_for room sent r) turns calls status) (formless_asked room words no_play no_check no_graph no_compile no_source no_stress no_decode) goes);
+      each = λ no_play no_check no_graph no_compile no_source no_stress no_decode no_replay.
+          one_each turns calls status (subst (λ r. DoneBy (todo_for room sent r) turns calls status) (formless_asked room words no_play no_check no_graph no_compile no_source no_stress no_decode no_replay) goes);
     }
 
 -- ---- the files
@@ -108,75 +133,200 @@ files_ready topology script t read is = prepared_same topology script ∙ ap as_
 
 -- ---- all
 
-module _ {D P : Type 0} (means : DeskMeaning D) (dsp : Meaning P) (words : List (List ℕ)) (old new : D) (p q : P) (status : ℕ) (sent : ℕ) (gave : Gave means dsp (todo_of (dsp.most p) sent words) old p status new q) where
-  abbrev todo : Todo
-  todo = todo_of (dsp.most p) sent words
+not_zero : (status : ℕ) → status ≡ 0 → (status ≡ 3) ⊎ (status ≡ 7) → ⊥
+not_zero status zero (inl three) = cc (sym zero ∙ three)
+not_zero status zero (inr seven) = cc (sym zero ∙ seven)
 
-  abbrev goes : DoneBy todo gave.ran.turns gave.ran.played.calls status
-  goes = gave.ran.played.goes
+-- a status of any kind
+abbrev AnyStatus : ℕ → Type 0
+AnyStatus n = Unit {0}
+
+module _ {D P : Type 0} (means : DeskMeaning D) (dsp : Meaning P) (words : List (List ℕ)) (old new : D) (p q : P) (status : ℕ) (given : GaveSent means dsp words (λ sent. todo_of (dsp.most p) sent words) old p status new q) where
+  abbrev todo : Todo
+  todo = todo_of (dsp.most p) given.sent words
+
+  -- the turns, with the records in front of what they wrote
+  abbrev all_turns : List Turn
+  all_turns = recorded_turns given.records given.turns
+
+  abbrev goes : DoneBy todo all_turns given.played.calls status
+  goes = given.played.goes
 
   other : Throughout (λ n. n ≡ 3 → ⊥) (λ name. Unit {0}) todo
-  other = words_other (dsp.most p) sent (request_of (dsp.most p) words)
+  other = words_other (dsp.most p) given.sent (request_of (dsp.most p) words)
 
-  turns_last : TurnsLast todo
-  turns_last = words_last (dsp.most p) sent (request_of (dsp.most p) words)
+  pub course_made : FollowsCourse (dsp.most p) (sent_in given.last) words all_turns given.played.calls status
+  course_made = subst (λ n. FollowsCourse (dsp.most p) n words all_turns given.played.calls status) given.is_sent (follows (dsp.most p) given.sent words all_turns given.played.calls status goes)
 
-  pub course_made : FollowsCourse (dsp.most p) sent words gave.ran.turns gave.ran.played.calls status
-  course_made = follows (dsp.most p) sent words gave.ran.turns gave.ran.played.calls status goes
-
-  pub bytes_loaded : AllByRecursion BringsBytes (heard_in gave.ran.played.calls)
-  bytes_loaded = loads_bring todo gave.ran.turns gave.ran.played.calls status goes
+  pub bytes_loaded : AllByRecursion BringsBytes (heard_in given.played.calls)
+  bytes_loaded = loads_bring todo all_turns given.played.calls status goes
 
   pub count_rose : status ≡ 3 → CountRose (means.faults old) (means.faults new)
-  count_rose three = three_rose means todo gave.ran.turns gave.ran.played.calls status old new goes other gave.ran.played.led three
+  count_rose three = three_rose means todo all_turns given.played.calls status old new goes other given.played.led three
 
-  untouched : (IsLate status → ⊥) → gave.last ≡ Bare p
-  untouched early = subst (λ ts. Turns dsp (Bare p) ts gave.last) (none_turned todo gave.ran.turns gave.ran.played.calls status goes turns_last early) gave.ran.turned
+  -- where no turn came, the device is as it was
+  pub still : all_turns ≡ [] → given.last ≡ Bare p
+  still none = subst (λ ts. Turns dsp (Bare p) ts given.last) (none_recorded given.records given.turns none) given.turned
 
-  pub left : Left dsp p q gave.last gave.ran.played.calls status
+  no_replay : replay_of words ≡ None → (name : List ℕ) → request_of (dsp.most p) words ≡ Some (Replay name) → IsLate 2 × IsLate 10
+  no_replay none name is = absurd (cc (sym none ∙ replay_meant (dsp.most p) words name is))
+
+  pub left : Left dsp words p q given.last given.played.calls status
   left = record {
-    is = gave.is;
-    exit = gave.exit;
-    untouched = λ early. untouched (not_late status early);
-    unasked = λ three loads. subst (λ ts. Turns dsp (Bare p) ts gave.last) (none_asked todo gave.ran.turns gave.ran.played.calls status goes turns_last three loads) gave.ran.turned;
+    is = given.is;
+    exit = given.exit;
+    untouched = λ none early.
+        still (none_turned IsLate (inr refl) todo all_turns given.played.calls status goes (words_last IsLate (inl refl) (dsp.most p) given.sent (request_of (dsp.most p) words) (no_replay none)) (not_late status early));
+    unasked = λ three loads.
+        still (none_asked AnyStatus todo all_turns given.played.calls status goes (words_last AnyStatus tt (dsp.most p) given.sent (request_of (dsp.most p) words) (λ name is. (tt, tt))) three loads);
   }
 
   pub words_end : Worded (dsp.most p) words status
-  words_end = worded (dsp.most p) sent words gave.ran.turns gave.ran.played.calls status goes
+  words_end = worded (dsp.most p) given.sent words all_turns given.played.calls status goes
 
-  pub judged : Judged means (dsp.most p) words old gave.ran.played.calls status
+  -- what was done is what a play does
+  plays_by : (form : Form) → play_of (dsp.most p) words ≡ Some form → DoneBy (play form) all_turns given.played.calls status
+  plays_by form is_form = subst (λ r. DoneBy (todo_for (dsp.most p) given.sent r) all_turns given.played.calls status) (play_asked (dsp.most p) words form is_form) goes
+
+  kept_by : (form : Form) → play_of (dsp.most p) words ≡ Some form → KeptRecords dsp form.trace (Bare p) given.turns given.last given.turned given.records
+  kept_by form is_form = subst (λ (trace : Option (List ℕ)). KeptRecords dsp trace (Bare p) given.turns given.last given.turned given.records) (kept_of (dsp.most p) words form is_form) given.kept
+
+  fronts : AreTurns (Fronted dsp) (Bare p) all_turns given.last
+  fronts = fronted_turns dsp given.records given.turns (Bare p) given.last given.turned
+
+  pub judged : Judged means (dsp.most p) words old given.played.calls status
   judged form topology script is_form is_topology is_script =
-      judge topology script means form gave.ran.turns gave.ran.played.calls status old new is_topology is_script
-      (subst (λ r. DoneBy (todo_for (dsp.most p) sent r) gave.ran.turns gave.ran.played.calls status) (play_asked (dsp.most p) words form is_form) goes) gave.ran.played.led
+      judge topology script means form all_turns given.played.calls status old new is_topology is_script (plays_by form is_form) given.played.led
 
-  pub plays_whole : dsp.on p ≡ None → PlaysWhole means dsp words old new status p gave.last gave.ran.turns
+  pub plays_whole : dsp.on p ≡ None → PlaysWhole means dsp words old new status p given.last given.turns given.records
   plays_whole off run told =
       let plan = plan_of run.t in
       let g : Ground = ground_of run (bound_files plan (means.holds old) [] run.read.bindings) in
-      let turns = gave.ran.turns in
       let ready = files_ready run.topology run.script run.t run.read run.make_run in
       let whole = sound_plan run.t run.make_run.file.0 run.make_run.whole in
-      let same : todo ≡ play run.form = ap (todo_for (dsp.most p) sent) (play_asked (dsp.most p) words run.form run.is_form) in
-      let next : Next means (play run.form) turns status old new = record { calls = gave.ran.played.calls; goes = subst (λ x. DoneBy x turns gave.ran.played.calls status) same goes; led = gave.ran.played.led } in
+      let next : Next means (play run.form) all_turns status old new = record { calls = given.played.calls; goes = plays_by run.form run.is_form; led = given.played.led } in
       let sound = script_sound run.script run.read (omega (arith, run.fit.1)) run.make_run.lines.0 in
-      (elim (play_goes means dsp run.form run.topology run.script plan run.read ready turns status old new p gave.last gave.ran.turned told.0 told.1 run.fit.0 run.fit.1 told.2 next) as (λ w. Plays means dsp g (rounds_of run.read.commands) old new status p gave.last turns ⊎ Unbegun means g.slots old new status p gave.last) [
-        | inl b ↦ inl (plays means dsp run.form run.topology run.script plan run.read ready turns status old new p gave.last gave.ran.turned off whole run.make_run.right sound.few b)
-        | inr b ↦ inr (before_begun means dsp run.form run.topology run.script plan run.read ready turns status old new p gave.last gave.ran.turned b)
+      (elim (play_goes means dsp run.form run.topology run.script plan run.read ready all_turns status old new p given.last fronts told.0 told.1 run.fit.0 run.fit.1 told.2 next) as
+      (λ w. Plays means dsp run.form.trace g (rounds_of run.read.commands) old new status p given.last given.turns given.records ⊎ Unbegun means (written_slots run) old new status p given.last) [
+        | inl b ↦ inl (plays means dsp run.form run.topology run.script plan run.read ready all_turns status old new p given.last fronts given.records given.turns given.turned refl (kept_by run.form run.is_form) off whole run.make_run.right sound.few b)
+        | inr b ↦ inr (before_begun means dsp run.form run.topology run.script plan run.read ready all_turns status old new p given.last fronts b)
       ])
 
-  pub plays_heard : dsp.on p ≡ None → PlaysWhatIsHeard dsp words gave.ran.played.calls gave.ran.turns status p gave.last
-  plays_heard off a heard =
-      let plan = plan_of a.t in
-      let turns = gave.ran.turns in
-      let ready = files_ready a.topology a.script a.t a.read a.make_run in
-      let whole = sound_plan a.t a.make_run.file.0 a.make_run.whole in
-      let sound = script_sound a.script a.read (omega (arith, a.fit.1)) a.make_run.lines.0 in
-      let same : todo ≡ play a.form = ap (todo_for (dsp.most p) sent) (play_asked (dsp.most p) words a.form a.is_form) in
-      let done : DoneBy (play a.form) turns gave.ran.played.calls status = subst (λ x. DoneBy x turns gave.ran.played.calls status) same goes in
-      (elim (play_heard a.form a.topology a.script plan a.read ready turns status gave.ran.played.calls heard done) as (λ w. ((legs : List Leg) × RunOver dsp (ground_of a (bytes_read (reads_in turns))) (take (length legs) (map (λ (round : Round). round.numbered.command) (rounds_of a.read.commands))) legs p turns gave.last) ⊎ (((status ≡ 3) ⊎ (status ≡ 7)) × (gave.last ≡ Bare p))) [
-        | inl b ↦ inl (
-          legs a.form a.topology a.script plan a.read ready turns status dsp p gave.last gave.ran.turned off whole a.make_run.right sound.few b,
-          over_is a.form a.topology a.script plan a.read ready turns status dsp p gave.last gave.ran.turned off whole a.make_run.right sound.few b,
+  -- ---- whatever the desk tells
+
+  module _ (off : dsp.on p ≡ None) (a : ToPlay (dsp.most p) words) where
+    abbrev ready : prepared a.topology a.script ≡ Ready (plan_of a.t) a.read
+    ready = files_ready a.topology a.script a.t a.read a.make_run
+
+    whole : IsSound (plan_of a.t)
+    whole = sound_plan a.t a.make_run.file.0 a.make_run.whole
+
+    few : length a.read.commands < 2 ^ 32
+    few = (script_sound a.script a.read (omega (arith, a.fit.1)) a.make_run.lines.0).few
+
+    abbrev IsBegun : Type 0
+    IsBegun = Began a.form a.topology a.script (plan_of a.t) a.read ready all_turns status
+
+    heard_by : heard_in given.played.calls ≡ Ok a.topology ∷ Ok a.script ∷ [] → IsBegun ⊎ Ended all_turns status
+    heard_by heard = play_heard a.form a.topology a.script (plan_of a.t) a.read ready all_turns status given.played.calls heard (plays_by a.form a.is_form)
+
+    pub play_is_heard : heard_in given.played.calls ≡ Ok a.topology ∷ Ok a.script ∷ [] →
+        ((legs : List Leg) × RunOver dsp (ground_of a (bytes_read (reads_in given.turns))) (take (length legs) (map (λ (round : Round). round.numbered.command) (rounds_of a.read.commands))) legs p given.turns given.last) ⊎ (((status ≡ 3) ⊎ (status ≡ 7)) × (given.last ≡ Bare p))
+    play_is_heard heard = by (heard_by heard)
+      where
+        by : IsBegun ⊎ Ended all_turns status → ((legs : List Leg) × RunOver dsp (ground_of a (bytes_read (reads_in given.turns))) (take (length legs) (map (λ (round : Round). round.numbered.command) (rounds_of a.read.commands))) legs p given.turns given.last) ⊎ (((status ≡ 3) ⊎ (status ≡ 7)) × (given.last ≡ Bare p))
+        by (inl b) = inl (
+          legs a.form a.topology a.script (plan_of a.t) a.read ready all_turns status dsp p given.last given.records given.turns given.turned refl (kept_by a.form a.is_form) off whole a.make_run.right few b,
+          over_is a.form a.topology a.script (plan_of a.t) a.read ready all_turns status dsp p given.last given.records given.turns given.turned refl (kept_by a.form a.is_form) off whole a.make_run.right few b,
         )
-        | inr ended ↦ inr (ended.1, subst (λ ts. Turns dsp (Bare p) ts gave.last) ended.0 gave.ran.turned)
-      ])
+        by (inr ended) = inr (ended.1, still ended.0)
+
+    -- ---- the trace that is kept
+
+    module _ (name : List ℕ) (named : a.form.trace ≡ Some name) (calm : Calm dsp p (device_of given.last)) where
+      abbrev commands : List Command
+      commands = commands_in (rounds_of a.read.commands)
+
+      kept_named : TurnsLeft dsp (Bare p) given.turns given.last given.turned given.records
+      kept_named = subst (λ (trace : Option (List ℕ)). KeptRecords dsp trace (Bare p) given.turns given.last given.turned given.records) named (kept_by a.form a.is_form)
+
+      -- records without a turn are none
+      none_left : given.turns ≡ [] → given.records ≡ []
+      none_left none = (subst (λ (ts : List Turn). (t : Turns dsp (Bare p) ts given.last) × TurnsLeft dsp (Bare p) ts given.last t given.records) none (given.turned, kept_named)).1
+
+      left_by : heard_in given.played.calls ≡ Ok a.topology ∷ Ok a.script ∷ [] → (n : ℕ) × (given.records ≡ met_units (plan_of a.t) a.form.heap (take n commands))
+      left_by heard = by (heard_by heard)
+        where
+          by : IsBegun ⊎ Ended all_turns status → (n : ℕ) × (given.records ≡ met_units (plan_of a.t) a.form.heap (take n commands))
+          by (inl b) = (
+            length (legs a.form a.topology a.script (plan_of a.t) a.read ready all_turns status dsp p given.last given.records given.turns given.turned refl (kept_by a.form a.is_form) off whole a.make_run.right few b),
+            subst (λ (trace : Option (List ℕ)). AreMet trace (plan_of a.t) a.form.heap (take (length (legs a.form a.topology a.script (plan_of a.t) a.read ready all_turns status dsp p given.last given.records given.turns given.turned refl (kept_by a.form a.is_form) off whole a.make_run.right few b)) commands) given.records) named
+                (met_is a.form a.topology a.script (plan_of a.t) a.read ready all_turns status dsp p given.last given.records given.turns given.turned refl (kept_by a.form a.is_form) off whole a.make_run.right few b calm),
+          )
+          by (inr ended) = (0, none_left (none_recorded given.records given.turns ended.0))
+
+      -- all commands have a leg
+      abbrev IsAll : ℕ → Type 0
+      IsAll n = take n commands ≡ commands
+
+      all_of : (n : ℕ) → n ≡ length (rounds_of a.read.commands) → IsAll n
+      all_of n is = take_all n commands (omega (arith, is, length-map (rounds_of a.read.commands) (λ (round : Round). round.numbered.command)))
+
+      view_by : heard_in given.played.calls ≡ Ok a.topology ∷ Ok a.script ∷ [] → status ≡ 0 → option_map view_of (dsp.on (device_of given.last)) ≡ option_map view_of (steps_of (met_in a))
+      view_by heard zero = by (heard_by heard)
+        where
+          by : IsBegun ⊎ Ended all_turns status → option_map view_of (dsp.on (device_of given.last)) ≡ option_map view_of (steps_of (met_in a))
+          by (inr ended) = absurd (not_zero status zero ended.1)
+          by (inl b) =
+              let n : ℕ = length (legs a.form a.topology a.script (plan_of a.t) a.read ready all_turns status dsp p given.last given.records given.turns given.turned refl (kept_by a.form a.is_form) off whole a.make_run.right few b) in
+              let many : n ≡ length (rounds_of a.read.commands) = all_legs a.form a.topology a.script (plan_of a.t) a.read ready all_turns status dsp p given.last given.records given.turns given.turned refl (kept_by a.form a.is_form) off whole a.make_run.right few b zero in
+              let left : given.records ≡ met_units (plan_of a.t) a.form.heap (take n commands) =
+              subst (λ (trace : Option (List ℕ)). AreMet trace (plan_of a.t) a.form.heap (take n commands) given.records) named
+              (met_is a.form a.topology a.script (plan_of a.t) a.read ready all_turns status dsp p given.last given.records given.turns given.turned refl (kept_by a.form a.is_form) off whole a.make_run.right few b calm) in
+              view_is a.form a.topology a.script (plan_of a.t) a.read ready all_turns status dsp p given.last given.records given.turns given.turned refl (kept_by a.form a.is_form) off whole a.make_run.right few b name named calm
+              ∙ ap (λ (rs : List (List Entry)). option_map view_of (steps_of (all_records rs))) (left ∙ ap (met_units (plan_of a.t) a.form.heap) (all_of n many))
+
+      abbrev g : Ground
+      g = ground_of a (bound_files (plan_of a.t) (means.holds old) [] a.read.bindings)
+
+      -- what the desk tells was heard
+      view_told : AreFilesTold (means.holds old) a ⊎ (heard_in given.played.calls ≡ Ok a.topology ∷ Ok a.script ∷ []) → status ≡ 0 → option_map view_of (dsp.on (device_of given.last)) ≡ option_map view_of (steps_of (met_in a))
+      view_told (inr heard) zero = view_by heard zero
+      view_told (inl told) zero =
+          view_by (told_heard means all_turns a.form a.topology a.script given.played.calls old new told.0 told.1 (subst (DoneBy (play a.form) all_turns given.played.calls) zero (plays_by a.form a.is_form)) given.played.led) zero
+
+      -- a reader takes the records
+      each_taken : AllByRecursion IsEntry (all_records given.records)
+      each_taken = records-each dsp given.turns (Bare p) given.last given.turned given.records kept_named
+
+      file_by : AreFilesTold (means.holds old) a → status ≡ 0 → (bytes : List ℕ) → means.wrote new (Slot trace_slot) ≡ Some bytes → (bytes ≡ records_bytes (met_in a)) × IsTraceOf bytes (met_in a) None
+      file_by told zero bytes wrote = by (plays_whole off a told)
+        where
+          by : Plays means dsp a.form.trace g (rounds_of a.read.commands) old new status p given.last given.turns given.records ⊎ Unbegun means (written_slots a) old new status p given.last → (bytes ≡ records_bytes (met_in a)) × IsTraceOf bytes (met_in a) None
+          by (inr u) = absurd (not_zero status zero u.ended)
+          by (inl x) =
+              let outs : List Out = map (λ (leg : Leg). leg.out) x.legs in
+              let all = all_made (rounds_of a.read.commands) (recorded_outs given.records outs) x.made (subst (AreWritten (rounds_of a.read.commands) (recorded_outs given.records outs) x.made) zero x.written) in
+              let as_many : length outs ≡ length (rounds_of a.read.commands) = sym (as_many_outs given.records outs) ∙ all.0 in
+              let legs_many : length x.legs ≡ length (rounds_of a.read.commands) = sym (length-map x.legs (λ (leg : Leg). leg.out)) ∙ as_many in
+              let left : given.records ≡ met_units (plan_of a.t) a.form.heap commands =
+              subst (λ (trace : Option (List ℕ)). AreMet trace (plan_of a.t) a.form.heap (take (length x.legs) commands) given.records) named (x.met calm)
+              ∙ ap (met_units (plan_of a.t) a.form.heap) (all_of (length x.legs) legs_many) in
+              let each : length given.records ≡ length outs =
+              ap length left ∙ met-length (plan_of a.t) a.form.heap commands ∙ length-map (rounds_of a.read.commands) (λ (round : Round). round.numbered.command) ∙ sym as_many in
+              let apart = trace-apart a.topology a.t a.read.bindings a.make_run.file a.fit.0 a.make_run.right in
+              let is : bytes_of_pieces (Slot trace_slot) x.made ≡ records_bytes (all_records given.records) =
+              ap (bytes_of_pieces (Slot trace_slot)) all.1
+              ∙ trace-bytes g x.over.doing (take (length x.legs) commands) (first_at g) x.legs (rounds_of a.read.commands) given.records x.run apart as_many each in
+              let stands : means.wrote new (Slot trace_slot) ≡ with_more (opened (trace_slots (Some name) ++ g.slots) (Slot trace_slot) (means.wrote old (Slot trace_slot))) (bytes_of_pieces (Slot trace_slot) x.made) =
+              subst (λ (trace : Option (List ℕ)). means.wrote new (Slot trace_slot) ≡ with_more (opened (trace_slots trace ++ g.slots) (Slot trace_slot) (means.wrote old (Slot trace_slot))) (bytes_of_pieces (Slot trace_slot) x.made)) named (x.wrote (Slot trace_slot)) in
+              let held : bytes ≡ records_bytes (met_in a) =
+              file-bytes trace_slot g.slots (means.wrote old (Slot trace_slot)) (means.wrote new (Slot trace_slot)) (bytes_of_pieces (Slot trace_slot) x.made) bytes stands wrote
+              ∙ is ∙ ap (λ (rs : List (List Entry)). records_bytes (all_records rs)) left in
+              (held, trace-written bytes (met_in a) held (subst (λ (rs : List (List Entry)). AllByRecursion IsEntry (all_records rs)) left each_taken))
+
+  pub plays_heard : dsp.on p ≡ None → PlaysWhatIsHeard dsp words given.played.calls given.turns status p given.last
+  plays_heard off a heard = play_is_heard off a heard
+
+  pub traces : dsp.on p ≡ None → TracesWhole means dsp words given.played.calls old new status p given.last given.records
+  traces off a name named calm = record { left = left_by off a name named calm; view = view_told off a name named calm; file = file_by off a name named calm }

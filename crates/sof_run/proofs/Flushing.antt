@@ -13,7 +13,7 @@ use Rattle.sof_run.specs.Play.{flush_todo}
 use Rattle.sof_run.specs.Opening.{AreCreated}
 use Rattle.sof_run.proofs.Steps.{do_phase}
 
-flush_one : (slot : ℕ) (bytes : List ℕ) (written : List Written) (rest : Todo) → flush_todo (with_bytes slot bytes written) rest ≡ flush_todo (with_bytes slot bytes []) (flush_todo written rest)
+pub flush_one : (slot : ℕ) (bytes : List ℕ) (written : List Written) (rest : Todo) → flush_todo (with_bytes slot bytes written) rest ≡ flush_todo (with_bytes slot bytes []) (flush_todo written rest)
 flush_one slot [] written rest = refl
 flush_one slot (byte ∷ bytes) written rest = refl
 
@@ -68,3 +68,14 @@ module _ {D : Type 0} (means : DeskMeaning D) where
   pub left_none : (outputs : List OutputView) (k : ℕ) (old new : D) → length outputs ≤ k → Left outputs (drop k outputs) old new → DeskPhase means (flush_todo (written_in outputs)) true old new
   left_none outputs k old new past so_far = λ rest turns status end played.
       so_far rest turns status end (subst (λ os. Played means (flush_todo (written_in os) rest) new turns status end) (sym (drop_all k outputs past)) played)
+
+-- bytes, and then what is written behind them
+module _ {D : Type 0} (means : DeskMeaning D) (slot : ℕ) (bytes : List ℕ) (written : List Written) (old m new : D) where
+  pub flushed_first : (done : Bool) → DeskPhase means (flush_todo (with_bytes slot bytes [])) true old m → DeskPhase means (flush_todo written) done m new → DeskPhase means (flush_todo (with_bytes slot bytes written)) done old new
+  flushed_first true first later = λ rest turns status end played.
+      subst (λ todo. Played means todo old turns status end) (sym (flush_one slot bytes written rest)) (first (flush_todo written rest) turns status end (later rest turns status end played))
+  flushed_first false first later = λ rest.
+      subst (λ todo. Played means todo old [] 3 new) (sym (flush_one slot bytes written rest)) (first (flush_todo written rest) [] 3 new (later rest))
+
+  pub flush_failed : DeskPhase means (flush_todo (with_bytes slot bytes [])) false old new → DeskPhase means (flush_todo (with_bytes slot bytes written)) false old new
+  flush_failed failed = λ rest. subst (λ todo. Played means todo old [] 3 new) (sym (flush_one slot bytes written rest)) (failed (flush_todo written rest))

@@ -1,7 +1,9 @@
 -- The run over what calls gave, whatever the desk tells.
-use Rattle.std.proofs.Common.{◌≡◌, ◌⊎◌, inl, inr, ℕ, ◌<◌, ◌^◌, Bool, true, false, ltb, if◌then◌else◌, List, [], ◌∷◌, ◌++◌, map, take, length, Option, Some, None, Result, Ok, Err, MatchOption, refl, sym, ◌∙◌, ap, subst, codes, arith}
+use Rattle.std.proofs.Common.{◌≡◌, ◌⊎◌, inl, inr, ℕ, suc, ◌<◌, ◌^◌, Bool, true, false, ltb, if◌then◌else◌, List, [], ◌∷◌, ◌++◌, map, take, length, Option, Some, None, Result, Ok, Err, MatchOption, refl, sym, ◌∙◌, ap, subst, codes, arith}
 use Rattle.std.proofs.lemmas.Bool.{cases_Bool}
+use Rattle.std.specs.Prelude.{option_map}
 use Rattle.sof_base.specs.Ports.{InputView}
+use Rattle.stream_law.specs.State.{view_of}
 use Rattle.sof_io.specs.Fills.{with_input}
 use Rattle.sof_desk.specs.declared.calls.LoadFault.TheVariants.{Failed, TooLong, OutOfMemory}
 use Rattle.sof_desk.specs.Desk.{DeskAct, DeskCall, Load, Did, Read as ReadCall, Heard}
@@ -13,7 +15,8 @@ use Rattle.sof_script.specs.declared.script.Command.{Command}
 use Rattle.sof_session.specs.Fills.{bytes_read}
 use Rattle.sof_session.specs.NewInputs.{AreNew}
 use Rattle.sof_session.specs.Written.{Written, Out, Ground, Leg}
-use Rattle.sof_session.specs.Lives.{Life, Bare, Task, Begin, Fill, Carry, Turn, Turns, reads_by, reads_in, carried_outs}
+use Rattle.sof_session.specs.SessionStep.{Calm}
+use Rattle.sof_session.specs.Lives.{Life, Bare, Task, Begin, Fill, Carry, Turn, Turns, device_of, reads_by, reads_in, carried_outs}
 use Rattle.sof_session.specs.RunOver.{RunOver}
 use Rattle.sof_session.proofs.FilledRuns.{AreFilled, RunsFilled, runs-filled}
 use Rattle.sof_run.specs.Words.{Form}
@@ -22,10 +25,16 @@ use Rattle.sof_run.specs.Bindings.{wrong_binding, bound_slot, binding_act, bound
 use Rattle.sof_run.specs.Rounds.{Round, rounds_of}
 use Rattle.sof_run.specs.Lines.{no_memory_line, lines_after}
 use Rattle.sof_run.specs.Prepared.{Ready, prepared}
-use Rattle.sof_run.specs.Play.{flush_todo, lines_todo, unit_todo, rounds_todo, bindings_todo, session_todo, ready_todo, prepared_todo, play}
+use Rattle.ipc3_trace.specs.declared.entry.Entry.{Entry}
+use Rattle.ipc3_trace.specs.Steps.{steps_of}
+use Rattle.sof_run.specs.Keeping.{trace_acts, recorded_turns, KeptRecords}
+use Rattle.sof_run.specs.Play.{flush_todo, lines_todo, unit_todo, rounds_todo, bindings_todo, acts_todo, traced_todo, session_todo, ready_todo, prepared_todo, play}
+use Rattle.sof_run.proofs.RecordedTurns.{BareBegun, bare_begun, outs_recorded, as_many_outs, filled_bare}
 use Rattle.sof_run.specs.Calls.{heard_in}
 use Rattle.sof_run.proofs.Slots.{bound_distinct}
 use Rattle.sof_run.proofs.WrittenPieces.{commands_of}
+use Rattle.sof_run.specs.Plays.{AreMet}
+use Rattle.sof_run.proofs.MetRuns.{are-met, records-view, all_records}
 use Rattle.sof_run.proofs.Grounds.{few_front, messages_few}
 
 -- ---- the units
@@ -107,6 +116,42 @@ module _ (round : Round) (rounds : List Round) (others : Goods rounds) where
       let is : turn ≡ fills f.reads f.failed turn.out = λ i. record { task = f.task i; out = turn.out } in
       subst (λ (t : Turn). Good (round ∷ rounds) (t ∷ turns)) (sym is) (by_failed f.reads f.failed turn.out turns f.later status goes.1)
 
+-- where the status is 0 each unit's command was carried out
+abbrev Alls : List Round → Type 0
+Alls rounds = (turns : List Turn) (calls : List DeskCall) → DoneBy (rounds_todo rounds End) turns calls 0 → length (carried_outs turns) ≡ length rounds
+
+not_ended : (turns : List Turn) → Ended turns 0 → ⊥
+not_ended turns (none, inl three) = cc three
+not_ended turns (none, inr seven) = cc seven
+
+module _ (round : Round) (rounds : List Round) (others : Alls rounds) where
+  others_all : (turns : List Turn) → Behind (rounds_todo rounds End) turns 0 → length (carried_outs turns) ≡ length rounds
+  others_all turns (inl more) = others turns more.0 more.1
+  others_all turns (inr none) = absurd (not_ended turns none)
+
+  all_by : (reads : List (ℕ × List ℕ)) (failed : Option ℕ) (out : Out) (turns : List Turn) (later : List DeskCall) →
+      MatchOption failed (DoneBy (unit_todo round (rounds_todo rounds End)) turns later 0) (λ slot. Over 3 turns later 0) → length (carried_outs turns) ≡ suc (length rounds)
+  all_by reads (Some slot) out turns later over = absurd (cc over.2)
+  all_by reads None out [] later goes = absurd goes
+  all_by reads None out (turn ∷ turns) later goes =
+      let is : turn ≡ carries round.numbered.command turn.out = λ i. record { task = goes.0 i; out = turn.out } in
+      let lines = lines_after round turn.out in
+      subst (λ (t : Turn). length (carried_outs (t ∷ turns)) ≡ suc (length rounds)) (sym is)
+      (ap suc (others_all turns
+      (and_on (lines_todo lines (rounds_todo rounds End)) (rounds_todo rounds End) turns 0 (flush_on turn.out.written (lines_todo lines (rounds_todo rounds End)) turns later 0 goes.1)
+      (λ calls more. lines_on lines (rounds_todo rounds End) turns calls 0 more))))
+
+  round_all : Alls (round ∷ rounds)
+  round_all [] calls goes = absurd goes
+  round_all (turn ∷ turns) calls goes =
+      let f = goes.0 in
+      let is : turn ≡ fills f.reads f.failed turn.out = λ i. record { task = f.task i; out = turn.out } in
+      subst (λ (t : Turn). length (carried_outs (t ∷ turns)) ≡ suc (length rounds)) (sym is) (all_by f.reads f.failed turn.out turns f.later goes.1)
+
+rounds_all : (rounds : List Round) → Alls rounds
+rounds_all [] turns calls goes = ap (λ (ts : List Turn). length (carried_outs ts)) goes.0
+rounds_all (round ∷ rounds) turns calls goes = round_all round rounds (rounds_all rounds) turns calls goes
+
 rounds_good : (rounds : List Round) → Goods rounds
 rounds_good [] turns calls status goes = subst (λ (ts : List Turn). Good [] ts) (sym goes.0) tt
 rounds_good (round ∷ rounds) turns calls status goes = round_good round rounds (rounds_good rounds) turns calls status goes
@@ -121,6 +166,11 @@ bindings_on : (plan : Plan) (bs : List Bound) (rest : Todo) (turns : List Turn) 
 bindings_on plan [] rest turns calls status goes = inl (calls, goes)
 bindings_on plan (b ∷ bs) rest turns calls status goes =
     and_on (bindings_todo plan bs rest) rest turns status (do_on (binding_act plan b) (bindings_todo plan bs rest) turns calls status goes) (λ later more. bindings_on plan bs rest turns later status more)
+
+acts_on : (acts : List DeskAct) (rest : Todo) (turns : List Turn) (calls : List DeskCall) (status : ℕ) → DoneBy (acts_todo acts rest) turns calls status → Behind rest turns status
+acts_on [] rest turns calls status goes = inl (calls, goes)
+acts_on (act ∷ acts) rest turns calls status goes =
+    and_on (acts_todo acts rest) rest turns status (do_on act (acts_todo acts rest) turns calls status goes) (λ later more. acts_on acts rest turns later status more)
 
 new_more : (slot : ℕ) (inputs : List InputView) → AreNew inputs → AreNew (with_input slot inputs)
 new_more slot [] new = (refl, tt)
@@ -154,6 +204,7 @@ module _ (form : Form) (topology script : List ℕ) (plan : Plan) (read : Read) 
     pub are : turns ≡ begins ∷ others
     pub task : begins.task ≡ Begin plan form.heap inputs slots
     pub filled : Good (rounds_of read.commands) others
+    pub all : status ≡ 0 → length (carried_outs others) ≡ length (rounds_of read.commands)
 
   abbrev Result' : Type 0
   Result' = Began ⊎ Ended turns status
@@ -166,19 +217,21 @@ module _ (form : Form) (topology script : List ℕ) (plan : Plan) (read : Read) 
     where
       by : (ts : List Turn) → turns ≡ ts → DoneBy session ts calls status → Began
       by [] is goes = absurd goes
-      by (begins ∷ others) is goes = record { begins = begins; others = others; are = is; task = goes.0; filled = rounds_good (rounds_of read.commands) others calls status goes.1 }
+      by (begins ∷ others) is goes = record { begins = begins; others = others; are = is; task = goes.0; filled = rounds_good (rounds_of read.commands) others calls status goes.1; all = λ zero. rounds_all (rounds_of read.commands) others calls (subst (λ n. DoneBy (rounds_todo (rounds_of read.commands) End) others calls n) zero goes.1) }
 
   or_none : {A : Type 0} (todo : Todo) → Behind todo turns status → ((calls : List DeskCall) → DoneBy todo turns calls status → A ⊎ Ended turns status) → A ⊎ Ended turns status
   or_none todo (inl more) on = on more.0 more.1
   or_none todo (inr ended) on = inr ended
 
-  ready_on : (calls : List DeskCall) → DoneBy (ready_todo form.heap plan read) turns calls status → Result'
-  ready_on calls goes = or_none session (bindings_on plan read.bindings session turns calls status goes) (λ later more. inl (began later more))
+  ready_on : (calls : List DeskCall) → DoneBy (ready_todo form.heap form.trace plan read) turns calls status → Result'
+  ready_on calls goes =
+      or_none (traced_todo form.trace session) (bindings_on plan read.bindings (traced_todo form.trace session) turns calls status goes) (λ later more.
+      or_none session (acts_on (trace_acts form.trace) session turns later status more) (λ last done. inl (began last done)))
 
-  files_on : (calls : List DeskCall) → DoneBy (Free (prepared_todo form.heap (prepared topology script))) turns calls status → Result'
+  files_on : (calls : List DeskCall) → DoneBy (Free (prepared_todo form.heap form.trace (prepared topology script))) turns calls status → Result'
   files_on calls goes =
-      or_none (prepared_todo form.heap (prepared topology script)) (free_on (prepared_todo form.heap (prepared topology script)) turns calls status goes) (λ later more.
-      ready_on later (subst (λ files. DoneBy (prepared_todo form.heap files) turns later status) ready more))
+      or_none (prepared_todo form.heap form.trace (prepared topology script)) (free_on (prepared_todo form.heap form.trace (prepared topology script)) turns calls status goes) (λ later more.
+      ready_on later (subst (λ files. DoneBy (prepared_todo form.heap form.trace files) turns later status) ready more))
 
   -- a load that answered this, first of all that loads answered
   module _ (name line : List ℕ) (next : List ℕ → Todo) (bytes : List ℕ) (more : List Heard) where
@@ -196,25 +249,38 @@ module _ (form : Form) (topology script : List ℕ) (plan : Plan) (read : Read) 
 
   pub play_heard : (calls : List DeskCall) → heard_in calls ≡ Ok topology ∷ Ok script ∷ [] → DoneBy (play form) turns calls status → Began ⊎ Ended turns status
   play_heard calls heard goes =
-      asked form.topology (codes "too long topology\n") (λ xs. Ask form.script 1048576 (codes "too long script\n") (λ ys. Free (prepared_todo form.heap (prepared xs ys)))) topology (Ok script ∷ []) calls heard goes (λ later rest goes.
-      asked form.script (codes "too long script\n") (λ ys. Free (prepared_todo form.heap (prepared topology ys))) script [] later rest goes (λ last none goes.
+      asked form.topology (codes "too long topology\n") (λ xs. Ask form.script 1048576 (codes "too long script\n") (λ ys. Free (prepared_todo form.heap form.trace (prepared xs ys)))) topology (Ok script ∷ []) calls heard goes (λ later rest goes.
+      asked form.script (codes "too long script\n") (λ ys. Free (prepared_todo form.heap form.trace (prepared topology ys))) script [] later rest goes (λ last none goes.
       files_on last goes))
 
   -- ---- the run
 
-  module _ {P : Type 0} (dsp : Meaning P) (p : P) (last : Life P) (turned : Turns dsp (Bare p) turns last) (off : dsp.on p ≡ None) (sound : IsSound plan) (right : wrong_binding plan read.bindings ≡ None) (few : length read.commands < 2 ^ 32) (b : Began) where
+  module _ {P : Type 0} (dsp : Meaning P) (p : P) (last : Life P) (records : List (List Entry)) (bare : List Turn) (bare_turned : Turns dsp (Bare p) bare last) (recorded : turns ≡ recorded_turns records bare) (kept : KeptRecords dsp form.trace (Bare p) bare last bare_turned records) (off : dsp.on p ≡ None) (sound : IsSound plan) (right : wrong_binding plan read.bindings ≡ None) (few : length read.commands < 2 ^ 32) (b : Began) where
     abbrev all : List Command
     all = commands_of (rounds_of read.commands)
 
     abbrev heard_g : List (ℕ × List ℕ) → Ground
     heard_g whole = record { plan = plan; heap = form.heap; whole = whole; slots = slots }
 
-    abbrev run : RunsFilled dsp (heard_g []) (take (length (carried_outs b.others)) all) b.begins b.others p last
+    abbrev x : BareBegun records bare b.others (Begin plan form.heap inputs slots)
+    x = bare_begun plan form.heap inputs slots records bare b.begins b.others (sym b.are ∙ recorded) b.task
+
+    as_many_bare : length (carried_outs b.others) ≡ length (carried_outs x.rest)
+    as_many_bare = ap length (ap carried_outs x.others_are ∙ outs_recorded records x.rest) ∙ as_many_outs records (carried_outs x.rest)
+
+    abbrev made : List Command
+    made = take (length (carried_outs x.rest)) all
+
+    filled : AreFilled made x.rest
+    filled = filled_bare made records x.rest (subst (AreFilled made) x.others_are (subst (λ n. AreFilled (take n all) b.others) as_many_bare b.filled))
+
+    pub run : RunsFilled dsp (heard_g []) made x.begins x.rest p last
     run =
-        runs-filled dsp (heard_g []) inputs p (take (length (carried_outs b.others)) all) b.begins b.others last off sound (new_inputs plan read.bindings [] tt) (bound_distinct plan read.bindings right)
-        b.task b.filled (few_front (heard_g []) sound read.commands (length (carried_outs b.others)))
-        (omega (arith, messages_few read.commands (length (carried_outs b.others)), few))
-        (subst (λ (ts : List Turn). Turns dsp (Bare p) ts last) b.are turned)
+        runs-filled dsp (heard_g []) inputs p made x.begins x.rest last off sound (new_inputs plan read.bindings [] tt) (bound_distinct plan read.bindings right)
+        x.task_is filled
+        (few_front (heard_g []) sound read.commands (length (carried_outs x.rest)))
+        (omega (arith, messages_few read.commands (length (carried_outs x.rest)), few))
+        (subst (λ (ts : List Turn). Turns dsp (Bare p) ts last) x.is bare_turned)
 
     abbrev pub legs : List Leg
     legs = run.legs
@@ -223,14 +289,30 @@ module _ (form : Form) (topology script : List ℕ) (plan : Plan) (read : Read) 
     outs_length [] = refl
     outs_length (x ∷ xs) = omega (arith, outs_length xs)
 
-    as_many : length (carried_outs b.others) ≡ length run.legs
+    as_many : length (carried_outs x.rest) ≡ length run.legs
     as_many = ap length (sym run.outs) ∙ outs_length run.legs
 
-    reads_are : reads_in b.others ≡ reads_in turns
-    reads_are = sym (ap reads_in b.are ∙ ap (λ (task : Task). reads_by task ++ reads_in b.others) b.task)
+    -- where no count of the device rose, the records are those that the run leaves
+    pub met_is : Calm dsp p (device_of last) → AreMet form.trace plan form.heap (take (length legs) all) records
+    met_is still =
+        subst (λ n. AreMet form.trace plan form.heap (take n all) records) as_many
+        (are-met dsp plan form.heap form.trace p made inputs slots x.begins x.rest bare last bare_turned records x.is kept x.task_is filled off still)
 
-    pub over_is : RunOver dsp (heard_g (bytes_read (reads_in turns))) (take (length legs) all) legs p turns last
+    -- and lead to the device
+    pub view_is : (name : List ℕ) → form.trace ≡ Some name → Calm dsp p (device_of last) → option_map view_of (dsp.on (device_of last)) ≡ option_map view_of (steps_of (all_records records))
+    view_is name named still =
+        records-view dsp plan form.heap name p made inputs slots x.begins x.rest bare last bare_turned records x.is
+        (subst (λ (trace : Option (List ℕ)). KeptRecords dsp trace (Bare p) bare last bare_turned records) named kept) x.task_is filled off still
+
+    -- with status 0 each unit has its leg
+    pub all_legs : status ≡ 0 → length legs ≡ length (rounds_of read.commands)
+    all_legs zero = sym as_many ∙ sym as_many_bare ∙ b.all zero
+
+    reads_are : reads_in x.rest ≡ reads_in bare
+    reads_are = sym (ap reads_in x.is ∙ ap (λ (task : Task). reads_by task ++ reads_in x.rest) x.task_is)
+
+    pub over_is : RunOver dsp (heard_g (bytes_read (reads_in bare))) (take (length legs) all) legs p bare last
     over_is =
-        subst (λ (reads : List (ℕ × List ℕ)). RunOver dsp (heard_g (bytes_read reads)) (take (length run.legs) all) run.legs p turns last) reads_are
-        (subst (λ (n : ℕ). RunOver dsp (heard_g (bytes_read (reads_in b.others))) (take n all) run.legs p turns last) as_many
-        (subst (λ (ts : List Turn). RunOver dsp (heard_g (bytes_read (reads_in b.others))) (take (length (carried_outs b.others)) all) run.legs p ts last) (sym b.are) run.over))
+        subst (λ (n : ℕ). RunOver dsp (heard_g (bytes_read (reads_in bare))) (take n all) legs p bare last) as_many
+        (subst (λ (reads : List (ℕ × List ℕ)). RunOver dsp (heard_g (bytes_read reads)) made legs p bare last) reads_are
+        (subst (λ (ts : List Turn). RunOver dsp (heard_g (bytes_read (reads_in x.rest))) made legs p ts last) (sym x.is) run.over))

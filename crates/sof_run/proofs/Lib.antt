@@ -2,6 +2,15 @@ pub mod Steps
 pub mod Wanted
 pub mod Refills
 pub mod Commands
+pub mod TracedSessions
+mod RecordEntries
+mod TracedViews
+pub mod DeedRecords
+pub mod CommandRecords
+pub mod Kept
+pub mod RecordedTurns
+pub mod MetRuns
+pub mod TraceFiles
 pub mod BrokenFiles
 pub mod Plays
 pub mod Statuses
@@ -39,6 +48,11 @@ pub mod PlayRuns
 pub mod LoadedBytes
 pub mod Courses
 pub mod StressPhases
+pub mod ReplayPhases
+pub mod ReplayTurns
+pub mod ReplayWalks
+pub mod ReplayCounts
 pub mod StressVerdicts
+pub mod ReplayVerdicts
 pub mod HeardRuns
 pub mod OnePlay

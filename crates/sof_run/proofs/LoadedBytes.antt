@@ -6,8 +6,8 @@ use Rattle.sof_desk.specs.Desk.{Heard, DeskCall, Load, Did, Read}
 use Rattle.sof_session.specs.Lives.{Turn}
 use Rattle.sof_run.specs.TopologyBytes.{BringsBytes}
 use Rattle.sof_run.specs.Lines.{no_memory_line}
-use Rattle.sof_run.specs.Todo.{Todo, End, Stop, Ask, Do, Step, Refill, Free, Says, Over, DoneBy}
-use Rattle.sof_run.specs.Calls.{reading, heard_in}
+use Rattle.sof_run.specs.Todo.{Todo, End, Stop, Ask, Do, Step, Refill, Send, Free, Says, Over, DoneBy}
+use Rattle.sof_run.specs.Calls.{reading, answer_in, heard_in}
 
 -- reads are no loads
 pub heard_behind : (reads : List (ℕ × List ℕ)) (failed : Option ℕ) (later : List DeskCall) → heard_in (reading reads failed ++ later) ≡ heard_in later
@@ -54,5 +54,7 @@ loads_bring (Refill next) (turn ∷ turns) calls status goes =
       | Some slot ↦ λ over. none_bring f.later over.1
     ]) goes.1 in
     subst (λ (cs : List DeskCall). Bring cs) (sym f.calls_are) (subst (λ (hs : List Heard). AllByRecursion BringsBytes hs) (sym (heard_behind f.reads f.failed f.later)) later)
+loads_bring (Send message next) [] calls status goes = absurd goes
+loads_bring (Send message next) (turn ∷ turns) calls status goes = loads_bring (next (answer_in turn.task)) turns calls status goes.1
 loads_bring (Free next) turns calls status (inl goes) = loads_bring next turns calls status goes
 loads_bring (Free next) turns calls status (inr says) = said_bring no_memory_line 7 turns calls status says

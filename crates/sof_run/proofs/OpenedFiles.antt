@@ -20,7 +20,8 @@ use Rattle.sof_session.specs.Lives.{Turn}
 use Rattle.sof_run.specs.Lines.{no_memory_line}
 use Rattle.sof_run.specs.Todo.{Todo, Ask, Do, Free, Says, DoneBy}
 use Rattle.sof_run.specs.Bindings.{bound_slot, bound_inputs, bound_files, bound_outputs}
-use Rattle.sof_run.specs.Play.{bindings_todo}
+use Rattle.sof_run.specs.Play.{bindings_todo, traced_todo}
+use Rattle.sof_run.specs.Keeping.{trace_slot, trace_slots}
 use Rattle.sof_run.specs.Pieces.{opened, WroteNone}
 use Rattle.sof_run.specs.LineParts.{IsKeptOrOpened}
 use Rattle.sof_run.specs.Plays.{IsGiven}
@@ -261,7 +262,7 @@ module _ {D : Type 0} (means : DeskMeaning D) where
   none_unread d = record { new = tt; told = λ slot there. absurd (cc there); none = λ slot apart. refl }
 
   -- other calls leave what is to be read
-  unread_kept : (inputs : List InputView) (files : List (ℕ × List ℕ)) (d e : D) → ((slot : ℕ) → means.unread e slot ≡ means.unread d slot) → AreUnread inputs files d → AreUnread inputs files e
+  pub unread_kept : (inputs : List InputView) (files : List (ℕ × List ℕ)) (d e : D) → ((slot : ℕ) → means.unread e slot ≡ means.unread d slot) → AreUnread inputs files d → AreUnread inputs files e
   unread_kept inputs files d e same u = record { new = u.new; told = λ slot there. same slot ∙ u.told slot there; none = u.none }
 
   new_more : (slot : ℕ) (inputs : List InputView) → AreNew inputs → AreNew (with_input slot inputs)
@@ -345,3 +346,61 @@ module _ {D : Type 0} (means : DeskMeaning D) where
     pub open_all : (bs : List Bound) → Opens bs
     open_all [] inputs outputs files old given held are unread n = inl record { mid = old; next = n; are = are; unread = unread }
     open_all (b ∷ bs) inputs outputs files old given held are unread n = one b bs (open_all bs) inputs outputs files old given.0 given.1 held are unread b.input refl n
+
+-- ---- the file of a trace
+
+-- one more slot is made, before these
+made_more : (slot : ℕ) (slots : List ℕ) (place : DeskPlace) (o : Option (List ℕ)) → (if same_place (Slot slot) place then with_nothing (opened slots place o) else opened slots place o) ≡ opened (slot ∷ slots) place o
+made_more slot slots Spoken o = refl
+made_more slot slots (Slot n) o = emptied_twice (nat_eq slot n) (has_slot n slots) o
+
+module _ {D : Type 0} (means : DeskMeaning D) where
+  -- at a desk the files of these slots are made, and nothing was written since another
+  abbrev pub AreMade : List ℕ → D → D → Type 0
+  AreMade slots base d = (place : DeskPlace) → means.wrote d place ≡ opened slots place (means.wrote base place)
+
+  kept_more : (slot n : ℕ) (slots : List ℕ) (was later : Option (List ℕ)) (b : Bool) → has_slot n slots ≡ b → later ≡ (if b then with_nothing was else was) → IsKeptOrOpened (slot ∷ slots) (Slot n) was later
+  kept_more slot n slots was later true there is = inr (is ∙ ap (λ (t : Bool). if t then with_nothing was else was) (sym (or_right (eqb slot n) (has_slot n slots) there)))
+  kept_more slot n slots was later false free is = inl is
+
+  -- what may have been made of some may have been made of one more
+  kept_or_more : (slot n : ℕ) (slots : List ℕ) (was later : Option (List ℕ)) → IsKeptOrOpened slots (Slot n) was later → IsKeptOrOpened (slot ∷ slots) (Slot n) was later
+  kept_or_more slot n slots was later (inl same) = inl same
+  kept_or_more slot n slots was later (inr is) = kept_more slot n slots was later (has_slot n slots) refl is
+
+  before_more : (slot : ℕ) (slots : List ℕ) (turns : List Turn) (status : ℕ) (old new : D) → Before means slots turns status old new → Before means (slot ∷ slots) turns status old new
+  before_more slot slots turns status old new b = record {
+    ended = b.ended;
+    none = b.none;
+    wrote = record {
+      part = b.wrote.part;
+      front = b.wrote.front;
+      said = b.wrote.said;
+      outputs = λ n. kept_or_more slot n slots (means.wrote old (Slot n)) (means.wrote new (Slot n)) (b.wrote.outputs n);
+    };
+    wanting = b.wanting;
+  }
+
+  pub before_traced : (trace : Option (List ℕ)) (slots : List ℕ) (turns : List Turn) (status : ℕ) (old new : D) → Before means slots turns status old new → Before means (trace_slots trace ++ slots) turns status old new
+  before_traced None slots turns status old new b = b
+  before_traced (Some name) slots turns status old new b = before_more trace_slot slots turns status old new b
+
+  -- the trace's file was made where one is kept, and what comes next was done
+  pub record Traced (trace : Option (List ℕ)) (slots : List ℕ) (rest : Todo) (turns : List Turn) (status : ℕ) (base old new : D) : Type 0 where
+    pub mid : D
+    pub next : Next means rest turns status mid new
+    pub are : AreMade (trace_slots trace ++ slots) base mid
+    pub unread : (slot : ℕ) → means.unread mid slot ≡ means.unread old slot
+
+  pub traced_goes : (trace : Option (List ℕ)) (outputs : List OutputView) (rest : Todo) (turns : List Turn) (status : ℕ) (base old new : D) → AreOpen means outputs base old → Next means (traced_todo trace rest) turns status old new →
+      Traced trace (output_slots outputs) rest turns status base old new ⊎ Before means (trace_slots trace ++ output_slots outputs) turns status base new
+  traced_goes None outputs rest turns status base old new are n = inl record { mid = old; next = n; are = are; unread = λ slot. refl }
+  traced_goes (Some name) outputs rest turns status base old new are n =
+      bind (failed_before means (trace_slot ∷ output_slots outputs) outputs (λ k there. or_right (eqb trace_slot k) (has_slot k (output_slots outputs)) there) base old new are turns status
+      (act_goes means (Create trace_slot name) tt rest turns status old new n)) (λ a.
+      inl record {
+        mid = a.mid;
+        next = a.next;
+        are = λ place. a.acted.wrote place ∙ ap (λ o. if same_place (Slot trace_slot) place then with_nothing o else o) (are place) ∙ made_more trace_slot (output_slots outputs) place (means.wrote base place);
+        unread = a.acted.unread;
+      })

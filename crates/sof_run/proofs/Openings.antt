@@ -83,7 +83,7 @@ module _ (plan : Plan) (bs : List Binding) (i : ℕ) (b : Binding) (within : i <
 module _ {D : Type 0} (means : DeskMeaning D) where
   -- ---- which files are open, and which are created
 
-  created_same : (slots : List ℕ) (old new : D) → ((slot : ℕ) → means.created new slot ≡ means.created old slot) → AreCreated means slots old → AreCreated means slots new
+  pub created_same : (slots : List ℕ) (old new : D) → ((slot : ℕ) → means.created new slot ≡ means.created old slot) → AreCreated means slots old → AreCreated means slots new
   created_same [] old new same all = tt
   created_same (slot ∷ slots) old new same all = (same slot ∙ all.0, created_same slots old new same all.1)
 
@@ -107,6 +107,17 @@ module _ {D : Type 0} (means : DeskMeaning D) where
       opened = opened_same means (input_slots inputs) old new acted.opened all.opened;
       created = marked_outputs (means.created new) (means.created old) slot acted.created outputs all.created;
     }
+
+  -- ---- the file of a trace, which is no output's
+
+  pub marked_itself : (slot : ℕ) (file : List ℕ) (old new : D) → Acted means (Create slot file) true old new → means.created new slot ≡ true
+  marked_itself slot file old new acted = this (means.created new) (means.created old) slot acted.created
+
+  pub files_kept : (inputs : List InputView) (outputs : List OutputView) (old new : D) (slot : ℕ) (file : List ℕ) → Acted means (Create slot file) true old new → HaveFiles means inputs outputs old → HaveFiles means inputs outputs new
+  files_kept inputs outputs old new slot file acted all = record {
+    opened = opened_same means (input_slots inputs) old new acted.opened all.opened;
+    created = others (means.created new) (means.created old) slot acted.created (output_slots outputs) all.created;
+  }
 
   -- ---- one binding after another
 

@@ -14,6 +14,7 @@ use Rattle.sof_session.specs.Seat.{Seat}
 use Rattle.sof_session.specs.Fills.{next_read, after_read}
 use Rattle.sof_session.specs.Lives.{Seated, Turn, Fill}
 use Rattle.sof_run.specs.Todo.{Todo, Refill, Over, DoneBy, Phase}
+use Rattle.sof_run.specs.KeptTurns.{KeptTurn}
 use Rattle.sof_run.specs.Calls.{reading}
 use Rattle.sof_run.specs.Opening.{AreOpened, SameFiles}
 use Rattle.sof_run.specs.Refills.{Refilled}
@@ -111,8 +112,8 @@ module _ {D : Type 0} (means : DeskMeaning D) where
   abbrev fill_turn : List (ℕ × List ℕ) → Option ℕ → Turn
   fill_turn reads failed = record { task = Fill reads failed; out = record { answer = Done; shown = []; written = [] } }
 
-  module _ {P : Type 0} (dsp : Meaning P) (seat : Seat P) (slots : List ℕ) (inputs inputs' : List InputView) (old new : D) where
-    pub refill_phase : (done : Bool) → Refilled means done inputs inputs' old new → Phase means dsp Refill done old (Seated seat inputs slots) new (Seated seat inputs' slots)
+  module _ {K : Type 0} (dsp : Meaning K) (holds : K → List ℕ) (empties : K → K → Type 0) (seat : Seat K) (slots : List ℕ) (inputs inputs' : List InputView) (old new : D) where
+    pub refill_phase : (done : Bool) → Refilled means done inputs inputs' old new → Phase means (KeptTurn dsp holds empties) Refill done old (Seated seat inputs slots) new (Seated seat inputs' slots)
     refill_phase true r = λ rest status end q ran. record {
       turns = fill_turn r.reads r.failed ∷ ran.turns;
       turned = (Seated seat inputs' slots, (refl, refl, r.filled, r.next), ran.turned);

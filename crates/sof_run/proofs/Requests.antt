@@ -2,22 +2,22 @@
 use Rattle.std.proofs.Common.{◌≡◌, ℕ, ◌≤◌, nat_le, ◌&&◌, Bool, true, false, List, [], ◌∷◌, Option, Some, None, refl, sym, ◌∙◌, ap, subst, codes, if◌then◌else◌}
 use Rattle.std.specs.Prelude.{option_map, Ok, Err}
 use Rattle.std.specs.Result.{result_ok}
-use Rattle.std.specs.Option.{option_or}
+use Rattle.std.specs.Option.{option_or, option_and_then}
 use Rattle.std.specs.Str.{bytes_eq}
 use Rattle.std.proofs.lemmas.Bool.{and_parts, leb-true}
 use Rattle.std.proofs.lemmas.Slice.Eq.{bytes_eq-Decides}
 use Rattle.sof_script.specs.declared.fault_causes.Cause.{Cause}
 use Rattle.sof_script.specs.declared.fault_causes.Cause.TheVariants as causes
 use Rattle.sof_script.specs.ValueForms.{in_range, decimal_value, number_value}
-use Rattle.sof_run.specs.Words.{Form, is_file_name, named_by, form_with, play_of}
+use Rattle.sof_run.specs.Words.{Form, is_file_name, named_by, form_with, untraced_of, traced_of, play_of, trace_named}
 use Rattle.sof_run.specs.Checking.{check_of}
 use Rattle.sof_run.specs.Picturing.{graph_file_of}
 use Rattle.sof_run.specs.Compiling.{CompileNames, compile_of}
 use Rattle.sof_run.specs.Sourcing.{SourceFiles, source_files_of}
 use Rattle.sof_run.specs.Stressing.{stress_of}
-use Rattle.sof_run.specs.TraceForms.{decode_of}
+use Rattle.sof_run.specs.TraceForms.{decode_of, replay_of}
 use Rattle.sof_run.specs.LineParts.{form, source_files}
-use Rattle.sof_run.specs.Requests.{Request, Play, Check, Picture, Compile, Source, Stress, Decode, request_of}
+use Rattle.sof_run.specs.Requests.{Request, Play, Check, Picture, Compile, Source, Stress, Decode, Replay, request_of}
 
 -- a value that a test lets through
 some_by : {A : Type 0} (b : Bool) (o : Option A) (a : A) → (if b then o else None) ≡ Some a → (b ≡ true) × (o ≡ Some a)
@@ -91,13 +91,68 @@ decode_asked room (verb ∷ trace ∷ []) name is =
     rw (no_check, no_graph, no_stress, is) refl
 decode_asked room (verb ∷ trace ∷ more ∷ words) name is = absurd (cc is)
 
+pub replay_asked : (room : ℕ) (words : List (List ℕ)) (name : List ℕ) → replay_of words ≡ Some name → request_of room words ≡ Some (Replay name)
+replay_asked room [] name is = absurd (cc is)
+replay_asked room (verb ∷ []) name is = absurd (cc is)
+replay_asked room (verb ∷ trace ∷ []) name is =
+    let same : bytes_eq verb (codes "replay") ≡ true = verb_is (codes "replay") verb trace name is in
+    let no_check : bytes_eq verb (codes "check") ≡ false = not_both verb (codes "replay") (codes "check") same in
+    let no_graph : bytes_eq verb (codes "graph") ≡ false = not_both verb (codes "replay") (codes "graph") same in
+    let no_stress : bytes_eq verb (codes "stress") ≡ false = not_both verb (codes "replay") (codes "stress") same in
+    let no_decode : bytes_eq verb (codes "decode") ≡ false = not_both verb (codes "replay") (codes "decode") same in
+    rw (no_check, no_graph, no_stress, no_decode, is) refl
+replay_asked room (verb ∷ trace ∷ more ∷ words) name is = absurd (cc is)
+
+-- what asks for a replay has its form
+pub replay_meant : (room : ℕ) (words : List (List ℕ)) (name : List ℕ) → request_of room words ≡ Some (Replay name) → replay_of words ≡ Some name
+replay_meant room words name is = by (play_of room words) (check_of words) (graph_file_of words) (compile_of words) (source_files_of words) (stress_of words) (decode_of words) (replay_of words) is
+  where
+    by : (p : Option Form) (c g : Option (List ℕ)) (s : Option CompileNames) (f : Option SourceFiles) (n : Option ℕ) (d w : Option (List ℕ)) →
+        option_or (option_map Play p) (option_or (option_map Check c) (option_or (option_map Picture g) (option_or (option_map Compile s) (option_or (option_map Source f) (option_or (option_map Stress n) (option_or (option_map Decode d) (option_map Replay w))))))) ≡ Some (Replay name) → w ≡ Some name
+    by (Some asked) c g s f n d w is = absurd (cc is)
+    by None (Some asked) g s f n d w is = absurd (cc is)
+    by None None (Some asked) s f n d w is = absurd (cc is)
+    by None None None (Some asked) f n d w is = absurd (cc is)
+    by None None None None (Some asked) n d w is = absurd (cc is)
+    by None None None None None (Some asked) d w is = absurd (cc is)
+    by None None None None None None (Some asked) w is = absurd (cc is)
+    by None None None None None None None (Some asked) is = cc is
+    by None None None None None None None None is = absurd (cc is)
+
+-- a trace is kept only of a play
+pub none_kept : (room : ℕ) (words : List (List ℕ)) (r : Option Request) → request_of room words ≡ r → ((form : Form) → r ≡ Some (Play form) → ⊥) → trace_named room words ≡ None
+none_kept room words r is other = by (play_of room words) refl
+  where
+    by : (p : Option Form) → play_of room words ≡ p → option_and_then (λ (form : Form). form.trace) p ≡ None
+    by None asked = refl
+    by (Some form) asked = absurd (other form (sym is ∙ play_asked room words form asked))
+
+pub kept_of : (room : ℕ) (words : List (List ℕ)) (form : Form) → play_of room words ≡ Some form → trace_named room words ≡ form.trace
+kept_of room words form is = ap (option_and_then (λ (form : Form). form.trace)) is
+
+-- what asks for a play has its form
+pub play_meant : (room : ℕ) (words : List (List ℕ)) (form : Form) → request_of room words ≡ Some (Play form) → play_of room words ≡ Some form
+play_meant room words form is = by (play_of room words) (check_of words) (graph_file_of words) (compile_of words) (source_files_of words) (stress_of words) (decode_of words) (replay_of words) is
+  where
+    by : (p : Option Form) (c g : Option (List ℕ)) (s : Option CompileNames) (f : Option SourceFiles) (n : Option ℕ) (d w : Option (List ℕ)) →
+        option_or (option_map Play p) (option_or (option_map Check c) (option_or (option_map Picture g) (option_or (option_map Compile s) (option_or (option_map Source f) (option_or (option_map Stress n) (option_or (option_map Decode d) (option_map Replay w))))))) ≡ Some (Play form) → p ≡ Some form
+    by (Some asked) c g s f n d w is = cc is
+    by None (Some asked) g s f n d w is = absurd (cc is)
+    by None None (Some asked) s f n d w is = absurd (cc is)
+    by None None None (Some asked) f n d w is = absurd (cc is)
+    by None None None None (Some asked) n d w is = absurd (cc is)
+    by None None None None None (Some asked) d w is = absurd (cc is)
+    by None None None None None None (Some asked) w is = absurd (cc is)
+    by None None None None None None None (Some asked) is = absurd (cc is)
+    by None None None None None None None None is = absurd (cc is)
+
 -- an option of no value
 none_by : {A : Type 0} (o : Option A) → ((a : A) → o ≡ Some a → ⊥) → o ≡ None
 none_by None none = refl
 none_by (Some a) none = absurd (none a refl)
 
 -- words that ask for nothing have none of the forms
-pub nothing_asked : (room : ℕ) (words : List (List ℕ)) → request_of room words ≡ None → (play_of room words ≡ None) × (check_of words ≡ None) × (graph_file_of words ≡ None) × (compile_of words ≡ None) × (source_files_of words ≡ None) × (stress_of words ≡ None) × (decode_of words ≡ None)
+pub nothing_asked : (room : ℕ) (words : List (List ℕ)) → request_of room words ≡ None → (play_of room words ≡ None) × (check_of words ≡ None) × (graph_file_of words ≡ None) × (compile_of words ≡ None) × (source_files_of words ≡ None) × (stress_of words ≡ None) × (decode_of words ≡ None) × (replay_of words ≡ None)
 nothing_asked room words none = (
   none_by (play_of room words) (λ form is. cc (sym none ∙ play_asked room words form is)),
   none_by (check_of words) (λ name is. cc (sym none ∙ check_asked room words name is)),
@@ -106,11 +161,12 @@ nothing_asked room words none = (
   none_by (source_files_of words) (λ files is. cc (sym none ∙ source_asked room words files is)),
   none_by (stress_of words) (λ seed is. cc (sym none ∙ stress_asked room words seed is)),
   none_by (decode_of words) (λ name is. cc (sym none ∙ decode_asked room words name is)),
+  none_by (replay_of words) (λ name is. cc (sym none ∙ replay_asked room words name is)),
 )
 
 -- and the other way round
-pub formless_asked : (room : ℕ) (words : List (List ℕ)) → play_of room words ≡ None → check_of words ≡ None → graph_file_of words ≡ None → compile_of words ≡ None → source_files_of words ≡ None → stress_of words ≡ None → decode_of words ≡ None → request_of room words ≡ None
-formless_asked room words no_play no_check no_graph no_compile no_source no_stress no_decode = rw (no_play, no_check, no_graph, no_compile, no_source, no_stress, no_decode) refl
+pub formless_asked : (room : ℕ) (words : List (List ℕ)) → play_of room words ≡ None → check_of words ≡ None → graph_file_of words ≡ None → compile_of words ≡ None → source_files_of words ≡ None → stress_of words ≡ None → decode_of words ≡ None → replay_of words ≡ None → request_of room words ≡ None
+formless_asked room words no_play no_check no_graph no_compile no_source no_stress no_decode no_replay = rw (no_play, no_check, no_graph, no_compile, no_source, no_stress, no_decode, no_replay) refl
 
 -- ---- its numbers
 
@@ -123,20 +179,41 @@ in_range_most least most (Some m) n is = by (nat_le least m && nat_le m most) re
     by false test is = absurd (cc is)
 
 -- the heap of a form is at most the room
-play_most : (room : ℕ) (words : List (List ℕ)) (f : Form) → play_of room words ≡ Some f → f.heap ≤ room
-play_most room [] f is = absurd (cc is)
-play_most room (verb ∷ []) f is = absurd (cc is)
-play_most room (verb ∷ heap ∷ []) f is = absurd (cc is)
-play_most room (verb ∷ heap ∷ topology ∷ []) f is = absurd (cc is)
-play_most room (verb ∷ heap ∷ topology ∷ script ∷ []) f is =
-    by (result_ok (number_value 0 room heap)) refl (some_by (bytes_eq verb (codes "play")) (form_with (result_ok (number_value 0 room heap)) topology script) f is).1
+form_most : (room : ℕ) (heap topology script : List ℕ) (trace : Option (List ℕ)) (f : Form) → form_with (result_ok (number_value 0 room heap)) topology script trace ≡ Some f → f.heap ≤ room
+form_most room heap topology script trace f is = by (result_ok (number_value 0 room heap)) refl is
   where
-    by : (o : Option ℕ) → result_ok (number_value 0 room heap) ≡ o → form_with o topology script ≡ Some f → f.heap ≤ room
+    by : (o : Option ℕ) → result_ok (number_value 0 room heap) ≡ o → form_with o topology script trace ≡ Some f → f.heap ≤ room
     by None number is = absurd (cc is)
     by (Some n) number is =
-        let same : form n topology script ≡ f = cc (some_by (is_file_name topology && is_file_name script) (Some (form n topology script)) f is).1 in
+        let same : form n topology script trace ≡ f = cc (some_by (is_file_name topology && is_file_name script) (Some (form n topology script trace)) f is).1 in
         subst (λ (f : Form). f.heap ≤ room) same (in_range_most 0 room (decimal_value heap) n number)
-play_most room (verb ∷ heap ∷ topology ∷ script ∷ more ∷ words) f is = absurd (cc is)
+
+untraced_most : (room : ℕ) (words : List (List ℕ)) (f : Form) → untraced_of room words ≡ Some f → f.heap ≤ room
+untraced_most room [] f is = absurd (cc is)
+untraced_most room (verb ∷ []) f is = absurd (cc is)
+untraced_most room (verb ∷ heap ∷ []) f is = absurd (cc is)
+untraced_most room (verb ∷ heap ∷ topology ∷ []) f is = absurd (cc is)
+untraced_most room (verb ∷ heap ∷ topology ∷ script ∷ []) f is =
+    form_most room heap topology script None f (some_by (bytes_eq verb (codes "play")) (form_with (result_ok (number_value 0 room heap)) topology script None) f is).1
+untraced_most room (verb ∷ heap ∷ topology ∷ script ∷ more ∷ words) f is = absurd (cc is)
+
+traced_most : (room : ℕ) (words : List (List ℕ)) (f : Form) → traced_of room words ≡ Some f → f.heap ≤ room
+traced_most room [] f is = absurd (cc is)
+traced_most room (verb ∷ []) f is = absurd (cc is)
+traced_most room (verb ∷ heap ∷ []) f is = absurd (cc is)
+traced_most room (verb ∷ heap ∷ topology ∷ []) f is = absurd (cc is)
+traced_most room (verb ∷ heap ∷ topology ∷ script ∷ []) f is = absurd (cc is)
+traced_most room (verb ∷ heap ∷ topology ∷ script ∷ trace ∷ []) f is =
+    form_most room heap topology script (Some trace) f
+    (some_by (bytes_eq verb (codes "trace") && is_file_name trace) (form_with (result_ok (number_value 0 room heap)) topology script (Some trace)) f is).1
+traced_most room (verb ∷ heap ∷ topology ∷ script ∷ trace ∷ more ∷ words) f is = absurd (cc is)
+
+play_most : (room : ℕ) (words : List (List ℕ)) (f : Form) → play_of room words ≡ Some f → f.heap ≤ room
+play_most room words f is = by (untraced_of room words) refl is
+  where
+    by : (o : Option Form) → untraced_of room words ≡ o → option_or o (traced_of room words) ≡ Some f → f.heap ≤ room
+    by (Some g) untraced is = untraced_most room words f (untraced ∙ is)
+    by None untraced is = traced_most room words f is
 
 -- the number of a stress is at most 1000
 pub stress_most : (words : List (List ℕ)) (seed : ℕ) → stress_of words ≡ Some seed → seed ≤ 1000
@@ -155,17 +232,19 @@ IsWithin room (Compile names) = Unit {0}
 IsWithin room (Source files) = Unit {0}
 IsWithin room (Stress seed) = seed ≤ 1000
 IsWithin room (Decode name) = Unit {0}
+IsWithin room (Replay name) = Unit {0}
 
 pub asked_within : (room : ℕ) (words : List (List ℕ)) (r : Request) → request_of room words ≡ Some r → IsWithin room r
-asked_within room words r is = by (play_of room words) refl (check_of words) (graph_file_of words) (compile_of words) (source_files_of words) (stress_of words) refl (decode_of words) is
+asked_within room words r is = by (play_of room words) refl (check_of words) (graph_file_of words) (compile_of words) (source_files_of words) (stress_of words) refl (decode_of words) (replay_of words) is
   where
-    by : (p : Option Form) → play_of room words ≡ p → (c g : Option (List ℕ)) (s : Option CompileNames) (f : Option SourceFiles) (n : Option ℕ) → stress_of words ≡ n → (d : Option (List ℕ)) →
-        option_or (option_map Play p) (option_or (option_map Check c) (option_or (option_map Picture g) (option_or (option_map Compile s) (option_or (option_map Source f) (option_or (option_map Stress n) (option_map Decode d)))))) ≡ Some r → IsWithin room r
-    by (Some asked) is_play c g s f n is_stress d is = let same : Play asked ≡ r = cc is in subst (IsWithin room) same (play_most room words asked is_play)
-    by None is_play (Some name) g s f n is_stress d is = let same : Check name ≡ r = cc is in subst (IsWithin room) same tt
-    by None is_play None (Some name) s f n is_stress d is = let same : Picture name ≡ r = cc is in subst (IsWithin room) same tt
-    by None is_play None None (Some names) f n is_stress d is = let same : Compile names ≡ r = cc is in subst (IsWithin room) same tt
-    by None is_play None None None (Some files) n is_stress d is = let same : Source files ≡ r = cc is in subst (IsWithin room) same tt
-    by None is_play None None None None (Some seed) is_stress d is = let same : Stress seed ≡ r = cc is in subst (IsWithin room) same (stress_most words seed is_stress)
-    by None is_play None None None None None is_stress (Some name) is = let same : Decode name ≡ r = cc is in subst (IsWithin room) same tt
-    by None is_play None None None None None is_stress None is = absurd (cc is)
+    by : (p : Option Form) → play_of room words ≡ p → (c g : Option (List ℕ)) (s : Option CompileNames) (f : Option SourceFiles) (n : Option ℕ) → stress_of words ≡ n → (d w : Option (List ℕ)) →
+        option_or (option_map Play p) (option_or (option_map Check c) (option_or (option_map Picture g) (option_or (option_map Compile s) (option_or (option_map Source f) (option_or (option_map Stress n) (option_or (option_map Decode d) (option_map Replay w))))))) ≡ Some r → IsWithin room r
+    by (Some asked) is_play c g s f n is_stress d w is = let same : Play asked ≡ r = cc is in subst (IsWithin room) same (play_most room words asked is_play)
+    by None is_play (Some name) g s f n is_stress d w is = let same : Check name ≡ r = cc is in subst (IsWithin room) same tt
+    by None is_play None (Some name) s f n is_stress d w is = let same : Picture name ≡ r = cc is in subst (IsWithin room) same tt
+    by None is_play None None (Some names) f n is_stress d w is = let same : Compile names ≡ r = cc is in subst (IsWithin room) same tt
+    by None is_play None None None (Some files) n is_stress d w is = let same : Source files ≡ r = cc is in subst (IsWithin room) same tt
+    by None is_play None None None None (Some seed) is_stress d w is = let same : Stress seed ≡ r = cc is in subst (IsWithin room) same (stress_most words seed is_stress)
+    by None is_play None None None None None is_stress (Some name) w is = let same : Decode name ≡ r = cc is in subst (IsWithin room) same tt
+    by None is_play None None None None None is_stress None (Some name) is = let same : Replay name ≡ r = cc is in subst (IsWithin room) same tt
+    by None is_play None None None None None is_stress None None is = absurd (cc is)

@@ -34,7 +34,7 @@ found_one f (c ∷ cs) is =
     ]
 
 -- the widget of an endpoint's slot has its name
-named_slot : (plan : Plan) (input : Bool) (name : List ℕ) → has_endpoint plan input name ≡ true → has_widget_name plan name (slot_of plan input name) ≡ true
+pub named_slot : (plan : Plan) (input : Bool) (name : List ℕ) → has_endpoint plan input name ≡ true → has_widget_name plan name (slot_of plan input name) ≡ true
 named_slot plan input name there =
     let one = found_one (is_sought plan input name) plan.graph.comps there in
     let parts = and_parts (is_endpoint_kind input one.0.kind) (has_widget_name plan name one.0.id) one.2 in

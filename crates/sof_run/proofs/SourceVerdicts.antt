@@ -2,14 +2,13 @@
 use Rattle.std.proofs.Common.{◌≡◌, ◌⊎◌, inl, inr, ℕ, ◌≤◌, ◌<◌, List, [], ◌∷◌, length, Option, Some, None, Result, Ok, Err, refl, ◌∙◌, ap, subst, codes, arith}
 use Rattle.sof_desk.specs.declared.calls.LoadFault.TheVariants.{Failed, TooLong, OutOfMemory}
 use Rattle.sof_desk.specs.Desk.{DeskMeaning, DeskCall, Load, Did, Read, DeskLed, Loaded}
-use Rattle.mbox_link.specs.Calls.{Meaning}
-use Rattle.sof_session.specs.Lives.{Life, Turn, Turns}
+use Rattle.sof_session.specs.Lives.{Turn}
 use Rattle.tplg_model.specs.declared.block.Topology.{Topology}
 use Rattle.tplg_source.specs.Outcome.{source_for}
 use Rattle.tplg_source.proofs.KeptPlans.{source_keeps}
 use Rattle.sof_run.specs.declared.prepare.Halt.{Halt}
 use Rattle.sof_run.specs.declared.prepare.Halt.TheVariants as halts
-use Rattle.sof_run.specs.Todo.{End, Says, DoneBy, RanOn}
+use Rattle.sof_run.specs.Todo.{End, Says, DoneBy, Played}
 use Rattle.sof_run.specs.Lines.{no_memory_line, with_newline, halt_line, halt_status}
 use Rattle.sof_run.specs.Compiling.{wrote_line}
 use Rattle.sof_run.specs.CompileTodo.{file_todo}
@@ -181,22 +180,22 @@ module _ {D : Type 0} (means : DeskMeaning D) (files : SourceFiles) (bytes : Lis
       let same : e ≡ led.0 = subst (λ cs. DeskLed means led.0 cs e) goes.2.1 led.2 in
       inr (inr (inr (inr (goes.2.2, ([], (no_memory_line, refl), nothing means d e (λ place. ap (λ x. means.wrote x place) same ∙ loaded.wrote place))))))
 
-module _ {D P : Type 0} (means : DeskMeaning D) (dsp : Meaning P) (words : List (List ℕ)) (old new : D) (room sent : ℕ) (p q : Life P) (status : ℕ) (ran : RanOn means dsp (todo_of room sent words) old p status new q) where
+module _ {D P : Type 0} (means : DeskMeaning D) (words : List (List ℕ)) (old new : D) (room sent : ℕ) (p q : P) (status : ℕ) (turns : List Turn) (still : turns ≡ [] → q ≡ p) (played : Played means (todo_of room sent words) old turns status new) where
   -- what it did is that of making a source
-  goes_on : (files : SourceFiles) → source_files_of words ≡ Some files → DoneBy (make_source files) ran.turns ran.played.calls status
-  goes_on files is = subst (λ todo. DoneBy todo ran.turns ran.played.calls status) (sources_alone room sent words files is) ran.played.goes
+  goes_on : (files : SourceFiles) → source_files_of words ≡ Some files → DoneBy (make_source files) turns played.calls status
+  goes_on files is = subst (λ todo. DoneBy todo turns played.calls status) (sources_alone room sent words files is) played.goes
 
   untouched : (files : SourceFiles) → source_files_of words ≡ Some files → q ≡ p
-  untouched files is = subst (λ ts. Turns dsp p ts q) (no_turn files ran.turns ran.played.calls status (goes_on files is)) ran.turned
+  untouched files is = still (no_turn files turns played.calls status (goes_on files is))
 
-  pub sources : Sources means words old p ran.played.calls status new q
+  pub sources : Sources means words old p played.calls status new q
   sources =
       record {
         alone = untouched;
         judged = λ files bytes named by. elim by [
-          | inl told ↦ judge files bytes means ran.turns ran.played.calls status old new told (goes_on files named) ran.played.led
-          | inr heard ↦ heard_judge files bytes means ran.turns ran.played.calls status old new heard (goes_on files named) ran.played.led
+          | inl told ↦ judge files bytes means turns played.calls status old new told (goes_on files named) played.led
+          | inr heard ↦ heard_judge files bytes means turns played.calls status old new heard (goes_on files named) played.led
         ];
         wrote = λ files bytes t text named told short right kept.
-            source_wrote means files bytes t text short (checked_only bytes (Ok t) right) kept ran.turns ran.played.calls old new status told (goes_on files named) ran.played.led;
+            source_wrote means files bytes t text short (checked_only bytes (Ok t) right) kept turns played.calls old new status told (goes_on files named) played.led;
       }

@@ -5,8 +5,8 @@ use Rattle.sof_desk.specs.Desk.{DeskMeaning, DeskAct, Create, Put, Open, DeskCal
 use Rattle.sof_session.specs.Written.{Out}
 use Rattle.sof_session.specs.Lives.{Turn}
 use Rattle.sof_run.specs.Lines.{no_memory_line}
-use Rattle.sof_run.specs.Todo.{Todo, End, Stop, Ask, Do, Step, Refill, Free, Says, Over, DoneBy}
-use Rattle.sof_run.specs.Calls.{reading}
+use Rattle.sof_run.specs.Todo.{Todo, End, Stop, Ask, Do, Step, Refill, Send, Free, Says, Over, DoneBy}
+use Rattle.sof_run.specs.Calls.{reading, answer_in}
 use Rattle.sof_run.specs.Throughout.{Throughout}
 use Rattle.sof_run.specs.Ends.{IsOpening}
 use Rattle.sof_run.specs.Opening.{IsOpeningAct, AreOpening}
@@ -44,6 +44,8 @@ module _ (P : ℕ → Type 0) (A : List ℕ → Type 0) where
         | None ↦ λ done. ends rest turns goes.0.later status done all three
         | Some slot ↦ λ over. subst P (sym over.2) three
       ]) goes.1
+  ends (Send message rest) [] calls status goes all three = absurd goes
+  ends (Send message rest) (turn ∷ turns) calls status goes all three = ends (rest (answer_in turn.task)) turns calls status goes.1 (all (answer_in turn.task)) three
   ends (Free rest) turns calls status (inl goes) all three = ends rest turns calls status goes all.1 three
   ends (Free rest) turns calls status (inr says) all three = says_all no_memory_line 7 turns calls status says all.0 three
 
@@ -59,42 +61,47 @@ OpensNone (Ask name limit line rest) = (bytes : List ℕ) → OpensNone (rest by
 OpensNone (Do act rest) = (IsOpeningAct act → ⊥) × OpensNone rest
 OpensNone (Step task rest) = (out : Out) → OpensNone (rest out)
 OpensNone (Refill rest) = OpensNone rest
+OpensNone (Send message rest) = (reply : Option (List ℕ)) → OpensNone (rest reply)
 OpensNone (Free rest) = OpensNone rest
 
--- a turn comes only where nothing else is loaded, created or opened, and the status is 0 or 3
-abbrev pub TurnsLast : Todo → Type 0
-TurnsLast End = Unit {0}
-TurnsLast (Stop line n) = Unit {0}
-TurnsLast (Ask name limit line rest) = (bytes : List ℕ) → TurnsLast (rest bytes)
-TurnsLast (Do act rest) = TurnsLast rest
-TurnsLast (Step task rest) = (out : Out) → Throughout IsLate (λ name. ⊥) (rest out) × OpensNone (rest out)
-TurnsLast (Refill rest) = Throughout IsLate (λ name. ⊥) rest × OpensNone rest
-TurnsLast (Free rest) = TurnsLast rest
+-- a turn comes only where nothing else is loaded, created or opened, and the status is 3 or one of those
+abbrev pub TurnsLast : (ℕ → Type 0) → Todo → Type 0
+TurnsLast P End = Unit {0}
+TurnsLast P (Stop line n) = Unit {0}
+TurnsLast P (Ask name limit line rest) = (bytes : List ℕ) → TurnsLast P (rest bytes)
+TurnsLast P (Do act rest) = TurnsLast P rest
+TurnsLast P (Step task rest) = (out : Out) → Throughout P (λ name. ⊥) (rest out) × OpensNone (rest out)
+TurnsLast P (Refill rest) = Throughout P (λ name. ⊥) rest × OpensNone rest
+TurnsLast P (Send message rest) = (reply : Option (List ℕ)) → Throughout P (λ name. ⊥) (rest reply) × OpensNone (rest reply)
+TurnsLast P (Free rest) = TurnsLast P rest
 
 -- another status comes before any turn
-pub none_turned : (todo : Todo) (turns : List Turn) (calls : List DeskCall) (status : ℕ) → DoneBy todo turns calls status → TurnsLast todo → (IsLate status → ⊥) → turns ≡ []
-none_turned End turns calls status goes last early = goes.0
-none_turned (Stop line n) turns calls status goes last early = no_turns line n turns calls status goes
-none_turned (Ask name limit line rest) turns [] status goes last early = absurd goes
-none_turned (Ask name limit line rest) turns (Did act done ∷ calls) status goes last early = absurd goes
-none_turned (Ask name limit line rest) turns (Read n size got ∷ calls) status goes last early = absurd goes
-none_turned (Ask name limit line rest) turns (Load n l (Ok got) ∷ calls) status goes last early = none_turned (rest got) turns calls status goes.2 (last got) early
-none_turned (Ask name limit line rest) turns (Load n l (Err TooLong) ∷ calls) status goes last early = no_turns line 5 turns calls status goes.2
-none_turned (Ask name limit line rest) turns (Load n l (Err OutOfMemory) ∷ calls) status goes last early = no_turns no_memory_line 7 turns calls status goes.2
-none_turned (Ask name limit line rest) turns (Load n l (Err Failed) ∷ calls) status goes last early = goes.2.0
-none_turned (Do act rest) turns [] status goes last early = absurd goes
-none_turned (Do act rest) turns (Load name limit heard ∷ calls) status goes last early = absurd goes
-none_turned (Do act rest) turns (Read n size got ∷ calls) status goes last early = absurd goes
-none_turned (Do act rest) turns (Did a true ∷ calls) status goes last early = none_turned rest turns calls status goes.1 last early
-none_turned (Do act rest) turns (Did a false ∷ calls) status goes last early = goes.1.0
-none_turned (Step task rest) [] calls status goes last early = refl
-none_turned (Step task rest) (turn ∷ turns) calls status goes last early =
-    absurd (early (ends IsLate (λ name. ⊥) (rest turn.out) turns calls status goes.1 (last turn.out).0 (inr refl)))
-none_turned (Refill rest) [] calls status goes last early = refl
-none_turned (Refill rest) (turn ∷ turns) calls status goes last early =
-    absurd (early (ends IsLate (λ name. ⊥) (Refill rest) (turn ∷ turns) calls status goes last.0 (inr refl)))
-none_turned (Free rest) turns calls status (inl goes) last early = none_turned rest turns calls status goes last early
-none_turned (Free rest) turns calls status (inr says) last early = no_turns no_memory_line 7 turns calls status says
+pub none_turned : (P : ℕ → Type 0) → P 3 → (todo : Todo) (turns : List Turn) (calls : List DeskCall) (status : ℕ) → DoneBy todo turns calls status → TurnsLast P todo → (P status → ⊥) → turns ≡ []
+none_turned P three End turns calls status goes last early = goes.0
+none_turned P three (Stop line n) turns calls status goes last early = no_turns line n turns calls status goes
+none_turned P three (Ask name limit line rest) turns [] status goes last early = absurd goes
+none_turned P three (Ask name limit line rest) turns (Did act done ∷ calls) status goes last early = absurd goes
+none_turned P three (Ask name limit line rest) turns (Read n size got ∷ calls) status goes last early = absurd goes
+none_turned P three (Ask name limit line rest) turns (Load n l (Ok got) ∷ calls) status goes last early = none_turned P three (rest got) turns calls status goes.2 (last got) early
+none_turned P three (Ask name limit line rest) turns (Load n l (Err TooLong) ∷ calls) status goes last early = no_turns line 5 turns calls status goes.2
+none_turned P three (Ask name limit line rest) turns (Load n l (Err OutOfMemory) ∷ calls) status goes last early = no_turns no_memory_line 7 turns calls status goes.2
+none_turned P three (Ask name limit line rest) turns (Load n l (Err Failed) ∷ calls) status goes last early = goes.2.0
+none_turned P three (Do act rest) turns [] status goes last early = absurd goes
+none_turned P three (Do act rest) turns (Load name limit heard ∷ calls) status goes last early = absurd goes
+none_turned P three (Do act rest) turns (Read n size got ∷ calls) status goes last early = absurd goes
+none_turned P three (Do act rest) turns (Did a true ∷ calls) status goes last early = none_turned P three rest turns calls status goes.1 last early
+none_turned P three (Do act rest) turns (Did a false ∷ calls) status goes last early = goes.1.0
+none_turned P three (Step task rest) [] calls status goes last early = refl
+none_turned P three (Step task rest) (turn ∷ turns) calls status goes last early =
+    absurd (early (ends P (λ name. ⊥) (rest turn.out) turns calls status goes.1 (last turn.out).0 three))
+none_turned P three (Refill rest) [] calls status goes last early = refl
+none_turned P three (Refill rest) (turn ∷ turns) calls status goes last early =
+    absurd (early (ends P (λ name. ⊥) (Refill rest) (turn ∷ turns) calls status goes last.0 three))
+none_turned P three (Send message rest) [] calls status goes last early = refl
+none_turned P three (Send message rest) (turn ∷ turns) calls status goes last early =
+    absurd (early (ends P (λ name. ⊥) (rest (answer_in turn.task)) turns calls status goes.1 (last (answer_in turn.task)).0 three))
+none_turned P three (Free rest) turns calls status (inl goes) last early = none_turned P three rest turns calls status goes last early
+none_turned P three (Free rest) turns calls status (inr says) last early = no_turns no_memory_line 7 turns calls status says
 
 -- a call creates or opens a file, whether it was done or not
 opens_act : (act : DeskAct) (done : Bool) → IsOpening (Did act done) → IsOpeningAct act
@@ -116,47 +123,55 @@ none_read [] (Some slot) later loads = absurd loads.0
 none_read ((slot, bytes) ∷ reads) failed later loads = absurd loads.0
 
 -- once nothing else is loaded, created or opened, a desk that failed did so in another call
-opening_past : (todo : Todo) (turns : List Turn) (calls : List DeskCall) (status : ℕ) → DoneBy todo turns calls status → Throughout IsLate (λ name. ⊥) todo → OpensNone todo → AreOpening calls → status ≡ 3 → ⊥
-opening_past End turns calls status goes none puts loads three = cc (sym goes.2 ∙ three)
-opening_past (Stop line n) turns calls status goes none puts loads three = said_no_loads line n turns calls status goes loads
-opening_past (Ask name limit line rest) turns calls status goes none puts loads three = none.0
-opening_past (Do act rest) turns [] status goes none puts loads three = goes
-opening_past (Do act rest) turns (Load name limit heard ∷ calls) status goes none puts loads three = goes
-opening_past (Do act rest) turns (Read n size got ∷ calls) status goes none puts loads three = goes
-opening_past (Do act rest) turns (Did a true ∷ calls) status goes none puts loads three = puts.0 (subst IsOpeningAct goes.0 loads.0)
-opening_past (Do act rest) turns (Did a false ∷ calls) status goes none puts loads three = puts.0 (subst IsOpeningAct goes.0 (opens_act a false loads.0))
-opening_past (Step task rest) [] calls status goes none puts loads three = goes
-opening_past (Step task rest) (turn ∷ turns) calls status goes none puts loads three = opening_past (rest turn.out) turns calls status goes.1 (none turn.out) (puts turn.out) loads three
-opening_past (Refill rest) [] calls status goes none puts loads three = goes
-opening_past (Refill rest) (turn ∷ turns) calls status goes none puts loads three =
+opening_past : (P : ℕ → Type 0) (todo : Todo) (turns : List Turn) (calls : List DeskCall) (status : ℕ) → DoneBy todo turns calls status → Throughout P (λ name. ⊥) todo → OpensNone todo → AreOpening calls → status ≡ 3 → ⊥
+opening_past P End turns calls status goes none puts loads three = cc (sym goes.2 ∙ three)
+opening_past P (Stop line n) turns calls status goes none puts loads three = said_no_loads line n turns calls status goes loads
+opening_past P (Ask name limit line rest) turns calls status goes none puts loads three = none.0
+opening_past P (Do act rest) turns [] status goes none puts loads three = goes
+opening_past P (Do act rest) turns (Load name limit heard ∷ calls) status goes none puts loads three = goes
+opening_past P (Do act rest) turns (Read n size got ∷ calls) status goes none puts loads three = goes
+opening_past P (Do act rest) turns (Did a true ∷ calls) status goes none puts loads three = puts.0 (subst IsOpeningAct goes.0 loads.0)
+opening_past P (Do act rest) turns (Did a false ∷ calls) status goes none puts loads three = puts.0 (subst IsOpeningAct goes.0 (opens_act a false loads.0))
+opening_past P (Step task rest) [] calls status goes none puts loads three = goes
+opening_past P (Step task rest) (turn ∷ turns) calls status goes none puts loads three = opening_past P (rest turn.out) turns calls status goes.1 (none turn.out) (puts turn.out) loads three
+opening_past P (Refill rest) [] calls status goes none puts loads three = goes
+opening_past P (Refill rest) (turn ∷ turns) calls status goes none puts loads three =
     let f = goes.0 in
     let unread = none_read f.reads f.failed f.later (subst AreOpening f.calls_are loads) in
-    opening_past rest turns f.later status (subst (λ failed. MatchOption failed (DoneBy rest turns f.later status) (λ slot. Over 3 turns f.later status)) unread.0 goes.1) none puts unread.1 three
-opening_past (Free rest) turns calls status (inl goes) none puts loads three = opening_past rest turns calls status goes none.1 puts loads three
-opening_past (Free rest) turns calls status (inr says) none puts loads three = said_no_loads no_memory_line 7 turns calls status says loads
+    opening_past P rest turns f.later status (subst (λ failed. MatchOption failed (DoneBy rest turns f.later status) (λ slot. Over 3 turns f.later status)) unread.0 goes.1) none puts unread.1 three
+opening_past P (Send message rest) [] calls status goes none puts loads three = goes
+opening_past P (Send message rest) (turn ∷ turns) calls status goes none puts loads three =
+    let reply = answer_in turn.task in
+    opening_past P (rest reply) turns calls status goes.1 (none reply) (puts reply) loads three
+opening_past P (Free rest) turns calls status (inl goes) none puts loads three = opening_past P rest turns calls status goes none.1 puts loads three
+opening_past P (Free rest) turns calls status (inr says) none puts loads three = said_no_loads no_memory_line 7 turns calls status says loads
 
 -- a load, a create or an open that failed comes before any turn
-pub none_asked : (todo : Todo) (turns : List Turn) (calls : List DeskCall) (status : ℕ) → DoneBy todo turns calls status → TurnsLast todo → status ≡ 3 → AreOpening calls → turns ≡ []
-none_asked End turns calls status goes last three loads = goes.0
-none_asked (Stop line n) turns calls status goes last three loads = no_turns line n turns calls status goes
-none_asked (Ask name limit line rest) turns [] status goes last three loads = absurd goes
-none_asked (Ask name limit line rest) turns (Did act done ∷ calls) status goes last three loads = absurd goes
-none_asked (Ask name limit line rest) turns (Read n size got ∷ calls) status goes last three loads = absurd goes
-none_asked (Ask name limit line rest) turns (Load n l (Ok got) ∷ calls) status goes last three loads = none_asked (rest got) turns calls status goes.2 (last got) three loads.1
-none_asked (Ask name limit line rest) turns (Load n l (Err TooLong) ∷ calls) status goes last three loads = no_turns line 5 turns calls status goes.2
-none_asked (Ask name limit line rest) turns (Load n l (Err OutOfMemory) ∷ calls) status goes last three loads = no_turns no_memory_line 7 turns calls status goes.2
-none_asked (Ask name limit line rest) turns (Load n l (Err Failed) ∷ calls) status goes last three loads = goes.2.0
-none_asked (Do act rest) turns [] status goes last three loads = absurd goes
-none_asked (Do act rest) turns (Load name limit heard ∷ calls) status goes last three loads = absurd goes
-none_asked (Do act rest) turns (Read n size got ∷ calls) status goes last three loads = absurd goes
-none_asked (Do act rest) turns (Did a true ∷ calls) status goes last three loads = none_asked rest turns calls status goes.1 last three loads.1
-none_asked (Do act rest) turns (Did a false ∷ calls) status goes last three loads = goes.1.0
-none_asked (Step task rest) [] calls status goes last three loads = refl
-none_asked (Step task rest) (turn ∷ turns) calls status goes last three loads = absurd (opening_past (rest turn.out) turns calls status goes.1 (last turn.out).0 (last turn.out).1 loads three)
-none_asked (Refill rest) [] calls status goes last three loads = refl
-none_asked (Refill rest) (turn ∷ turns) calls status goes last three loads = absurd (opening_past (Refill rest) (turn ∷ turns) calls status goes last.0 last.1 loads three)
-none_asked (Free rest) turns calls status (inl goes) last three loads = none_asked rest turns calls status goes last three loads
-none_asked (Free rest) turns calls status (inr says) last three loads = no_turns no_memory_line 7 turns calls status says
+pub none_asked : (P : ℕ → Type 0) (todo : Todo) (turns : List Turn) (calls : List DeskCall) (status : ℕ) → DoneBy todo turns calls status → TurnsLast P todo → status ≡ 3 → AreOpening calls → turns ≡ []
+none_asked P End turns calls status goes last three loads = goes.0
+none_asked P (Stop line n) turns calls status goes last three loads = no_turns line n turns calls status goes
+none_asked P (Ask name limit line rest) turns [] status goes last three loads = absurd goes
+none_asked P (Ask name limit line rest) turns (Did act done ∷ calls) status goes last three loads = absurd goes
+none_asked P (Ask name limit line rest) turns (Read n size got ∷ calls) status goes last three loads = absurd goes
+none_asked P (Ask name limit line rest) turns (Load n l (Ok got) ∷ calls) status goes last three loads = none_asked P (rest got) turns calls status goes.2 (last got) three loads.1
+none_asked P (Ask name limit line rest) turns (Load n l (Err TooLong) ∷ calls) status goes last three loads = no_turns line 5 turns calls status goes.2
+none_asked P (Ask name limit line rest) turns (Load n l (Err OutOfMemory) ∷ calls) status goes last three loads = no_turns no_memory_line 7 turns calls status goes.2
+none_asked P (Ask name limit line rest) turns (Load n l (Err Failed) ∷ calls) status goes last three loads = goes.2.0
+none_asked P (Do act rest) turns [] status goes last three loads = absurd goes
+none_asked P (Do act rest) turns (Load name limit heard ∷ calls) status goes last three loads = absurd goes
+none_asked P (Do act rest) turns (Read n size got ∷ calls) status goes last three loads = absurd goes
+none_asked P (Do act rest) turns (Did a true ∷ calls) status goes last three loads = none_asked P rest turns calls status goes.1 last three loads.1
+none_asked P (Do act rest) turns (Did a false ∷ calls) status goes last three loads = goes.1.0
+none_asked P (Step task rest) [] calls status goes last three loads = refl
+none_asked P (Step task rest) (turn ∷ turns) calls status goes last three loads = absurd (opening_past P (rest turn.out) turns calls status goes.1 (last turn.out).0 (last turn.out).1 loads three)
+none_asked P (Refill rest) [] calls status goes last three loads = refl
+none_asked P (Refill rest) (turn ∷ turns) calls status goes last three loads = absurd (opening_past P (Refill rest) (turn ∷ turns) calls status goes last.0 last.1 loads three)
+none_asked P (Send message rest) [] calls status goes last three loads = refl
+none_asked P (Send message rest) (turn ∷ turns) calls status goes last three loads =
+    let reply = answer_in turn.task in
+    absurd (opening_past P (rest reply) turns calls status goes.1 (last reply).0 (last reply).1 loads three)
+none_asked P (Free rest) turns calls status (inl goes) last three loads = none_asked P rest turns calls status goes last three loads
+none_asked P (Free rest) turns calls status (inr says) last three loads = no_turns no_memory_line 7 turns calls status says
 
 -- the count rose where the status is 3
 rose_before : (a b c : ℕ) → a ≤ b → CountRose b c → CountRose a c
@@ -220,5 +235,9 @@ module _ {D : Type 0} (means : DeskMeaning D) where
             let last : e ≡ led.0 = subst (λ cs. DeskLed means led.0 cs e) over.1 led.2 in
             rose_before _ _ _ reads.1 (subst (Rises reads.0) (sym last) (led.1.failed refl))
       ]) goes.1 reads.2
+  three_rose (Send message rest) [] calls status d e goes other led three = absurd goes
+  three_rose (Send message rest) (turn ∷ turns) calls status d e goes other led three =
+      let reply = answer_in turn.task in
+      three_rose (rest reply) turns calls status d e goes.1 (other reply) led three
   three_rose (Free rest) turns calls status d e (inl goes) other led three = three_rose rest turns calls status d e goes other.1 led three
   three_rose (Free rest) turns calls status d e (inr says) other led three = says_three no_memory_line 7 turns calls status d e says other.0 led three

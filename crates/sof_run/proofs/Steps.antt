@@ -2,9 +2,8 @@
 use Rattle.std.proofs.Common.{◌≡◌, ℕ, Bool, true, false, List, [], ◌∷◌, Ok, Err, refl, inl, inr, if◌then◌else◌}
 use Rattle.sof_desk.specs.declared.calls.LoadFault.TheVariants.{Failed, TooLong, OutOfMemory}
 use Rattle.sof_desk.specs.Desk.{DeskMeaning, DeskAct, Put, Spoken, DeskCall, Load, Did, Read, Loaded, Acted}
-use Rattle.mbox_link.specs.Calls.{Meaning}
 use Rattle.sof_session.specs.Written.{Out}
-use Rattle.sof_session.specs.Lives.{Life, Turn, Turned}
+use Rattle.sof_session.specs.Lives.{Turn, Turning}
 use Rattle.sof_run.specs.TopologyBytes.{AreBytes}
 use Rattle.sof_run.specs.Lines.{no_memory_line}
 use Rattle.sof_run.specs.Todo.{Todo, Stop, Ask, Do, Step, Free, Says, Played, RanOn, DeskPhase, LeadsOn, PhaseFails}
@@ -53,13 +52,13 @@ module _ {D : Type 0} (means : DeskMeaning D) where
   pub free_off : (next : Todo) (status : ℕ) (old new : D) → Played means (Stop no_memory_line 7) old [] status new → Played means (Free next) old [] status new
   free_off next status old new played = record { calls = played.calls; led = played.led; goes = inr played.goes }
 
-  module _ {P : Type 0} (dsp : Meaning P) where
+  module _ {L : Type 0} (by : Turning L) where
     -- calls on the desk alone
-    pub alone : (todo : Todo) (old new : D) (p : Life P) (status : ℕ) → Played means todo old [] status new → RanOn means dsp todo old p status new p
+    pub alone : (todo : Todo) (old new : D) (p : L) (status : ℕ) → Played means todo old [] status new → RanOn means by todo old p status new p
     alone todo old new p status played = record { turns = []; turned = refl; played = played }
 
     -- a turn, and what comes after it
-    pub step_on : (turn : Turn) (next : Out → Todo) (status : ℕ) (old new : D) (p m q : Life P) → Turned dsp turn.task turn.out p m → RanOn means dsp (next turn.out) old m status new q → RanOn means dsp (Step turn.task next) old p status new q
+    pub step_on : (turn : Turn) (next : Out → Todo) (status : ℕ) (old new : D) (p m q : L) → by turn.task turn.out p m → RanOn means by (next turn.out) old m status new q → RanOn means by (Step turn.task next) old p status new q
     step_on turn next status old new p m q turned ran =
         record {
           turns = turn ∷ ran.turns;
@@ -68,11 +67,11 @@ module _ {D : Type 0} (means : DeskMeaning D) where
         }
 
     -- a phase on the desk alone, with a device beside it
-    pub beside : (phase : Todo → Todo) (old new : D) (p : Life P) → DeskPhase means phase true old new → LeadsOn means dsp phase (λ rest. rest) old p new p
+    pub beside : (phase : Todo → Todo) (old new : D) (p : L) → DeskPhase means phase true old new → LeadsOn means by phase (λ rest. rest) old p new p
     beside phase old new p done rest status end r ran =
         record { turns = ran.turns; turned = ran.turned; played = done rest ran.turns status end ran.played }
 
-    pub beside_failed : (phase : Todo → Todo) (old new : D) (p : Life P) → DeskPhase means phase false old new → PhaseFails means dsp phase old p new p
+    pub beside_failed : (phase : Todo → Todo) (old new : D) (p : L) → DeskPhase means phase false old new → PhaseFails means by phase old p new p
     beside_failed phase old new p failed rest = alone (phase rest) old new p 3 (failed rest)
 
   -- one call, as a phase

@@ -4,7 +4,7 @@ use Rattle.sof_desk.specs.Desk.{DeskMeaning, DeskCall}
 use Rattle.mbox_link.specs.Calls.{Meaning}
 use Rattle.tplg_plan.specs.Sound.{IsSound}
 use Rattle.sof_session.specs.Written.{Out}
-use Rattle.sof_session.specs.Lives.{Bare, Turn, Carry}
+use Rattle.sof_session.specs.Lives.{Life, Bare, Turn, Turned, Turns, Carry}
 use Rattle.sof_stress.specs.declared.counts.Counts.{Counts}
 use Rattle.sof_stress.specs.Draws.{stream_count}
 use Rattle.sof_stress.specs.StressPorts.{dai_slot}
@@ -13,16 +13,19 @@ use Rattle.sof_stress.specs.CarriedTurns.{tasks_of}
 use Rattle.sof_stress.specs.GraphParts.{stress_plan}
 use Rattle.sof_stress.specs.StressRun.{sent_in, stress_begins, stress_turns}
 use Rattle.sof_stress.specs.DeviceStress.{Stresses}
-use Rattle.sof_run.specs.Words.{Form}
+use Rattle.sof_run.specs.Words.{Form, trace_named}
+use Rattle.sof_run.specs.Keeping.{KeptRecords}
+use Rattle.sof_run.specs.KeptTurns.{GaveKept}
 use Rattle.sof_run.specs.Lines.{no_memory_line}
-use Rattle.sof_run.specs.Todo.{Todo, End, Stop, Step, DoneBy, Played, Gave, DeskPhase}
+use Rattle.sof_run.specs.Todo.{Todo, End, Stop, Step, DoneBy, RanOn, Played, DeskPhase}
 use Rattle.sof_run.specs.Play.{lines_todo, play}
 use Rattle.sof_run.specs.Stressing.{stress_lines}
 use Rattle.sof_run.specs.StressTodo.{counted_todo, told_todo}
-use Rattle.sof_run.specs.Requests.{Request, Play, Stress, request_of}
+use Rattle.sof_run.specs.ReplayTodo.{replay}
+use Rattle.sof_run.specs.Requests.{Request, Play, Stress, Replay, request_of}
 use Rattle.sof_run.specs.Forms.{todo_for, todo_of, GaveSent, StressGave}
 use Rattle.sof_run.proofs.Steps.{free_off}
-use Rattle.sof_run.proofs.Requests.{stress_asked}
+use Rattle.sof_run.proofs.Requests.{stress_asked, replay_meant, play_meant, none_kept, kept_of}
 
 -- turns of these tasks are made and counted, and then comes what is next
 counted_on : (slot : ℕ) (todo : List CommandTurn) (counts : Counts) (next : Counts → Todo) (turns : List Turn) (calls : List DeskCall) (status : ℕ) → map (λ (turn : Turn). turn.task) turns ≡ tasks_of todo →
@@ -37,7 +40,7 @@ counted_on slot (t ∷ todo) counts next (turn ∷ turns) calls status same goes
 
 module _ {D P : Type 0} (means : DeskMeaning D) (dsp : Meaning P) where
   -- the lines, said or cut off
-  lines_played : (lines : List (List ℕ)) (done : Bool) (old new : D) → DeskPhase means (lines_todo lines) done old new → Played means (lines_todo lines End) old [] (if done then 0 else 3) new
+  pub lines_played : (lines : List (List ℕ)) (done : Bool) (old new : D) → DeskPhase means (lines_todo lines) done old new → Played means (lines_todo lines End) old [] (if done then 0 else 3) new
   lines_played lines true old new phase = phase End [] 0 new (record { calls = []; led = refl; goes = (refl, refl, refl) })
   lines_played lines false old new phase = phase End
 
@@ -91,10 +94,22 @@ module _ {D P : Type 0} (means : DeskMeaning D) (dsp : Meaning P) where
     gave_for : (r : Option Request) → request_of (dsp.most p) words ≡ r → GaveSent means dsp words (λ sent. todo_for (dsp.most p) sent r) old p status new q → GaveSent means dsp words (λ sent. todo_of (dsp.most p) sent words) old p status new q
     gave_for r is given = subst (λ r. GaveSent means dsp words (λ sent. todo_for (dsp.most p) sent r) old p status new q) (sym is) given
 
-    pub play_gave : (form : Form) → request_of (dsp.most p) words ≡ Some (Play form) → Gave means dsp (play form) old p status new q → GaveSent means dsp words (λ sent. todo_of (dsp.most p) sent words) old p status new q
+    -- no trace is kept of what is no play
+    none_is : (r : Option Request) → request_of (dsp.most p) words ≡ r → ((form : Form) → r ≡ Some (Play form) → ⊥) → (turns : List Turn) (last : Life P) (turned : Turns dsp (Bare p) turns last) →
+        KeptRecords dsp (trace_named (dsp.most p) words) (Bare p) turns last turned []
+    none_is r is other turns last turned = subst (λ (trace : Option (List ℕ)). KeptRecords dsp trace (Bare p) turns last turned []) (sym (none_kept (dsp.most p) words r is other)) refl
+
+    pub play_gave : (form : Form) → request_of (dsp.most p) words ≡ Some (Play form) → GaveKept means dsp form.trace (play form) old p status new q → GaveSent means dsp words (λ sent. todo_of (dsp.most p) sent words) old p status new q
     play_gave form is given = gave_for (Some (Play form)) is (record {
       sent = sent_in given.last;
-      gave = given;
+      last = given.last;
+      is = given.is;
+      exit = λ none. given.exit;
+      turns = given.turns;
+      turned = given.turned;
+      records = given.records;
+      kept = subst (λ (trace : Option (List ℕ)). KeptRecords dsp trace (Bare p) given.turns given.last given.turned given.records) (sym (kept_of (dsp.most p) words form (play_meant (dsp.most p) words form is))) given.kept;
+      played = given.played;
       is_sent = refl;
       sound = λ seed stress. absurd (cc (sym is ∙ stress_asked (dsp.most p) words seed stress));
     })
@@ -102,18 +117,48 @@ module _ {D P : Type 0} (means : DeskMeaning D) (dsp : Meaning P) where
     pub stress_gave : (seed : ℕ) → request_of (dsp.most p) words ≡ Some (Stress seed) → StressGave means dsp seed old p status new q → GaveSent means dsp words (λ sent. todo_of (dsp.most p) sent words) old p status new q
     stress_gave seed is given = gave_for (Some (Stress seed)) is (record {
       sent = given.sent;
-      gave = given.gave;
+      last = given.gave.last;
+      is = given.gave.is;
+      exit = λ none. given.gave.exit;
+      turns = given.gave.ran.turns;
+      turned = given.gave.ran.turned;
+      records = [];
+      kept = none_is (Some (Stress seed)) is (λ form e. cc e) given.gave.ran.turns given.gave.last given.gave.ran.turned;
+      played = given.gave.ran.played;
       is_sent = given.is_sent;
       sound = λ other stress.
           let same : seed ≡ other = cc (sym is ∙ stress_asked (dsp.most p) words other stress) in
           subst (λ n. (given.gave.ran.turns ≡ []) ⊎ IsSound (stress_plan n)) same given.sound;
     })
 
+    pub replay_gave : (name : List ℕ) → request_of (dsp.most p) words ≡ Some (Replay name) → RanOn means (Turned dsp) (replay (dsp.most p) name) old (Bare p) status new (Bare q) → GaveSent means dsp words (λ sent. todo_of (dsp.most p) sent words) old p status new q
+    replay_gave name is given = gave_for (Some (Replay name)) is (record {
+      sent = 0;
+      last = Bare q;
+      is = refl;
+      exit = λ none. absurd (cc (sym none ∙ replay_meant (dsp.most p) words name is));
+      turns = given.turns;
+      turned = given.turned;
+      records = [];
+      kept = none_is (Some (Replay name)) is (λ form e. cc e) given.turns (Bare q) given.turned;
+      played = given.played;
+      is_sent = refl;
+      sound = λ seed stress. absurd (cc (sym is ∙ stress_asked (dsp.most p) words seed stress));
+    })
+
   -- what was done on the desk alone
-  pub alone_gave : (words : List (List ℕ)) (old new : D) (p : P) (status : ℕ) (r : Option Request) → request_of (dsp.most p) words ≡ r → Played means (todo_for (dsp.most p) 0 r) old [] status new → GaveSent means dsp words (λ sent. todo_of (dsp.most p) sent words) old p status new p
-  alone_gave words old new p status r is played = gave_for words old new p p status r is (record {
+  pub alone_gave : (words : List (List ℕ)) (old new : D) (p : P) (status : ℕ) (r : Option Request) → request_of (dsp.most p) words ≡ r → ((form : Form) → r ≡ Some (Play form) → ⊥) → Played means (todo_for (dsp.most p) 0 r) old [] status new
+      → GaveSent means dsp words (λ sent. todo_of (dsp.most p) sent words) old p status new p
+  alone_gave words old new p status r is other played = gave_for words old new p p status r is (record {
     sent = 0;
-    gave = record { last = Bare p; is = refl; exit = refl; ran = record { turns = []; turned = refl; played = played } };
+    last = Bare p;
+    is = refl;
+    exit = λ none. refl;
+    turns = [];
+    turned = refl;
+    records = [];
+    kept = none_is words old new p p status r is other [] (Bare p) refl;
+    played = played;
     is_sent = refl;
     sound = λ seed stress. inl refl;
   })

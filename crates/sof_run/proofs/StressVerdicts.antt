@@ -1,5 +1,5 @@
 -- What `stress` ensures, from what it did.
-use Rattle.std.proofs.Common.{◌≡◌, ◌⊎◌, inl, inr, ℕ, ◌≤◌, true, false, List, [], ◌∷◌, ◌++◌, map, Some, None, sym, ◌∙◌, ap, subst}
+use Rattle.std.proofs.Common.{◌≡◌, ◌⊎◌, inl, inr, ℕ, ◌≤◌, true, false, List, [], ◌∷◌, ◌++◌, map, Option, Some, None, sym, ◌∙◌, ap, subst}
 use Rattle.std.specs.List.{concat}
 use Rattle.std.proofs.lemmas.List.{append-nil}
 use Rattle.sof_desk.specs.Desk.{DeskMeaning, Spoken, Slot, DeskCall, Load, Did, Read, DeskLed}
@@ -26,8 +26,11 @@ use Rattle.sof_run.specs.Checks.{IsFront}
 use Rattle.sof_run.specs.Stressing.{stress_of, stress_lines}
 use Rattle.sof_run.specs.StressTodo.{counted_todo, told_todo, stress}
 use Rattle.sof_run.specs.Stresses.{stress_text, StressRan, StressesWhole}
+use Rattle.ipc3_trace.specs.declared.entry.Entry.{Entry}
+use Rattle.sof_run.specs.Keeping.{recorded_turns, KeptRecords}
+use Rattle.sof_run.specs.Requests.{Stress}
 use Rattle.sof_run.specs.Forms.{todo_for, todo_of, GaveSent}
-use Rattle.sof_run.proofs.Requests.{stress_most, stress_asked}
+use Rattle.sof_run.proofs.Requests.{stress_most, stress_asked, none_kept}
 use Rattle.sof_run.proofs.Steps.{no_turns}
 use Rattle.sof_run.proofs.SaidLines.{line_parted}
 use Rattle.sof_run.proofs.CheckVerdicts.{lines_parted}
@@ -40,7 +43,7 @@ stress_alone room sent words seed is = ap (todo_for room sent) (stress_asked roo
 -- ---- the turns
 
 -- no turn comes with lines
-lines_turnless : (lines : List (List ℕ)) (turns : List Turn) (calls : List DeskCall) (status : ℕ) → DoneBy (lines_todo lines End) turns calls status → turns ≡ []
+pub lines_turnless : (lines : List (List ℕ)) (turns : List Turn) (calls : List DeskCall) (status : ℕ) → DoneBy (lines_todo lines End) turns calls status → turns ≡ []
 lines_turnless [] turns calls status goes = goes.0
 lines_turnless (line ∷ lines) turns [] status goes = absurd goes
 lines_turnless (line ∷ lines) turns (Load name limit heard ∷ calls) status goes = absurd goes
@@ -94,7 +97,13 @@ module _ {D P : Type 0} (means : DeskMeaning D) (dsp : Meaning P) (seed : ℕ) (
 
 module _ {D P : Type 0} (means : DeskMeaning D) (dsp : Meaning P) (words : List (List ℕ)) (old new : D) (status : ℕ) (p q : P) (off : dsp.on p ≡ None) (given : GaveSent means dsp words (λ sent. todo_of (dsp.most p) sent words) old p status new q) where
   abbrev last : Life P
-  last = given.gave.last
+  last = given.last
+
+  -- no trace is kept of a stress
+  none : (seed : ℕ) → stress_of words ≡ Some seed → given.records ≡ []
+  none seed is =
+      subst (λ (trace : Option (List ℕ)). KeptRecords dsp trace (Bare p) given.turns last given.turned given.records)
+      (none_kept (dsp.most p) words (Some (Stress seed)) (stress_asked (dsp.most p) words seed is) (λ form e. cc e)) given.kept
 
   -- memory was wanting
   wanted : (turns : List Turn) (calls : List DeskCall) → Says no_memory_line 7 turns calls status → DeskLed means old calls new → Turns dsp (Bare p) turns last → Unbegun means [] old new status p last
@@ -120,10 +129,11 @@ module _ {D P : Type 0} (means : DeskMeaning D) (dsp : Meaning P) (words : List 
       front_by part (inl all) = ([], append-nil part ∙ all.1)
       front_by part (inr some) = some.1
 
-  pub stresses : StressesWhole means dsp words old new status p last given.gave.ran.turns
+  pub stresses : StressesWhole means dsp words old new status p last given.turns
   stresses seed is =
-      by given.gave.ran.turns given.gave.ran.played.calls (given.sound seed is) given.gave.ran.turned given.gave.ran.played.led
-      (subst (λ todo. DoneBy todo given.gave.ran.turns given.gave.ran.played.calls status) (stress_alone (dsp.most p) given.sent words seed is) given.gave.ran.played.goes)
+      by given.turns given.played.calls (given.sound seed is) given.turned given.played.led
+      (subst (λ (records : List (List Entry)). DoneBy (stress (dsp.most p) given.sent seed) (recorded_turns records given.turns) given.played.calls status) (none seed is)
+      (subst (λ todo. DoneBy todo (recorded_turns given.records given.turns) given.played.calls status) (stress_alone (dsp.most p) given.sent words seed is) given.played.goes))
     where
       by : (turns : List Turn) (calls : List DeskCall) → (turns ≡ []) ⊎ IsSound (stress_plan seed) → Turns dsp (Bare p) turns last → DeskLed means old calls new → DoneBy (stress (dsp.most p) given.sent seed) turns calls status →
           StressRan means dsp (stress_ground (dsp.most p) seed) seed old new status p last turns ⊎ Unbegun means [] old new status p last

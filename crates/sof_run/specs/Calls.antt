@@ -1,6 +1,6 @@
 -- The calls on the desk and the turns on the device, as one list, by what loads answered, by what the loaded bytes come to and by the
 -- turns that were made.
-use Rattle.std.specs.Prelude.{◌≡◌, ◌⊎◌, ℕ, true, false, List, [], ◌∷◌, ◌++◌, map, Option, Some, None, Result, Ok, Err, codes, if◌then◌else◌}
+use Rattle.std.specs.Prelude.{◌≡◌, ◌⊎◌, ℕ, Bool, true, false, List, [], ◌∷◌, ◌++◌, map, Option, Some, None, Result, Ok, Err, codes, if◌then◌else◌}
 use Rattle.sof_desk.specs.declared.calls.LoadFault.TheVariants.{Failed, TooLong, OutOfMemory}
 use Rattle.sof_desk.specs.Desk.{Create, Put, Slot, Spoken, Heard, DeskCall, Load, Did, Read}
 use Rattle.tplg_model.specs.declared.block.Topology.{Topology}
@@ -8,14 +8,18 @@ use Rattle.tplg_model.specs.File.{spelling}
 use Rattle.tplg_plan.specs.declared.plans.Plan.{Plan}
 use Rattle.tplg_compile.specs.declared.source_fault.SourceFault.{SourceFault}
 use Rattle.ipc3_trace.specs.declared.entry.Entry.{Entry}
+use Rattle.ipc3_trace.specs.declared.entry.Entry.TheVariants as entries
 use Rattle.ipc3_trace.specs.declared.fault.TraceFault.{TraceFault}
 use Rattle.tplg_graph.specs.PlanOf.{plan_of}
 use Rattle.tplg_source.specs.Outcome.{source_for}
 use Rattle.sof_script.specs.Commands.{Bound, Read as ReadScript}
 use Rattle.sof_session.specs.Written.{Out}
-use Rattle.sof_session.specs.Lives.{Task, Begin, Carry, Fill, Turn}
+use Rattle.mbox_link.specs.Calls as device
+use Rattle.sof_session.specs.Lives.{Task, Begin, Carry, Fill, Give, Turn}
 use Rattle.sof_run.specs.declared.prepare.Halt.{Halt}
+use Rattle.sof_run.specs.declared.replay_fault.ReplayFault.{ReplayFault}
 use Rattle.sof_run.specs.Words.{Form}
+use Rattle.sof_run.specs.Keeping.{trace_acts}
 use Rattle.sof_run.specs.Bindings.{binding_act, bound_inputs, bound_slots}
 use Rattle.sof_run.specs.Rounds.{Round, rounds_of}
 use Rattle.sof_run.specs.Lines.{no_memory_line, halt_line, halt_status, with_newline}
@@ -30,8 +34,9 @@ use Rattle.sof_stress.specs.StressRun.{stress_begins, stress_turns}
 use Rattle.sof_run.specs.Compiling.{source_line, source_status, wrote_line}
 use Rattle.sof_run.specs.Sourcing.{no_source_line}
 use Rattle.sof_run.specs.Stressing.{stress_lines}
-use Rattle.sof_run.specs.TraceLines.{trace_lines, trace_status}
-use Rattle.sof_run.specs.Requests.{Request, Play, Check, Picture, Compile, Source, Stress, Decode}
+use Rattle.sof_run.specs.TraceLines.{trace_lines, trace_status, replay_fault_line}
+use Rattle.sof_run.specs.Replaying.{next_place, record_fault, end_fault, on_after, tally_of, replay_lines, device_line}
+use Rattle.sof_run.specs.Requests.{Request, Play, Check, Picture, Compile, Source, Stress, Decode, Replay}
 
 -- ---- what the loaded bytes come to
 
@@ -84,6 +89,17 @@ reading [] None = []
 reading [] (Some slot) = Read slot 65536 None ∷ []
 reading ((slot, bytes) ∷ reads) failed = Read slot 65536 (Some bytes) ∷ reading reads failed
 
+-- what a message was answered, where a turn gave one
+abbrev pub answer_in : Task → Option (List ℕ)
+answer_in (Give (device.Exchange request answer)) = answer
+answer_in task = None
+
+-- a message is given, and what comes next by its reply and by the turns behind it
+abbrev pub sending : List ℕ → List Turn → (Option (List ℕ) → List Turn → Course) → Course
+sending message [] next = record { items = Turns (Give (device.Exchange message None)) ∷ []; status = 0 }
+sending message (turn ∷ turns) next =
+    before_course (Turns (Give (device.Exchange message (answer_in turn.task))) ∷ []) (next (answer_in turn.task) turns)
+
 -- a turn that fills the inputs by its reads, and what comes next where none failed
 abbrev pub filling_by : Task → Course → Course
 filling_by (Fill reads None) next = before_course (Turns (Fill reads None) ∷ map Calls (reading reads None)) next
@@ -94,7 +110,7 @@ abbrev pub filling : List Turn → (List Turn → Course) → Course
 filling [] next = record { items = Turns (Fill [] None) ∷ []; status = 0 }
 filling (turn ∷ turns) next = filling_by turn.task (next turns)
 
--- ---- `play`
+-- ---- `play` and `trace`
 
 abbrev pub putting : Piece → Item
 putting piece = Calls (Did (Put piece.0 piece.1) true)
@@ -109,19 +125,20 @@ units (round ∷ rounds) turns =
 abbrev pub bindings : Plan → List Bound → Course → Course
 bindings plan bs next = before_course (map (λ b. Calls (Did (binding_act plan b) true)) bs) next
 
--- and then a session over what they bind
-abbrev pub files : ℕ → Result (Topology × ReadScript) Halt → List Turn → Course
-files heap (Ok (t, read)) turns =
+-- then that of the trace that is kept, if one is, and then a session over what they bind
+abbrev pub files : ℕ → Option (List ℕ) → Result (Topology × ReadScript) Halt → List Turn → Course
+files heap trace (Ok (t, read)) turns =
     let plan = plan_of t in
     bindings plan read.bindings
-    (turning (Begin plan heap (bound_inputs plan [] read.bindings) (bound_slots plan read.bindings)) turns (λ out turns. units (rounds_of read.commands) turns))
-files heap (Err why) turns = last_line (halt_line why) (halt_status why)
+    (before_course (map (λ act. Calls (Did act true)) (trace_acts trace))
+    (turning (Begin plan heap (bound_inputs plan [] read.bindings) (bound_slots plan read.bindings)) turns (λ out turns. units (rounds_of read.commands) turns)))
+files heap trace (Err why) turns = last_line (halt_line why) (halt_status why)
 
 abbrev pub playing : Form → Result (Topology × ReadScript) Halt → List Heard → List Turn → Course
 playing form run heard turns =
     load_course form.topology 1048576 (codes "too long topology\n") heard (λ heard.
     load_course form.script 1048576 (codes "too long script\n") heard (λ heard.
-    before_course (Memory ∷ []) (files form.heap run turns)))
+    before_course (Memory ∷ []) (files form.heap form.trace run turns)))
 
 -- ---- `check`, `graph`, `compile` and `source`
 
@@ -156,6 +173,38 @@ sourcing out (Err why) = last_line (halt_line why) (halt_status why)
 abbrev pub recounting : List Entry × Option TraceFault → Course
 recounting trace = record { items = map saying (trace_lines trace.0 trace.1); status = trace_status trace.1 }
 
+-- ---- `replay`
+
+-- the first record at fault is told, where there is one
+abbrev pub faulting : Option ReplayFault → Course → Course
+faulting None rest = rest
+faulting (Some fault) rest = last_line (replay_fault_line fault) 2
+
+-- a device that failed is told
+abbrev pub replying : Option (List ℕ) → Course → Course
+replying None rest = last_line device_line 10
+replying (Some reply) rest = rest
+
+-- a record is given by its call, and what comes next by the reply that is awaited then and by the turns behind it
+abbrev pub giving : Entry → List Turn → (Option (List ℕ) → List Turn → Course) → Course
+giving (entries.Boot heap) turns next = turning (Give (device.Boot heap)) turns (λ out turns. next None turns)
+giving entries.Cut turns next = turning (Give device.Cut) turns (λ out turns. next None turns)
+giving (entries.Request message) turns next = sending message turns (λ reply turns. replying reply (next reply turns))
+giving entries.Tick turns next = turning (Give device.Tick) turns (λ out turns. next None turns)
+giving (entries.Reply reply) turns next = next None turns
+giving entries.Lost turns next = next None turns
+
+-- records from a place on, over a device of this room that is on or off, where a reply is awaited or none
+abbrev pub giving_all : ℕ → List Entry → Option TraceFault → Bool → Option (List ℕ) → ℕ → (Bool → Course) → List Turn → Course
+giving_all room [] end on awaited at last turns = faulting (end_fault awaited at end) (last on)
+giving_all room (e ∷ es) end on awaited at last turns =
+    faulting (record_fault room on awaited at e) (giving e turns (λ reply turns. giving_all room es end (on_after on e) reply (next_place at e) last turns))
+
+-- all records of a trace, and then the lines
+abbrev pub replaying : ℕ → List Entry × Option TraceFault → List Turn → Course
+replaying room trace turns =
+    giving_all room trace.0 trace.1 false None 0 (λ on. record { items = map (λ line. saying (with_newline line)) (replay_lines (tally_of trace.0) on); status = 0 }) turns
+
 -- ---- `stress`
 
 -- each turn is made and counted
@@ -183,6 +232,8 @@ course room sent (Some (Compile names)) found heard turns =
 course room sent (Some (Source given)) found heard turns = checking given.topology heard (sourcing given.out found.topology)
 course room sent (Some (Stress seed)) found heard turns = stressing room sent seed turns
 course room sent (Some (Decode name)) found heard turns = load_course name 16777216 (codes "too long trace\n") heard (λ heard. recounting found.trace)
+course room sent (Some (Replay name)) found heard turns =
+    load_course name 16777216 (codes "too long trace\n") heard (λ heard. before_course (Memory ∷ []) (replaying room found.trace turns))
 course room sent None found heard turns = last_line (codes "words\n") 1
 
 -- ---- what was made of it

@@ -7,7 +7,7 @@ use Rattle.sof_run.specs.Picturing.{graph_file_of}
 use Rattle.sof_run.specs.Compiling.{compile_of}
 use Rattle.sof_run.specs.Sourcing.{source_files_of}
 use Rattle.sof_run.specs.Stressing.{stress_of}
-use Rattle.sof_run.specs.TraceForms.{decode_of}
+use Rattle.sof_run.specs.TraceForms.{decode_of, replay_of}
 
 -- ---- the calls
 
@@ -17,7 +17,7 @@ IsOpening (Did (Put place piece) done) = ⊥
 IsOpening (Read slot size got) = ⊥
 IsOpening _ = Unit {0}
 
--- a status that comes before any command: not 0, and not that of a desk that failed
+-- a status that comes before any command: not 0, and not that of a desk or a device that failed
 abbrev pub IsEarly : ℕ → Type 0
 IsEarly status = (status ≡ 1) ⊎ (status ≡ 2) ⊎ (status ≡ 4) ⊎ (status ≡ 5) ⊎ (status ≡ 7) ⊎ (status ≡ 8)
 
@@ -25,5 +25,5 @@ IsEarly status = (status ≡ 1) ⊎ (status ≡ 2) ⊎ (status ≡ 4) ⊎ (statu
 
 -- status 1 comes exactly where the words have none of the forms, but for a failure of the desk
 pub record Worded (room : ℕ) (words : List (List ℕ)) (status : ℕ) : Type 0 where
-  pub only : status ≡ 1 → (play_of room words ≡ None) × (check_of words ≡ None) × (graph_file_of words ≡ None) × (compile_of words ≡ None) × (source_files_of words ≡ None) × (stress_of words ≡ None) × (decode_of words ≡ None)
-  pub each : play_of room words ≡ None → check_of words ≡ None → graph_file_of words ≡ None → compile_of words ≡ None → source_files_of words ≡ None → stress_of words ≡ None → decode_of words ≡ None → (status ≡ 1) ⊎ (status ≡ 3)
+  pub only : status ≡ 1 → (play_of room words ≡ None) × (check_of words ≡ None) × (graph_file_of words ≡ None) × (compile_of words ≡ None) × (source_files_of words ≡ None) × (stress_of words ≡ None) × (decode_of words ≡ None) × (replay_of words ≡ None)
+  pub each : play_of room words ≡ None → check_of words ≡ None → graph_file_of words ≡ None → compile_of words ≡ None → source_files_of words ≡ None → stress_of words ≡ None → decode_of words ≡ None → replay_of words ≡ None → (status ≡ 1) ⊎ (status ≡ 3)

@@ -3,10 +3,14 @@ use Rattle.std.specs.Prelude.{◌≡◌, ◌⊎◌, ℕ, List, [], Option, Some,
 use Rattle.sof_desk.specs.Desk.{DeskMeaning}
 use Rattle.mbox_link.specs.Calls.{Meaning}
 use Rattle.tplg_plan.specs.Sound.{IsSound}
-use Rattle.sof_session.specs.Lives.{Turn}
+use Rattle.ipc3_trace.specs.declared.entry.Entry.{Entry}
+use Rattle.sof_session.specs.Lives.{Life, Bare, Turn, Turns, device_of, Exit}
 use Rattle.sof_stress.specs.GraphParts.{stress_plan}
 use Rattle.sof_stress.specs.StressRun.{sent_in}
-use Rattle.sof_run.specs.Todo.{Todo, Stop, Gave}
+use Rattle.sof_run.specs.Todo.{Todo, Stop, Gave, Played}
+use Rattle.sof_run.specs.Words.{trace_named}
+use Rattle.sof_run.specs.TraceForms.{replay_of}
+use Rattle.sof_run.specs.Keeping.{recorded_turns, KeptRecords}
 use Rattle.sof_run.specs.Play.{play}
 use Rattle.sof_run.specs.Checking.{count_lines}
 use Rattle.sof_run.specs.Picturing.{picture_lines}
@@ -16,7 +20,8 @@ use Rattle.sof_run.specs.SourceTodo.{make_source}
 use Rattle.sof_run.specs.Stressing.{stress_of}
 use Rattle.sof_run.specs.StressTodo.{stress}
 use Rattle.sof_run.specs.DecodeTodo.{decode}
-use Rattle.sof_run.specs.Requests.{Request, Play, Check, Picture, Compile, Source, Stress, Decode, request_of}
+use Rattle.sof_run.specs.ReplayTodo.{replay}
+use Rattle.sof_run.specs.Requests.{Request, Play, Check, Picture, Compile, Source, Stress, Decode, Replay, request_of}
 
 -- what is to do where this is asked for, or nothing is, over a device of this room; a stress has sent so many messages at its end
 abbrev pub todo_for : ℕ → ℕ → Option Request → Todo
@@ -27,6 +32,7 @@ todo_for room sent (Some (Compile names)) = compile names
 todo_for room sent (Some (Source files)) = make_source files
 todo_for room sent (Some (Stress seed)) = stress room sent seed
 todo_for room sent (Some (Decode name)) = decode name
+todo_for room sent (Some (Replay name)) = replay room name
 todo_for room sent None = Stop (codes "words\n") 1
 
 -- all that `run` does with these words, over a device of this room
@@ -37,12 +43,19 @@ todo_of room sent words = todo_for room sent (request_of room words)
 abbrev pub BeginsSound : List (List ℕ) → List Turn → Type 0
 BeginsSound words turns = (seed : ℕ) → stress_of words ≡ Some seed → (turns ≡ []) ⊎ IsSound (stress_plan seed)
 
--- It was done, and the session at its end has sent so many messages.
+-- It was done by turns on the device, with records in front where a trace is kept, and the session at its end has sent so many messages.
 pub record GaveSent {D P : Type 0} (means : DeskMeaning D) (dsp : Meaning P) (words : List (List ℕ)) (todo : ℕ → Todo) (old : D) (p : P) (status : ℕ) (new : D) (q : P) : Type 0 where
   pub sent : ℕ
-  pub gave : Gave means dsp (todo sent) old p status new q
-  pub is_sent : sent ≡ sent_in gave.last
-  pub sound : BeginsSound words gave.ran.turns
+  pub last : Life P
+  pub is : device_of last ≡ q
+  pub exit : replay_of words ≡ None → Exit dsp p last
+  pub turns : List Turn
+  pub turned : Turns dsp (Bare p) turns last
+  pub records : List (List Entry)
+  pub kept : KeptRecords dsp (trace_named (dsp.most p) words) (Bare p) turns last turned records
+  pub played : Played means (todo sent) old (recorded_turns records turns) status new
+  pub is_sent : sent ≡ sent_in last
+  pub sound : BeginsSound words turns
 
 -- the same of a stress alone
 pub record StressGave {D P : Type 0} (means : DeskMeaning D) (dsp : Meaning P) (seed : ℕ) (old : D) (p : P) (status : ℕ) (new : D) (q : P) : Type 0 where

@@ -5,6 +5,9 @@ pub mod Compiling
 pub mod Stressing
 pub mod TraceForms
 pub mod TraceLines
+pub mod Replaying
+pub mod Met
+pub mod Keeping
 pub mod Requests
 pub mod ReadRequests
 pub mod TopologyBytes
@@ -25,6 +28,8 @@ pub mod Sources
 pub mod Findings
 pub mod Stresses
 pub mod Decodes
+pub mod Traces
+pub mod Replays
 pub mod Run
 pub mod PlayLaws
 -- What functions within the crate say: what is still to do, and what was done of it.
@@ -37,6 +42,9 @@ pub mod CompileTodo
 pub mod SourceTodo
 pub mod StressTodo
 pub mod DecodeTodo
+pub mod ReplayTodo
+pub mod GivenRecords
+pub mod KeptTurns
 pub mod Forms
 pub mod Prepared
 pub mod Opening

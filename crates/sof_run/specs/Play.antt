@@ -1,7 +1,7 @@
 -- What `play` has to do, by its words and by the bytes of the files that they name.
-use Rattle.std.specs.Prelude.{ℕ, List, [], ◌∷◌, codes}
+use Rattle.std.specs.Prelude.{ℕ, List, [], ◌∷◌, Option, codes}
 use Rattle.sof_base.specs.Ports.{InputView}
-use Rattle.sof_desk.specs.Desk.{Put, Slot, Spoken}
+use Rattle.sof_desk.specs.Desk.{DeskAct, Put, Slot, Spoken}
 use Rattle.tplg_plan.specs.declared.plans.Plan.{Plan}
 use Rattle.sof_script.specs.declared.script.Numbered.{Numbered}
 use Rattle.sof_script.specs.Commands.{Bound, Read}
@@ -9,6 +9,7 @@ use Rattle.sof_script.specs.Ticks.{rounds_with}
 use Rattle.sof_session.specs.Written.{Written}
 use Rattle.sof_session.specs.Lives.{Begin, Carry}
 use Rattle.sof_run.specs.Bindings.{binding_act, bound_inputs, bound_slots}
+use Rattle.sof_run.specs.Keeping.{trace_acts}
 use Rattle.sof_run.specs.Rounds.{Round, rounds_of}
 use Rattle.sof_run.specs.Words.{Form}
 use Rattle.sof_run.specs.Todo.{Todo, End, Stop, Ask, Do, Step, Refill, Free}
@@ -59,14 +60,23 @@ abbrev pub bindings_todo : Plan → List Bound → Todo → Todo
 bindings_todo plan [] rest = rest
 bindings_todo plan (b ∷ bs) rest = Do (binding_act plan b) (bindings_todo plan bs rest)
 
--- the bindings come first, and then a session over what they bind
-abbrev pub ready_todo : ℕ → Plan → Read → Todo
-ready_todo heap plan read = bindings_todo plan read.bindings (session_todo heap plan read.commands (bound_inputs plan [] read.bindings) (bound_slots plan read.bindings))
+-- and that of the trace that is kept, if one is
+abbrev pub acts_todo : List DeskAct → Todo → Todo
+acts_todo [] rest = rest
+acts_todo (act ∷ acts) rest = Do act (acts_todo acts rest)
+
+abbrev pub traced_todo : Option (List ℕ) → Todo → Todo
+traced_todo trace rest = acts_todo (trace_acts trace) rest
+
+-- the bindings come first, then the trace, and then a session over what they bind
+abbrev pub ready_todo : ℕ → Option (List ℕ) → Plan → Read → Todo
+ready_todo heap trace plan read =
+    bindings_todo plan read.bindings (traced_todo trace (session_todo heap plan read.commands (bound_inputs plan [] read.bindings) (bound_slots plan read.bindings)))
 
 -- what is to do then
-abbrev pub prepared_todo : ℕ → Prepared → Todo
-prepared_todo heap (Ready plan read) = ready_todo heap plan read
-prepared_todo heap (Halted why) = Stop (halt_line why) (halt_status why)
+abbrev pub prepared_todo : ℕ → Option (List ℕ) → Prepared → Todo
+prepared_todo heap trace (Ready plan read) = ready_todo heap trace plan read
+prepared_todo heap trace (Halted why) = Stop (halt_line why) (halt_status why)
 
 -- ---- the words
 
@@ -75,4 +85,4 @@ abbrev pub play : Form → Todo
 play form =
     Ask form.topology 1048576 (codes "too long topology\n") (λ topology.
     Ask form.script 1048576 (codes "too long script\n") (λ script.
-    Free (prepared_todo form.heap (prepared topology script))))
+    Free (prepared_todo form.heap form.trace (prepared topology script))))

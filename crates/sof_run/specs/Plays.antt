@@ -1,16 +1,22 @@
 -- What is to be played, and the run that is played of it.
-use Rattle.std.specs.Prelude.{◌≡◌, ◌⊎◌, ℕ, true, List, [], length, map, take, Option, Some}
+use Rattle.std.specs.Prelude.{◌≡◌, ◌⊎◌, ℕ, true, List, [], ◌++◌, length, map, take, Option, Some, None}
 use Rattle.std.specs.List.{AllByRecursion}
 use Rattle.sof_desk.specs.Desk.{DeskMeaning, Slot}
 use Rattle.mbox_link.specs.Calls.{Meaning}
 use Rattle.tplg_model.specs.declared.block.Topology.{Topology}
+use Rattle.tplg_plan.specs.declared.plans.Plan.{Plan}
 use Rattle.tplg_graph.specs.PlanOf.{plan_of}
 use Rattle.sof_script.specs.Commands.{Bound, Read}
+use Rattle.ipc3_trace.specs.declared.entry.Entry.{Entry}
+use Rattle.sof_script.specs.declared.script.Command.{Command}
+use Rattle.sof_session.specs.SessionStep.{Calm}
 use Rattle.sof_session.specs.Written.{Ground, Leg, IsRun, first_at}
 use Rattle.sof_session.specs.Fills.{AreWhole, bytes_read}
-use Rattle.sof_session.specs.Lives.{Life, Bare, Turn, inputs_of, reads_in}
+use Rattle.sof_session.specs.Lives.{Life, Bare, Turn, device_of, inputs_of, reads_in}
 use Rattle.sof_session.specs.RunOver.{RunOver}
 use Rattle.sof_run.specs.Words.{Form, play_of}
+use Rattle.sof_run.specs.Keeping.{trace_slots, recorded_outs}
+use Rattle.sof_run.specs.Met.{met_units}
 use Rattle.sof_run.specs.Bindings.{bound_files, bound_slots}
 use Rattle.sof_run.specs.Rounds.{Round, rounds_of}
 use Rattle.sof_run.specs.Verdicts.{Fit, MakeRun}
@@ -22,7 +28,7 @@ use Rattle.sof_run.specs.Pieces.{Piece, AreWritten, WroteBehind, WroteNone}
 abbrev pub IsGiven : (List ℕ → Option (List ℕ)) → Bound → Type 0
 IsGiven holds b = b.input ≡ true → (bytes : List ℕ) × (holds b.file ≡ Some bytes)
 
--- what is to be played: the words have the form of `play`, and a topology and a script have at most their limits and make a run
+-- what is to be played: the words have the form of `play` or `trace`, and a topology and a script have at most their limits and make a run
 pub record ToPlay (room : ℕ) (words : List (List ℕ)) : Type 0 where
   pub form : Form
   pub topology : List ℕ
@@ -41,21 +47,36 @@ AreFilesTold holds play = (holds play.form.topology ≡ Some play.topology) × (
 abbrev pub ground_of : {room : ℕ} {words : List (List ℕ)} → ToPlay room words → List (ℕ × List ℕ) → Ground
 ground_of play whole = record { plan = plan_of play.t; heap = play.form.heap; whole = whole; slots = bound_slots (plan_of play.t) play.read.bindings }
 
+-- the slots whose files are made: that of a trace that is kept, and those of the outputs
+abbrev pub written_slots : {room : ℕ} {words : List (List ℕ)} → ToPlay room words → List ℕ
+written_slots play = trace_slots play.form.trace ++ bound_slots (plan_of play.t) play.read.bindings
+
 -- ---- what was played
+
+-- the commands of units
+abbrev pub commands_in : List Round → List Command
+commands_in rounds = map (λ (round : Round). round.numbered.command) rounds
+
+-- the records of a run are those that it leaves, unit by unit; or none, where no trace is kept
+abbrev pub AreMet : Option (List ℕ) → Plan → ℕ → List Command → List (List Entry) → Type 0
+AreMet None plan heap commands records = records ≡ []
+AreMet (Some name) plan heap commands records = records ≡ met_units plan heap commands
 
 -- The written run of the first units, one leg each, over the inputs' whole files. What was read of each file is a front of it, and
 -- all of it where the input has ended; the run over what was read is the same, the turns made it, and device and inputs stand where it
--- leads. The pieces were written behind what stood there once the outputs' files were created.
-pub record Plays {D P : Type 0} (means : DeskMeaning D) (dsp : Meaning P) (g : Ground) (rounds : List Round) (old new : D) (status : ℕ) (p : P) (last : Life P) (turns : List Turn) : Type 0 where
+-- leads. The pieces were written behind what stood there once the files were made; where a trace is kept, the records of each unit stand
+-- before its other pieces, and where no count of the device rose they are those that the run leaves.
+pub record Plays {D P : Type 0} (means : DeskMeaning D) (dsp : Meaning P) (trace : Option (List ℕ)) (g : Ground) (rounds : List Round) (old new : D) (status : ℕ) (p : P) (last : Life P) (turns : List Turn) (records : List (List Entry)) : Type 0 where
   pub legs : List Leg
   pub read : List (ℕ × List ℕ)
   pub read_is : read ≡ bytes_read (reads_in turns)
   pub files : AreWhole (inputs_of last) read g.whole
-  pub over : RunOver dsp (record g { whole = read }) (take (length legs) (map (λ (round : Round). round.numbered.command) rounds)) legs p turns last
-  pub run : IsRun g over.doing (take (length legs) (map (λ (round : Round). round.numbered.command) rounds)) (first_at g) legs
+  pub over : RunOver dsp (record g { whole = read }) (take (length legs) (commands_in rounds)) legs p turns last
+  pub run : IsRun g over.doing (take (length legs) (commands_in rounds)) (first_at g) legs
+  pub met : Calm dsp p (device_of last) → AreMet trace g.plan g.heap (take (length legs) (commands_in rounds)) records
   pub made : List Piece
-  pub written : AreWritten rounds (map (λ (leg : Leg). leg.out) legs) made status
-  pub wrote : WroteBehind means g.slots made old new
+  pub written : AreWritten rounds (recorded_outs records (map (λ (leg : Leg). leg.out) legs)) made status
+  pub wrote : WroteBehind means (trace_slots trace ++ g.slots) made old new
 
 -- nothing of the run was written, and the device is as it was handed in: the desk failed, or memory was wanting, and then no file was
 -- created
@@ -66,8 +87,8 @@ pub record Unbegun {D P : Type 0} (means : DeskMeaning D) (slots : List ℕ) (ol
   pub device : last ≡ Bare p
 
 -- what is to be played, of files that the desk tells, is played over the whole files of its inputs, or ended before it was begun
-abbrev pub PlaysWhole : {D P : Type 0} → DeskMeaning D → Meaning P → List (List ℕ) → D → D → ℕ → P → Life P → List Turn → Type 0
-PlaysWhole means dsp words old new status p last turns =
+abbrev pub PlaysWhole : {D P : Type 0} → DeskMeaning D → Meaning P → List (List ℕ) → D → D → ℕ → P → Life P → List Turn → List (List Entry) → Type 0
+PlaysWhole means dsp words old new status p last turns records =
     (play : ToPlay (dsp.most p) words) → AreFilesTold (means.holds old) play
     → let g = ground_of play (bound_files (plan_of play.t) (means.holds old) [] play.read.bindings) in
-    Plays means dsp g (rounds_of play.read.commands) old new status p last turns ⊎ Unbegun means g.slots old new status p last
+    Plays means dsp play.form.trace g (rounds_of play.read.commands) old new status p last turns records ⊎ Unbegun means (written_slots play) old new status p last

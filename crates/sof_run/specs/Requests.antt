@@ -7,10 +7,10 @@ use Rattle.sof_run.specs.Picturing.{graph_file_of}
 use Rattle.sof_run.specs.Compiling.{CompileNames, compile_of}
 use Rattle.sof_run.specs.Sourcing.{SourceFiles, source_files_of}
 use Rattle.sof_run.specs.Stressing.{stress_of}
-use Rattle.sof_run.specs.TraceForms.{decode_of}
+use Rattle.sof_run.specs.TraceForms.{decode_of, replay_of}
 
--- what is asked for: `play` by its form, `check`, `graph` and `decode` by the name of a file, `compile` and `source` by the names of
--- their files, or `stress` by its number
+-- what is asked for: `play` and `trace` by their form, `check`, `graph`, `decode` and `replay` by the name of a file, `compile` and
+-- `source` by the names of their files, or `stress` by its number
 pub data Request : Type 0 where
   Play : (form : Form) → Request
   Check : (name : List ℕ) → Request
@@ -19,8 +19,9 @@ pub data Request : Type 0 where
   Source : (files : SourceFiles) → Request
   Stress : (seed : ℕ) → Request
   Decode : (name : List ℕ) → Request
+  Replay : (name : List ℕ) → Request
 
--- what these words ask for, over a device of this room: the first of the seven forms that they have, if any
+-- what these words ask for, over a device of this room: the first of these forms that they have, if any
 abbrev pub request_of : ℕ → List (List ℕ) → Option Request
 request_of room words =
     option_or (option_map Play (play_of room words))
@@ -29,4 +30,5 @@ request_of room words =
     (option_or (option_map Compile (compile_of words))
     (option_or (option_map Source (source_files_of words))
     (option_or (option_map Stress (stress_of words))
-    (option_map Decode (decode_of words)))))))
+    (option_or (option_map Decode (decode_of words))
+    (option_map Replay (replay_of words))))))))

@@ -1,11 +1,15 @@
 -- What `run` does, by its words: over every desk and every device.
-use Rattle.std.specs.Prelude.{◌≡◌, ℕ, List}
+use Rattle.std.specs.Prelude.{◌≡◌, ℕ, List, None}
 use Rattle.std.specs.List.{AllByRecursion}
 use Rattle.sof_desk.specs.Desk.{DeskMeaning, DeskCall, DeskLed, CountRose}
 use Rattle.mbox_link.specs.Calls.{Meaning}
+use Rattle.ipc3_trace.specs.declared.entry.Entry.{Entry}
 use Rattle.sof_session.specs.Lives.{Life, Bare, Turn, Turns, device_of, Exit}
 use Rattle.sof_stress.specs.StressRun.{sent_in}
 use Rattle.sof_run.specs.TopologyBytes.{BringsBytes}
+use Rattle.sof_run.specs.Words.{trace_named}
+use Rattle.sof_run.specs.Keeping.{recorded_turns, KeptRecords}
+use Rattle.sof_run.specs.TraceForms.{replay_of}
 use Rattle.sof_run.specs.Calls.{heard_in}
 use Rattle.sof_run.specs.Findings.{FollowsCourse}
 use Rattle.sof_run.specs.Ends.{IsOpening, IsEarly, Worded}
@@ -19,38 +23,46 @@ use Rattle.sof_run.specs.Compiles.{Compiles}
 use Rattle.sof_run.specs.Sources.{Sources}
 use Rattle.sof_run.specs.Stresses.{StressesWhole}
 use Rattle.sof_run.specs.Decodes.{Decodes}
+use Rattle.sof_run.specs.Traces.{TracesWhole}
+use Rattle.sof_run.specs.Replays.{Replays}
 
--- The turns on the device, each a session's step, and the calls on the desk: those that the words ask for, in their order and no
--- others. What a load brought is bytes. Status 3 comes only where the desk's count rose.
+-- The turns on the device, each a session's step or a call, and the calls on the desk: those that the words ask for, in their order and
+-- no others. Where a trace is kept, the records of each command's calls on the device stand before all else that it writes. What a load
+-- brought is bytes. Status 3 comes only where the desk's count rose.
 pub record Called {D P : Type 0} (means : DeskMeaning D) (dsp : Meaning P) (words : List (List ℕ)) (old : D) (p : P) (status : ℕ) (new : D) (last : Life P) : Type 0 where
   pub turns : List Turn
   pub turned : Turns dsp (Bare p) turns last
   pub calls : List DeskCall
   pub led : DeskLed means old calls new
   pub bytes : AllByRecursion BringsBytes (heard_in calls)
-  pub follows : FollowsCourse (dsp.most p) (sent_in last) words turns calls status
+  pub records : List (List Entry)
+  pub kept : KeptRecords dsp (trace_named (dsp.most p) words) (Bare p) turns last turned records
+  pub follows : FollowsCourse (dsp.most p) (sent_in last) words (recorded_turns records turns) calls status
   pub failed : status ≡ 3 → CountRose (means.faults old) (means.faults new)
 
--- The device that is handed back: the one that was handed in, or that of a session whose two sides agree. It is the one that was
--- handed in after every status that comes before any command, and where the desk failed at a load, a create or an open.
-pub record Left {P : Type 0} (dsp : Meaning P) (p q : P) (last : Life P) (calls : List DeskCall) (status : ℕ) : Type 0 where
+-- The device that is handed back: where no trace is given to it, the one that was handed in, or that of a session whose two sides agree. It
+-- is the one that was handed in after every status that comes before any command, and where the desk failed at a load, a create or an
+-- open.
+pub record Left {P : Type 0} (dsp : Meaning P) (words : List (List ℕ)) (p q : P) (last : Life P) (calls : List DeskCall) (status : ℕ) : Type 0 where
   pub is : device_of last ≡ q
-  pub exit : Exit dsp p last
-  pub untouched : IsEarly status → last ≡ Bare p
+  pub exit : replay_of words ≡ None → Exit dsp p last
+  pub untouched : replay_of words ≡ None → IsEarly status → last ≡ Bare p
   pub unasked : status ≡ 3 → AllByRecursion IsOpening calls → last ≡ Bare p
 
 -- all that is said of `run`
 pub record Whole {D P : Type 0} (means : DeskMeaning D) (dsp : Meaning P) (words : List (List ℕ)) (old : D) (p : P) (status : ℕ) (new : D) (q : P) : Type 0 where
   pub last : Life P
   pub called : Called means dsp words old p status new last
-  pub exit : Left dsp p q last called.calls status
+  pub exit : Left dsp words p q last called.calls status
   pub worded : Worded (dsp.most p) words status
   pub judged : Judged means (dsp.most p) words old called.calls status
-  pub run : PlaysWhole means dsp words old new status p last called.turns
+  pub run : PlaysWhole means dsp words old new status p last called.turns called.records
   pub heard : PlaysWhatIsHeard dsp words called.calls called.turns status p last
   pub checks : Checks means count_lines (check_of words) old (Bare p) called.calls status new last
   pub pictures : Checks means picture_lines (graph_file_of words) old (Bare p) called.calls status new last
   pub compiles : Compiles means words old (Bare p) called.calls status new last
   pub sources : Sources means words old (Bare p) called.calls status new last
   pub stresses : StressesWhole means dsp words old new status p last called.turns
+  pub traces : TracesWhole means dsp words called.calls old new status p last called.records
   pub decodes : Decodes means words old (Bare p) called.calls status new last
+  pub replays : Replays means dsp words old p called.calls status new last

@@ -4,10 +4,11 @@ use Rattle.sof_desk.specs.declared.calls.LoadFault.TheVariants.{Failed, TooLong,
 use Rattle.sof_desk.specs.Desk.{DeskMeaning, DeskAct, Put, Spoken, DeskCall, Load, Did, Read, DeskLed}
 use Rattle.mbox_link.specs.Calls.{Meaning}
 use Rattle.sof_session.specs.Written.{Out}
-use Rattle.sof_session.specs.Lives.{Life, Bare, Task, Fill, Turn, Turns, device_of, Exit}
+use Rattle.mbox_link.specs.Calls.{Exchange}
+use Rattle.sof_session.specs.Lives.{Life, Bare, Task, Fill, Give, Turn, Turning, AreTurns, Turned, device_of, Exit}
 use Rattle.sof_run.specs.TopologyBytes.{AreBytes}
 use Rattle.sof_run.specs.Lines.{no_memory_line}
-use Rattle.sof_run.specs.Calls.{reading}
+use Rattle.sof_run.specs.Calls.{reading, answer_in}
 
 -- what a program has still to do
 pub data Todo : Type 0 where
@@ -23,6 +24,8 @@ pub data Todo : Type 0 where
   Step : (task : Task) (next : Out → Todo) → Todo
   -- the inputs are filled by reads, until none of them is to be read next or a read fails
   Refill : (next : Todo) → Todo
+  -- a message is given to a device outside a session, and what comes next is by its reply
+  Send : (message : List ℕ) (next : Option (List ℕ) → Todo) → Todo
   -- memory may be wanting here
   Free : (next : Todo) → Todo
 
@@ -71,6 +74,9 @@ DoneBy (Step task next) (turn ∷ turns) calls status = (turn.task ≡ task) × 
 DoneBy (Refill next) [] calls status = ⊥
 DoneBy (Refill next) (turn ∷ turns) calls status =
     (f : FillTurn turn calls) × MatchOption f.failed (DoneBy next turns f.later status) (λ slot. Over 3 turns f.later status)
+DoneBy (Send message next) [] calls status = ⊥
+DoneBy (Send message next) (turn ∷ turns) calls status =
+    (turn.task ≡ Give (Exchange message (answer_in turn.task))) × DoneBy (next (answer_in turn.task)) turns calls status
 DoneBy (Free next) turns calls status = DoneBy next turns calls status ⊎ Says no_memory_line 7 turns calls status
 
 -- it was done on a desk
@@ -79,18 +85,22 @@ pub record Played {D : Type 0} (means : DeskMeaning D) (todo : Todo) (old : D) (
   pub led : DeskLed means old calls new
   pub goes : DoneBy todo turns calls status
 
--- it was done on a desk and a device
-pub record RanOn {D P : Type 0} (means : DeskMeaning D) (dsp : Meaning P) (todo : Todo) (old : D) (p : Life P) (status : ℕ) (new : D) (q : Life P) : Type 0 where
+-- it was done on a desk and a device, by turns that are so
+pub record RanOn {D L : Type 0} (means : DeskMeaning D) (by : Turning L) (todo : Todo) (old : D) (p : L) (status : ℕ) (new : D) (q : L) : Type 0 where
   pub turns : List Turn
-  pub turned : Turns dsp p turns q
+  pub turned : AreTurns by p turns q
   pub played : Played means todo old turns status new
 
 -- what was done, with the device that is handed back
-pub record Gave {D P : Type 0} (means : DeskMeaning D) (dsp : Meaning P) (todo : Todo) (old : D) (p : P) (status : ℕ) (new : D) (q : P) : Type 0 where
+pub record GaveBy {D P : Type 0} (means : DeskMeaning D) (dsp : Meaning P) (by : Turning (Life P)) (todo : Todo) (old : D) (p : P) (status : ℕ) (new : D) (q : P) : Type 0 where
   pub last : Life P
   pub is : device_of last ≡ q
   pub exit : Exit dsp p last
-  pub ran : RanOn means dsp todo old (Bare p) status new last
+  pub ran : RanOn means by todo old (Bare p) status new last
+
+-- by turns of sessions
+abbrev pub Gave : {D P : Type 0} → DeskMeaning D → Meaning P → Todo → D → P → ℕ → D → P → Type 0
+Gave means dsp todo old p status new q = GaveBy means dsp (Turned dsp) todo old p status new q
 
 -- A phase on a desk alone, before what comes after it. Done, it leads on; else the desk failed, and all ends with 3.
 abbrev pub DeskPhase : {D : Type 0} → DeskMeaning D → (Todo → Todo) → Bool → D → D → Type 0
@@ -99,15 +109,15 @@ DeskPhase {D} means phase true old new =
 DeskPhase means phase false old new = (rest : Todo) → Played means (phase rest) old [] 3 new
 
 -- what is left on the right, done, makes the whole on the left done
-abbrev pub LeadsOn : {D P : Type 0} → DeskMeaning D → Meaning P → (Todo → Todo) → (Todo → Todo) → D → Life P → D → Life P → Type 0
-LeadsOn {D} {P} means dsp whole left old p new q =
-    (rest : Todo) (status : ℕ) (end : D) (r : Life P) → RanOn means dsp (left rest) new q status end r → RanOn means dsp (whole rest) old p status end r
+abbrev pub LeadsOn : {D L : Type 0} → DeskMeaning D → Turning L → (Todo → Todo) → (Todo → Todo) → D → L → D → L → Type 0
+LeadsOn {D} {L} means by whole left old p new q =
+    (rest : Todo) (status : ℕ) (end : D) (r : L) → RanOn means by (left rest) new q status end r → RanOn means by (whole rest) old p status end r
 
 -- the desk failed
-abbrev pub PhaseFails : {D P : Type 0} → DeskMeaning D → Meaning P → (Todo → Todo) → D → Life P → D → Life P → Type 0
-PhaseFails means dsp whole old p new q = (rest : Todo) → RanOn means dsp (whole rest) old p 3 new q
+abbrev pub PhaseFails : {D L : Type 0} → DeskMeaning D → Turning L → (Todo → Todo) → D → L → D → L → Type 0
+PhaseFails means by whole old p new q = (rest : Todo) → RanOn means by (whole rest) old p 3 new q
 
 -- a phase on both
-abbrev pub Phase : {D P : Type 0} → DeskMeaning D → Meaning P → (Todo → Todo) → Bool → D → Life P → D → Life P → Type 0
-Phase means dsp phase true old p new q = LeadsOn means dsp phase (λ rest. rest) old p new q
-Phase means dsp phase false old p new q = PhaseFails means dsp phase old p new q
+abbrev pub Phase : {D L : Type 0} → DeskMeaning D → Turning L → (Todo → Todo) → Bool → D → L → D → L → Type 0
+Phase means by phase true old p new q = LeadsOn means by phase (λ rest. rest) old p new q
+Phase means by phase false old p new q = PhaseFails means by phase old p new q

@@ -16,9 +16,10 @@ ghost use Rattle.sof_run.specs.Rounds.{command_rounds};
 ghost use Rattle.sof_run.specs.LineParts.{is_show};
 ghost use Rattle.sof_run.specs.Lines.{with_newline};
 ghost use Rattle.sof_run.specs.Play.{lines_todo, unit_todo, rounds_todo, commands_todo};
+ghost use Rattle.sof_run.specs.KeptTurns.{KeptTurn, CanKeep};
 ghost use Rattle.sof_run.specs.Opening.{HaveFiles, SameFiles};
 
-use crate::files::write_outputs;
+use crate::keeping::{Keeps, write_unit};
 use crate::windows::{READ_BYTES, refill};
 use host_widgets::Answer;
 use mbox_link::Dsp;
@@ -83,33 +84,33 @@ fn say_lines<D: Desk, P: Dsp>(
 }
 
 // A tick that is not the last of its command: a turn of the session, and the bytes that it wrote.
-fn do_earlier_tick<D: Desk, P: Dsp>(
+fn do_earlier_tick<D: Desk, K: Keeps>(
     desk: &mut D,
-    session: &mut Session<P>,
+    session: &mut Session<K>,
     inputs: &mut Inputs,
     outputs: &mut Outputs,
 ) -> bool
     requires files { HaveFiles D.means inputs.old outputs.old desk.old }
+    requires keeps { CanKeep D.means K.holds desk.old }
     requires empty { drained outputs.old ≡ outputs.old }
-    ensures phase { (numbered : Numbered) (n : ℕ) → numbered.command ≡ Tick n → Phase D.means P.means (unit_todo (record { numbered = numbered; last = false })) result
+    ensures phase { (numbered : Numbered) (n : ℕ) → numbered.command ≡ Tick n → Phase D.means (KeptTurn K.means K.holds K.empties) (unit_todo (record { numbered = numbered; last = false })) result
         desk.old (Seated session.old inputs.old (output_slots outputs.old)) desk.new (Seated session.new inputs.new (output_slots outputs.new)) }
     ensures plan { session.new.plan ≡ session.old.plan }
     ensures sent { session.new.link.sent ≡ session.old.link.sent }
     ensures files { HaveFiles D.means inputs.new outputs.new desk.new }
+    ensures keeps { CanKeep D.means K.holds desk.new }
     ensures empty { drained outputs.new ≡ outputs.new }
 {
     session.tick(inputs, outputs);
-    let done = write_outputs(desk, outputs);
-    outputs.drain();
-    done
+    write_unit(desk, session, outputs)
 }
 
 // The last unit of a command: a turn of the session, the bytes that it wrote, those of ticks before its messages too, and the
 // lines of the command.
-fn do_round<D: Desk, P: Dsp>(
+fn do_round<D: Desk, K: Keeps>(
     numbered: &Numbered,
     desk: &mut D,
-    session: &mut Session<P>,
+    session: &mut Session<K>,
     inputs: &mut Inputs,
     outputs: &mut Outputs,
     line: &mut Line,
@@ -118,18 +119,18 @@ fn do_round<D: Desk, P: Dsp>(
     requires few { session.old.link.sent < 2 ^ 63 }
     requires plan { IsSound session.old.plan }
     requires files { HaveFiles D.means inputs.old outputs.old desk.old }
+    requires keeps { CanKeep D.means K.holds desk.old }
     requires empty { drained outputs.old ≡ outputs.old }
-    ensures phase { Phase D.means P.means (unit_todo (record { numbered = numbered.now; last = true })) result
+    ensures phase { Phase D.means (KeptTurn K.means K.holds K.empties) (unit_todo (record { numbered = numbered.now; last = true })) result
         desk.old (Seated session.old inputs.old (output_slots outputs.old)) desk.new (Seated session.new inputs.new (output_slots outputs.new)) }
     ensures plan { session.new.plan ≡ session.old.plan }
     ensures sent { session.new.link.sent ≤ session.old.link.sent + most_sent numbered.now.command }
     ensures files { HaveFiles D.means inputs.new outputs.new desk.new }
+    ensures keeps { CanKeep D.means K.holds desk.new }
     ensures empty { drained outputs.new ≡ outputs.new }
 {
     let answer = session.step(&numbered.command, inputs, outputs);
-    let written = write_outputs(desk, outputs);
-    outputs.drain();
-    if written {
+    if write_unit(desk, session, outputs) {
         say_lines(numbered, &answer, desk, session, line)
     } else {
         false
@@ -147,10 +148,10 @@ fn earlier(command: &Command) -> u32
 }
 
 // The units of a command, before each of which the inputs are filled.
-fn do_command<D: Desk, P: Dsp>(
+fn do_command<D: Desk, K: Keeps>(
     numbered: &Numbered,
     desk: &mut D,
-    session: &mut Session<P>,
+    session: &mut Session<K>,
     inputs: &mut Inputs,
     outputs: &mut Outputs,
     line: &mut Line,
@@ -160,12 +161,14 @@ fn do_command<D: Desk, P: Dsp>(
     requires few { session.old.link.sent < 2 ^ 63 }
     requires plan { IsSound session.old.plan }
     requires files { HaveFiles D.means inputs.old outputs.old desk.old }
+    requires keeps { CanKeep D.means K.holds desk.old }
     requires empty { drained outputs.old ≡ outputs.old }
-    ensures phase { Phase D.means P.means (rounds_todo (command_rounds numbered.now)) result
+    ensures phase { Phase D.means (KeptTurn K.means K.holds K.empties) (rounds_todo (command_rounds numbered.now)) result
         desk.old (Seated session.old inputs.old (output_slots outputs.old)) desk.new (Seated session.new inputs.new (output_slots outputs.new)) }
     ensures plan { session.new.plan ≡ session.old.plan }
     ensures sent { session.new.link.sent ≤ session.old.link.sent + 900 }
     ensures files { HaveFiles D.means inputs.new outputs.new desk.new }
+    ensures keeps { CanKeep D.means K.holds desk.new }
     ensures empty { drained outputs.new ≡ outputs.new }
 {
     for _ in 0..earlier(&numbered.command) {
@@ -184,10 +187,10 @@ fn do_command<D: Desk, P: Dsp>(
 
 /// Each command in turn, up to a failure of the desk; answers whether all were done. The outputs are empty before it, the files of
 /// their slots are created, and those of the inputs are open.
-pub fn do_commands<D: Desk, P: Dsp>(
+pub fn do_commands<D: Desk, K: Keeps>(
     commands: &[Numbered],
     desk: &mut D,
-    session: &mut Session<P>,
+    session: &mut Session<K>,
     inputs: &mut Inputs,
     outputs: &mut Outputs,
 ) -> bool
@@ -196,8 +199,9 @@ pub fn do_commands<D: Desk, P: Dsp>(
     requires first { session.old.link.sent ≡ 0 }
     requires plan { IsSound session.old.plan }
     requires files { HaveFiles D.means inputs.old outputs.old desk.old }
+    requires keeps { CanKeep D.means K.holds desk.old }
     requires empty { drained outputs.old ≡ outputs.old }
-    ensures { Phase D.means P.means (commands_todo commands.now) result
+    ensures { Phase D.means (KeptTurn K.means K.holds K.empties) (commands_todo commands.now) result
         desk.old (Seated session.old inputs.old (output_slots outputs.old)) desk.new (Seated session.new inputs.new (output_slots outputs.new)) }
 {
     let mut line = Line::new();

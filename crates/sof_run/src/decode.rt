@@ -15,7 +15,7 @@ use sof_script::Line;
 use std::alloc::Global;
 
 /// The most bytes of a trace.
-const TRACE_LIMIT: usize = 16777216;
+pub const TRACE_LIMIT: usize = 16777216;
 
 // Says the line of a record; answers whether that was done.
 fn say_record<D: Desk>(desk: &mut D, entry: &Entry, line: &mut Line) -> bool

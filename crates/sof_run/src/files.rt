@@ -70,9 +70,9 @@ pub fn stop_for<D: Desk>(desk: &mut D, halt: Halt) -> u8
     stop(desk, line.bytes(), halt.status())
 }
 
-// Appends bytes to the file of a slot, where there are any.
-fn write_output<D: Desk>(desk: &mut D, slot: u32, bytes: &[u8]) -> bool
-    requires { D.means.created desk.old slot ≡ true }
+/// Appends bytes to the file of a slot, where there are any.
+pub fn write_output<D: Desk>(desk: &mut D, slot: u32, bytes: &[u8]) -> bool
+    requires { (bytes.now ≡ [] → ⊥) → D.means.created desk.old slot ≡ true }
     ensures phase { DeskPhase D.means (flush_todo (with_bytes slot bytes.now [])) result desk.old desk.new }
     ensures same { SameFiles D.means desk.old desk.new }
 {

@@ -1,11 +1,12 @@
-// The lines that are said where files make no run, where a source is refused, and where a trace is at fault.
+// The lines that are said where files make no run, where a source is refused, and where a trace or a record of it is at fault.
 ghost use Rattle.std.specs.Prelude.{◌≡◌, ◌+◌, ◌≤◌, ◌++◌, [], ◌∷◌, length, decimal};
 ghost use Rattle.sof_run.specs.Compiling.{list_word as word_of, source_line};
 ghost use Rattle.sof_run.specs.LineParts.{fault_line};
 ghost use Rattle.sof_run.specs.Lines.{topology_fault_words, script_line, halt_line, halt_status, with_newline};
-ghost use Rattle.sof_run.specs.TraceLines.{trace_fault_words, trace_fault_line};
+ghost use Rattle.sof_run.specs.TraceLines.{trace_fault_words, trace_fault_line, replay_fault_words, replay_fault_line};
 
 use crate::prepare::Halt;
+use crate::replay_fault::ReplayFault;
 use ipc3_trace::TraceFault;
 use itoa::Buffer;
 use sof_script::{Line, cause_word};
@@ -189,6 +190,29 @@ pub fn write_trace_fault(fault: TraceFault, line: &mut Line)
     line.clear();
     line.say(b"trace ");
     say_trace_fault(fault, line);
+    line.say(b"\n");
+}
+
+fn say_replay_fault(fault: ReplayFault, line: &mut Line)
+    requires { length line.old ≤ 20 }
+    ensures said { line.new ≡ line.old ++ replay_fault_words fault }
+    ensures longer { length line.new ≤ 100 }
+{
+    match fault {
+        ReplayFault::Broken(fault) => say_trace_fault(fault, line),
+        ReplayFault::Order(at) => say_at(b"order ", at, line),
+        ReplayFault::Lost(at) => say_at(b"lost ", at, line),
+        ReplayFault::Replied(at) => say_at(b"reply ", at, line),
+    }
+}
+
+/// Writes the line for the first record at fault of a trace that is given to a device, with its newline.
+pub fn write_replay_fault(fault: ReplayFault, line: &mut Line)
+    ensures { line.new ≡ replay_fault_line fault }
+{
+    line.clear();
+    line.say(b"trace ");
+    say_replay_fault(fault, line);
     line.say(b"\n");
 }
 

@@ -1,14 +1,17 @@
 // What a script binds: the places of its inputs and outputs, and then their files.
-ghost use Rattle.std.specs.Prelude.{◌≡◌, [], true, false, None, OnOk};
+ghost use Rattle.std.specs.Prelude.{◌≡◌, [], List, true, false, None, is_some, option_map, OnOk};
+ghost use Rattle.sof_base.specs.Ports.{InputView, OutputView};
 ghost use Rattle.sof_base.specs.DrainedOutputs.{drained};
 ghost use Rattle.sof_desk.specs.Desk.{Acted};
 ghost use Rattle.sof_script.specs.ScriptRead.{bound_of, bounds_of};
 ghost use Rattle.sof_run.specs.Bindings.{wrong_binding, binding_act, bound_inputs, bound_outputs};
 ghost use Rattle.sof_run.specs.Todo.{DeskPhase};
-ghost use Rattle.sof_run.specs.Play.{bindings_todo};
+ghost use Rattle.sof_run.specs.Play.{bindings_todo, traced_todo};
+ghost use Rattle.sof_run.specs.Keeping.{trace_slot};
 ghost use Rattle.sof_run.specs.Opening.{HaveFiles};
 
 use crate::bindings::slot_of;
+use crate::keeping::TRACE_SLOT;
 use sof_base::NoMemory;
 use sof_desk::Desk;
 use sof_io::{Inputs, Outputs};
@@ -63,5 +66,17 @@ fn open_one<D: Desk>(plan: &Plan, binding: &Binding, desk: &mut D) -> bool
         desk.open(slot, file).is_ok()
     } else {
         desk.create(slot, file).is_ok()
+    }
+}
+
+/// Creates the file of the trace that is kept, if one is, and tells whether that was done. The files that were opened or created stay so.
+pub fn open_trace<D: Desk>(trace: Option<&str>, desk: &mut D) -> bool
+    ensures done { DeskPhase D.means (traced_todo (option_map (λ name. name.now) trace.entry)) result desk.old desk.new }
+    ensures traced { result ≡ true → is_some trace.entry ≡ true → D.means.created desk.new trace_slot ≡ true }
+    ensures files { (inputs : List InputView) (outputs : List OutputView) → result ≡ true → HaveFiles D.means inputs outputs desk.old → HaveFiles D.means inputs outputs desk.new }
+{
+    match trace {
+        Some(name) => desk.create(TRACE_SLOT, name).is_ok(),
+        None => true,
     }
 }

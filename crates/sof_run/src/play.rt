@@ -1,6 +1,7 @@
 // The top call.
-ghost use Rattle.std.specs.Prelude.{◌≡◌, ◌≤◌, [], map, None, string_bytes};
-ghost use Rattle.sof_run.specs.Todo.{Todo, Free, Gave};
+ghost use Rattle.std.specs.Prelude.{◌≡◌, ◌≤◌, [], map, None, true, is_some, option_map, string_bytes};
+ghost use Rattle.sof_run.specs.Todo.{Todo, Free, GaveBy, Played};
+ghost use Rattle.sof_run.specs.KeptTurns.{KeptTurn, GaveKept};
 ghost use Rattle.sof_run.specs.LineParts.{form as form_of};
 ghost use Rattle.sof_script.specs.ScriptRead.{script_read};
 ghost use Rattle.sof_run.specs.Halts.{IsCarriable, IsInRange};
@@ -15,11 +16,14 @@ use crate::compile::do_compile;
 use crate::decode::do_decode;
 use crate::files::{LIMIT, fetch, status_of, stop, stop_for};
 use crate::graph::do_graph;
-use crate::opening::{bind_all, open_all};
+use crate::keeping::{Keeps, Untraced};
+use crate::opening::{bind_all, open_all, open_trace};
 use crate::prepare::{Halt, Ready, prepare};
+use crate::replay::do_replay;
 use crate::source::do_source;
 use crate::stress::do_stress;
 use crate::words::{Form, Request, read_request};
+use ipc3_trace::Tracer;
 use mbox_link::Dsp;
 use sof_desk::Desk;
 use sof_io::{Inputs, Outputs};
@@ -33,9 +37,10 @@ pub struct Ended<P: Dsp> {
     pub dsp: P,
 }
 
-// Says that memory is wanting for what comes next, and hands the device back.
-fn end_wanting<D: Desk, P: Dsp>(desk: &mut D, dsp: P) -> Ended<P>
-    ensures { (next : Todo) → Gave D.means P.means (Free next) desk.old dsp result.status desk.new result.dsp }
+/// Says that memory is wanting for what comes next, and hands the device back.
+pub fn end_wanting<D: Desk, P: Dsp>(desk: &mut D, dsp: P) -> Ended<P>
+    ensures said { (next : Todo) → Played D.means (Free next) desk.old [] result.status desk.new }
+    ensures same { result.dsp ≡ dsp }
 {
     Ended {
         status: stop_for(desk, Halt::OutOfMemory),
@@ -43,20 +48,22 @@ fn end_wanting<D: Desk, P: Dsp>(desk: &mut D, dsp: P) -> Ended<P>
     }
 }
 
-// Takes the memory of a run: the places of its bindings, and a session over the device. Then come the files, and then the commands.
-fn do_session<D: Desk, P: Dsp>(
+// Takes the memory of a run: the places of its bindings, and a session over the device. Then come the files, that of the trace last, and
+// then the commands.
+fn do_session<D: Desk, K: Keeps>(
     alloc: Global,
-    heap: u32,
+    form: Form<'_>,
     ready: Ready,
     desk: &mut D,
-    dsp: P,
-) -> Ended<P>
-    requires off { P.means.on dsp ≡ None }
-    requires pending { P.means.pending dsp ≡ 0 }
-    requires fits { heap ≤ P.means.most dsp }
+    dsp: K,
+) -> Ended<K>
+    requires off { K.means.on dsp ≡ None }
+    requires pending { K.means.pending dsp ≡ 0 }
+    requires fits { form.heap ≤ K.means.most dsp }
     requires carriable { IsCarriable ready.plan (script_read ready.script) }
     requires sound { IsInRange (script_read ready.script) }
-    ensures { Gave D.means P.means (Free (ready_todo heap ready.plan (script_read ready.script))) desk.old dsp result.status desk.new result.dsp }
+    requires keeps { form.trace ≡ None → (k : K) → K.holds k ≡ [] }
+    ensures { GaveBy D.means K.means (KeptTurn K.means K.holds K.empties) (Free (ready_todo form.entry.heap (option_map (λ name. name.now) form.entry.trace) ready.plan (script_read ready.script))) desk.old dsp result.status desk.new result.dsp }
 {
     let Ok(mut inputs) = Inputs::new(alloc) else {
         return end_wanting(desk, dsp);
@@ -68,11 +75,17 @@ fn do_session<D: Desk, P: Dsp>(
     let Ok(()) = bind_all(&ready.plan, bindings, &mut inputs, &mut outputs) else {
         return end_wanting(desk, dsp);
     };
-    let mut session = match Session::new(alloc, ready.plan, heap, dsp) {
+    let mut session = match Session::new(alloc, ready.plan, form.heap, dsp) {
         Ok(session) => session,
         Err(refused) => return end_wanting(desk, refused.dsp),
     };
     if !open_all(session.plan(), ready.script.bindings.items(), desk) {
+        return Ended {
+            status: 3,
+            dsp: session.into_dsp(),
+        };
+    }
+    if !open_trace(form.trace, desk) {
         return Ended {
             status: 3,
             dsp: session.into_dsp(),
@@ -86,12 +99,85 @@ fn do_session<D: Desk, P: Dsp>(
     }
 }
 
-// All of `play`: the files, and then the run.
+// A run over the device alone.
+fn do_untraced<D: Desk, P: Dsp>(
+    alloc: Global,
+    form: Form<'_>,
+    ready: Ready,
+    desk: &mut D,
+    dsp: P,
+) -> Ended<P>
+    requires off { P.means.on dsp ≡ None }
+    requires pending { P.means.pending dsp ≡ 0 }
+    requires fits { form.heap ≤ P.means.most dsp }
+    requires carriable { IsCarriable ready.plan (script_read ready.script) }
+    requires sound { IsInRange (script_read ready.script) }
+    requires none { form.trace ≡ None }
+    ensures { GaveKept D.means P.means None (Free (ready_todo form.entry.heap None ready.plan (script_read ready.script))) desk.old dsp result.status desk.new result.dsp }
+{
+    let ended = do_session(alloc, form, ready, desk, Untraced::new(dsp));
+    Ended {
+        status: ended.status,
+        dsp: ended.dsp.into_dsp(),
+    }
+}
+
+// A run over the device, of whose calls the records are kept.
+fn do_traced<D: Desk, P: Dsp>(
+    alloc: Global,
+    form: Form<'_>,
+    ready: Ready,
+    desk: &mut D,
+    dsp: P,
+) -> Ended<P>
+    requires off { P.means.on dsp ≡ None }
+    requires pending { P.means.pending dsp ≡ 0 }
+    requires fits { form.heap ≤ P.means.most dsp }
+    requires carriable { IsCarriable ready.plan (script_read ready.script) }
+    requires sound { IsInRange (script_read ready.script) }
+    requires some { is_some form.trace ≡ true }
+    ensures { GaveKept D.means P.means (option_map (λ name. name.now) form.entry.trace) (Free (ready_todo form.entry.heap (option_map (λ name. name.now) form.entry.trace) ready.plan (script_read ready.script))) desk.old dsp result.status desk.new result.dsp }
+{
+    match Tracer::new(alloc, dsp) {
+        Ok(tracer) => {
+            let ended = do_session(alloc, form, ready, desk, tracer);
+            Ended {
+                status: ended.status,
+                dsp: ended.dsp.into_dsp(),
+            }
+        }
+        Err(refused) => end_wanting(desk, refused.dsp),
+    }
+}
+
+// A run, of which a trace is kept where the words name one.
+fn do_run<D: Desk, P: Dsp>(
+    alloc: Global,
+    form: Form<'_>,
+    ready: Ready,
+    desk: &mut D,
+    dsp: P,
+) -> Ended<P>
+    requires off { P.means.on dsp ≡ None }
+    requires pending { P.means.pending dsp ≡ 0 }
+    requires fits { form.heap ≤ P.means.most dsp }
+    requires carriable { IsCarriable ready.plan (script_read ready.script) }
+    requires sound { IsInRange (script_read ready.script) }
+    ensures { GaveKept D.means P.means (option_map (λ name. name.now) form.entry.trace) (Free (ready_todo form.entry.heap (option_map (λ name. name.now) form.entry.trace) ready.plan (script_read ready.script))) desk.old dsp result.status desk.new result.dsp }
+{
+    if form.trace.is_some() {
+        do_traced(alloc, form, ready, desk, dsp)
+    } else {
+        do_untraced(alloc, form, ready, desk, dsp)
+    }
+}
+
+// All of `play` and `trace`: the files, and then the run.
 fn do_play<D: Desk, P: Dsp>(alloc: Global, form: Form<'_>, desk: &mut D, dsp: P) -> Ended<P>
     requires off { P.means.on dsp ≡ None }
     requires pending { P.means.pending dsp ≡ 0 }
     requires fits { form.heap ≤ P.means.most dsp }
-    ensures { Gave D.means P.means (play (form_of form.entry.heap form.entry.topology.now form.entry.script.now)) desk.old dsp result.status desk.new result.dsp }
+    ensures { GaveKept D.means P.means (option_map (λ name. name.now) form.entry.trace) (play (form_of form.entry.heap form.entry.topology.now form.entry.script.now (option_map (λ name. name.now) form.entry.trace))) desk.old dsp result.status desk.new result.dsp }
 {
     let topology = match fetch(alloc, desk, form.topology, LIMIT, b"too long topology\n") {
         Ok(bytes) => bytes,
@@ -102,7 +188,7 @@ fn do_play<D: Desk, P: Dsp>(alloc: Global, form: Form<'_>, desk: &mut D, dsp: P)
         Err(status) => return Ended { status, dsp },
     };
     match prepare(alloc, &topology, &script) {
-        Ok(ready) => do_session(alloc, form.heap, ready, desk, dsp),
+        Ok(ready) => do_run(alloc, form, ready, desk, dsp),
         Err(halt) => Ended {
             status: stop_for(desk, halt),
             dsp,
@@ -140,6 +226,7 @@ fn do_words<D: Desk, P: Dsp>(alloc: Global, words: &[String], desk: &mut D, dsp:
             status: do_decode(alloc, name, desk),
             dsp,
         },
+        Some(Request::Replay(name)) => do_replay(alloc, name, desk, dsp),
         None => Ended {
             status: stop(desk, b"words\n", 1),
             dsp,
@@ -149,15 +236,19 @@ fn do_words<D: Desk, P: Dsp>(alloc: Global, words: &[String], desk: &mut D, dsp:
 
 /// Does what the words ask for over a desk and a device, and hands the device back.
 ///
-/// The words are `play HEAP TOPOLOGY SCRIPT`, `check TOPOLOGY`, `graph TOPOLOGY`, `compile SOURCE OUT`, `source TOPOLOGY OUT`, `stress N` or
-/// `decode TRACE`: HEAP is a decimal number of bytes without a needless leading zero, at most the device's room, N is one from 1 to 1000, and
-/// each name has 1 to 255 bytes. A topology, a script and a source have at most 1048576 bytes, a trace 16777216. The script's inputs, of any length, are opened and its outputs created in the order of its lines,
-/// before the commands. Before each tick, and before each other command, the inputs are read until each holds the bytes that it may
-/// take or has ended. After it the bytes of the outputs are appended, and then the command's lines are said. The statuses: 0 all commands were carried out, the topology is right, its picture was said,
-/// the source's or the topology's file was made, or all records were told; 1 the words are of no form; 2 the topology file is broken, the
-/// topology breaks a rule, no source carries it, or the trace has a fault; 3 the
-/// desk failed; 4 a line of the script is at fault, or binds what it may not, or the source is refused; 5 a file is too long;
-/// 7 memory was wanting; 8 the script has more than 60000 ticks, with those of its lags.
+/// The words are `play HEAP TOPOLOGY SCRIPT`, `check TOPOLOGY`, `graph TOPOLOGY`, `compile SOURCE OUT`, `source TOPOLOGY OUT`, `stress N`,
+/// `trace HEAP TOPOLOGY SCRIPT TRACE`, `decode TRACE` or `replay TRACE`: HEAP is a decimal number of bytes without a needless leading zero,
+/// at most the device's room, N is one from 1 to 1000, and each name has 1 to 255 bytes. A topology, a script and a source have at most
+/// 1048576 bytes, a trace 16777216. The script's inputs, of any length, are opened and its outputs created in the order of its lines,
+/// before the commands; `trace` creates its file behind them, in slot 4294967295. Before each tick, and before each other command, the
+/// inputs are read until each holds the bytes that it may take or has ended. After it the records of the device's calls are appended where
+/// they are kept, then the bytes of the outputs, and then the command's lines are said. `replay` gives the records of a trace to the
+/// device, one after another. The statuses: 0 all commands were carried out, the topology is right, its picture was said, the source's or
+/// the topology's file was made, all records were told, or all were given and each reply is the device's; 1 the words are of no form; 2 the
+/// topology file is broken, the topology breaks a rule, no source carries it, the trace has a fault, or a record of it can't be given or is
+/// not what the device does; 3 the desk failed; 4 a line of the script is at fault, or binds what it may not, or the source is refused; 5 a
+/// file is too long; 7 memory was wanting; 8 the script has more than 60000 ticks, with those of its lags; 10 the device failed while
+/// records were given to it.
 pub fn run<D: Desk, P: Dsp>(alloc: Global, words: &[String], desk: &mut D, dsp: P) -> Ended<P>
     requires off { P.means.on dsp ≡ None }
     requires pending { P.means.pending dsp ≡ 0 }

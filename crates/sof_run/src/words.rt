@@ -1,9 +1,9 @@
 // The form of the words.
-ghost use Rattle.std.specs.Prelude.{◌≡◌, ◌≤◌, map, MatchOption, IfSome, codes, string_bytes};
+ghost use Rattle.std.specs.Prelude.{◌≡◌, ◌≤◌, map, option_map, MatchOption, IfSome, codes, string_bytes};
 ghost use Rattle.std.specs.Result.{result_ok};
 ghost use Rattle.std.specs.Str.{bytes_eq};
 ghost use Rattle.sof_script.specs.ValueForms.{number_value};
-ghost use Rattle.sof_run.specs.Words.{play_of, named_by, is_file_name};
+ghost use Rattle.sof_run.specs.Words.{play_of, untraced_of, traced_of, named_by, is_file_name};
 ghost use Rattle.sof_run.specs.LineParts.{form, names, source_files};
 ghost use Rattle.sof_run.specs.Compiling.{compile_of};
 ghost use Rattle.sof_run.specs.Sourcing.{source_files_of};
@@ -13,12 +13,13 @@ ghost use Rattle.sof_run.specs.ReadRequests.{request};
 
 use sof_script::values::number;
 
-/// What `play` is given: the heap in bytes, and the names of its two files.
+/// What `play` and `trace` are given: the heap in bytes, the names of two files, and that of the trace that is kept, if one is.
 #[derive(Clone, Copy, Debug)]
 pub struct Form<'a> {
     pub heap: u32,
     pub topology: &'a str,
     pub script: &'a str,
+    pub trace: Option<&'a str>,
 }
 
 // A decimal number without a needless leading zero, from `least` to `most`.
@@ -45,10 +46,10 @@ fn is_play(word: &str) -> bool
 }
 
 // `play HEAP TOPOLOGY SCRIPT`, with a heap of at most `room` bytes.
-fn read_play<'a>(words: &'a [String], room: u32) -> Option<Form<'a>>
+fn read_untraced<'a>(words: &'a [String], room: u32) -> Option<Form<'a>>
     ensures { MatchOption result
-        (play_of room (map string_bytes words.now) ≡ None)
-        (λ f. play_of room (map string_bytes words.now) ≡ Some (form f.heap f.topology.now f.script.now)) }
+        (untraced_of room (map string_bytes words.now) ≡ None)
+        (λ f. untraced_of room (map string_bytes words.now) ≡ Some (form f.heap f.topology.now f.script.now (option_map (λ name. name.now) f.trace))) }
 {
     if words.len() != 4 {
         return None;
@@ -71,7 +72,61 @@ fn read_play<'a>(words: &'a [String], room: u32) -> Option<Form<'a>>
         heap,
         topology,
         script,
+        trace: None,
     })
+}
+
+fn is_trace(word: &str) -> bool
+    ensures { result ≡ bytes_eq word.now (codes "trace") }
+{
+    word == "trace"
+}
+
+// `trace HEAP TOPOLOGY SCRIPT TRACE`, with a heap of at most `room` bytes.
+fn read_traced<'a>(words: &'a [String], room: u32) -> Option<Form<'a>>
+    ensures { MatchOption result
+        (traced_of room (map string_bytes words.now) ≡ None)
+        (λ f. traced_of room (map string_bytes words.now) ≡ Some (form f.heap f.topology.now f.script.now (option_map (λ name. name.now) f.trace))) }
+{
+    if words.len() != 5 {
+        return None;
+    }
+    let topology = words[2].as_str();
+    let script = words[3].as_str();
+    let trace = words[4].as_str();
+    if !is_trace(words[0].as_str()) {
+        return None;
+    }
+    let Some(heap) = number_in(words[1].as_bytes(), 0, room) else {
+        return None;
+    };
+    if !is_file_name(topology) {
+        return None;
+    }
+    if !is_file_name(script) {
+        return None;
+    }
+    if !is_file_name(trace) {
+        return None;
+    }
+    Some(Form {
+        heap,
+        topology,
+        script,
+        trace: Some(trace),
+    })
+}
+
+// The words of a play, of which a trace may be kept.
+fn read_play<'a>(words: &'a [String], room: u32) -> Option<Form<'a>>
+    ensures { MatchOption result
+        (play_of room (map string_bytes words.now) ≡ None)
+        (λ f. play_of room (map string_bytes words.now) ≡ Some (form f.heap f.topology.now f.script.now (option_map (λ name. name.now) f.trace))) }
+{
+    if let Some(form) = read_untraced(words, room) {
+        return Some(form);
+    }
+    read_traced(words, room)
 }
 
 // Whether a word is the other one.
@@ -81,7 +136,7 @@ fn is_word(word: &str, other: &str) -> bool
     word == other
 }
 
-// `check TOPOLOGY`, `graph TOPOLOGY`, `decode TRACE`: the name of the file behind this word.
+// `check TOPOLOGY`, `graph TOPOLOGY`, `decode TRACE`, `replay TRACE`: the name of the file behind this word.
 fn read_named<'a>(words: &'a [String], word: &str) -> Option<&'a str>
     ensures { MatchOption result
         (named_by word.now (map string_bytes words.now) ≡ None)
@@ -195,7 +250,7 @@ fn read_stress(words: &[String]) -> Option<u32>
 /// What the words of a command line ask for.
 #[derive(Clone, Copy, Debug)]
 pub enum Request<'a> {
-    /// A script is played over the graph of a topology.
+    /// A script is played over the graph of a topology, and a trace of it may be kept.
     Play(Form<'a>),
     /// The topology file of this name is checked.
     Check(&'a str),
@@ -209,6 +264,8 @@ pub enum Request<'a> {
     Stress(u32),
     /// The trace of this name is told in words.
     Decode(&'a str),
+    /// The trace of this name is given to the device.
+    Replay(&'a str),
 }
 
 /// What the words ask for, over a device with a room of so many bytes.
@@ -235,6 +292,9 @@ pub fn read_request(words: &[String], room: u32) -> Option<Request<'_>>
     if let Some(seed) = read_stress(words) {
         return Some(Request::Stress(seed));
     }
-    let name = read_named(words, "decode")?;
-    Some(Request::Decode(name))
+    if let Some(name) = read_named(words, "decode") {
+        return Some(Request::Decode(name));
+    }
+    let name = read_named(words, "replay")?;
+    Some(Request::Replay(name))
 }

@@ -1,3 +1,4 @@
 -- Worked rows of the written run.
 pub mod Rows
+pub mod TraceRows
 pub mod CheckRows

@@ -8,6 +8,8 @@ mod counted;
 #[cfg(test)]
 mod failing;
 #[cfg(test)]
+mod given;
+#[cfg(test)]
 mod graphs;
 #[cfg(test)]
 mod played;
@@ -18,6 +20,8 @@ mod runs;
 mod same;
 #[cfg(test)]
 mod sounds;
+mod trace_rows;
 
 pub use counted::check_rows;
 pub use rows::load_and_show_rows;
+pub use trace_rows::{fated_rows, load_rows};

@@ -3,6 +3,7 @@ use Rattle.sof_base.specs.DrainedOutputs.{drained}
 use Rattle.sof_io.specs.Bound.{output_slots}
 use Rattle.sof_session.specs.Lives.{Seated}
 use Rattle.sof_run.specs.Todo.{LeadsOn}
+use Rattle.sof_run.specs.KeptTurns.{KeptTurn, CanKeep}
 use Rattle.sof_run.specs.Play.{commands_todo}
 use Rattle.sof_run.specs.Opening.{HaveFiles}
 use Rattle.sof_run.proofs.carry.do_commands.Given as goal
@@ -14,8 +15,9 @@ invariant-loop-numbered g l =
     record {
       plan : l.session.plan ≡ l.fn.session.plan;
       files : HaveFiles means l.inputs l.outputs l.desk;
+      keeps : CanKeep means g.K.Keeps.holds l.desk;
       empty : drained l.outputs ≡ l.outputs;
       sent : l.session.link.sent ≤ 900 * l.numbered-index;
-      so_far : LeadsOn means g.P.Dsp.means (commands_todo l.commands) (commands_todo (drop l.numbered-index l.commands))
+      so_far : LeadsOn means (KeptTurn g.K.Dsp.means g.K.Keeps.holds g.K.Drain.empties) (commands_todo l.commands) (commands_todo (drop l.numbered-index l.commands))
           l.fn.desk (Seated l.fn.session l.fn.inputs (output_slots l.fn.outputs)) l.desk (Seated l.session l.inputs (output_slots l.outputs));
     }

@@ -4,7 +4,7 @@ use Rattle.sof_run.proofs.Refills.{same_then}
 use Rattle.sof_run.proofs.files.write_outputs.Goals as goal
 
 pub write_output-requires : goal.write_output-requires
-write_output-requires g c =
+write_output-requires g c some =
     c.loop-place.invariant.same.created c.at-slot.result.0
     ∙ created_at g.D.Desk.means c.args.outputs.now c.loop-place.place (record { slot = c.at-slot.result.0; bytes = c.at-slot.result.1.now }) c.args.desk.now c.requires c.at-slot.ensures
 

@@ -1,0 +1,50 @@
+-- A trace that was kept, and what its replay leaves.
+use Rattle.std.proofs.Common.{◌≡◌, inl, inr, ℕ, List, [], ◌∷◌, map, None, Ok, refl, sym, ap, ◌∙◌, subst}
+use Rattle.std.specs.Prelude.{option_map}
+use Rattle.sof_desk.specs.Desk.{DeskMeaning, Heard, DeskCall}
+use Rattle.stream_law.specs.State.{view_of}
+use Rattle.mbox_link.specs.Calls.{Meaning}
+use Rattle.ipc3_trace.specs.declared.entry.Entry.{Entry}
+use Rattle.ipc3_trace.specs.Steps.{steps_of}
+use Rattle.ipc3_trace.specs.WholeTraces.{IsTraceOf}
+use Rattle.ipc3_trace.proofs.WholeLaws.{one-trace}
+use Rattle.sof_session.specs.Lives.{Life, device_of}
+use Rattle.sof_session.specs.SessionStep.{Calm}
+use Rattle.sof_run.specs.Calls.{heard_in}
+use Rattle.sof_run.specs.Checks.{saying}
+use Rattle.sof_run.specs.Plays.{ToPlay}
+use Rattle.sof_run.specs.Traces.{met_in, TraceHolds}
+use Rattle.sof_run.specs.Replays.{replayed_lines, ReplayVerdict}
+use Rattle.sof_run.specs.PlayLaws.{ReplaysAlike}
+
+-- ---- a trace and its replay
+
+lines_unheard : (lines : List (List ℕ)) → heard_in (map saying lines) ≡ []
+lines_unheard [] = refl
+lines_unheard (line ∷ lines) = lines_unheard lines
+
+module _ {D P E Q : Type 0} (means : DeskMeaning D) (dsp : Meaning P) (others : DeskMeaning E) (device : Meaning Q) where
+  -- the replay of a trace's bytes gave all of its records
+  alike_by : {words : List (List ℕ)} {room : ℕ} (play : ToPlay room words) (file bytes : List ℕ) (q : P) (r : Q) (last : Life Q) (calls : List DeskCall) →
+      IsTraceOf bytes (met_in play) None → option_map view_of (dsp.on q) ≡ option_map view_of (steps_of (met_in play)) → ReplayVerdict (device.most r) file bytes calls 0 →
+      ((es : List Entry) → heard_in calls ≡ Ok bytes ∷ [] → IsTraceOf bytes es None → option_map view_of (device.on (device_of last)) ≡ option_map view_of (steps_of es)) →
+      option_map view_of (device.on (device_of last)) ≡ option_map view_of (dsp.on q)
+  alike_by play file bytes q r last calls trace view (inl (inl three)) gives = absurd (cc three)
+  alike_by play file bytes q r last calls trace view (inl (inr seven)) gives = absurd (cc seven)
+  alike_by play file bytes q r last calls trace view (inr (inl five)) gives = absurd (cc five.0)
+  alike_by play file bytes q r last calls trace view (inr (inr (inl fault))) gives = absurd (cc fault.3)
+  alike_by play file bytes q r last calls trace view (inr (inr (inr all))) gives =
+      let heard : heard_in calls ≡ Ok bytes ∷ [] = ap heard_in all.5 ∙ ap (λ (hs : List Heard). Ok bytes ∷ hs) (lines_unheard (replayed_lines all.0)) in
+      let same : all.0 ≡ met_in play = (one-trace bytes all.0 (met_in play) None None all.3 trace).0 in
+      gives all.0 heard all.3 ∙ ap (λ (es : List Entry). option_map view_of (steps_of es)) same ∙ sym view
+
+  pub replays_alike : ReplaysAlike means dsp others device
+  replays_alike words again old new p q before after r s play name file bytes named told a calm wrote is_replay is_told b still =
+      let quiet : Calm dsp p (device_of a.last) = subst (λ (d : P). Calm dsp p d) (sym a.exit.is) calm in
+      let silent : Calm device r (device_of b.last) = subst (λ (d : Q). Calm device r d) (sym b.exit.is) still in
+      let kept : TraceHolds means dsp play a.called.calls old new 0 a.last a.called.records = a.traces play name named quiet in
+      let view : option_map view_of (dsp.on q) ≡ option_map view_of (steps_of (met_in play)) =
+      ap (λ (d : P). option_map view_of (dsp.on d)) (sym a.exit.is) ∙ kept.view (inl told) refl in
+      ap (λ (d : Q). option_map view_of (device.on d)) (sym b.exit.is)
+      ∙ alike_by play file bytes q r b.last b.called.calls (kept.file told refl bytes wrote).1 view (b.replays.judged file bytes is_replay (inl is_told) silent)
+      (λ es heard trace. b.replays.view file bytes es is_replay heard trace refl silent)

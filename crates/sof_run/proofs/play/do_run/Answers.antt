@@ -1,0 +1,8 @@
+use Rattle.sof_run.proofs.Kept.{none_named}
+use Rattle.sof_run.proofs.play.do_run.Goals as goal
+
+pub do_untraced-requires-clause-none : goal.do_untraced-requires-clause-none
+do_untraced-requires-clause-none g c = none_named c.args.form.trace (rw c.is_some.ensures at c.if-is_some.false)
+
+pub returns-else-is_some : goal.returns-else-is_some
+returns-else-is_some g c = rw (none_named c.args.form.trace (rw c.is_some.ensures at c.if-is_some.false)) c.do_untraced.ensures

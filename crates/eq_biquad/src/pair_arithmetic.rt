@@ -19,7 +19,7 @@ pub fn wide_both(one: i64, two: i64) -> i64x2
     i64x2::from_array([one, two])
 }
 
-/// BothMeet of two numbers of 32 bits.
+/// Both of two numbers of 32 bits.
 pub fn parts(pair: i32x2) -> [i32; 2]
     requires { BothAre (FitsSigned w32) pair }
     ensures { result ≡ pair }
@@ -27,7 +27,7 @@ pub fn parts(pair: i32x2) -> [i32; 2]
     pair.to_array()
 }
 
-/// BothMeet of two numbers of 64 bits.
+/// Both of two numbers of 64 bits.
 pub fn wide_parts(pair: i64x2) -> [i64; 2]
     requires { BothAre (FitsSigned w64) pair }
     ensures { result ≡ pair }

@@ -1,15 +1,18 @@
 -- A gain of 1 leaves a sample as it is.
-use Rattle.std.proofs.Common.{◌≡◌, sym, ap, ◌∙◌, ℕ, zero, suc, ◌+◌, ◌*◌, ◌/◌, ◌%◌, ◌-◌, ◌^◌, ◌<◌, List, [], ◌∷◌, length, get_or, min, arith, ℤ, pos, negsuc, ◌+ℤ◌, ◌*ℤ◌, w32, FitsSigned}
+use Rattle.std.proofs.Common.{◌≡◌, refl, sym, ap, subst, ◌∙◌, ℕ, zero, suc, ◌+◌, ◌*◌, ◌/◌, ◌%◌, ◌-◌, ◌^◌, ◌<◌, List, [], ◌∷◌, take, length, get_or, min, arith, ℤ, pos, negsuc, ◌+ℤ◌, ◌*ℤ◌, w32, FitsSigned}
 use Rattle.std.specs.Prelude.{true, ◌==◌, not}
-use Rattle.std.specs.List.{list_all}
+use Rattle.std.specs.List.{list_all, AllByRecursion}
 use Rattle.std.specs.Int.{int_div_euclid}
 use Rattle.std.proofs.Math.Nat.{mod-add-div, mod-lt}
 use Rattle.std.proofs.lemmas.Int.{ints}
 use Rattle.std.proofs.lemmas.Bool.{and_parts, true≢false}
 use Rattle.std.proofs.lemmas.Bool.Decides.{Decides-eqb}
+use Rattle.std.proofs.lemmas.List.{take_more}
+use Rattle.std.proofs.lemmas.List.FromFn.{fill_by_all}
 use Rattle.sof_base.specs.Samples.{sat, sample_of}
 use Rattle.sof_base.specs.Equations.{amplified, channel_gain}
-use Rattle.fw_gain.specs.Kernels.{are_ones}
+use Rattle.fw_gain.specs.Kernels.{are_ones, all_amplified}
+use Rattle.fw_gain.proofs.LaneLaws.{all-append}
 
 -- n times 65536 and less than 65536 more is n times 65536, rounded down
 quotient : (n rest : ℕ) → rest < 65536 → (n * 65536 + rest) / 65536 ≡ n
@@ -50,3 +53,21 @@ channel-one gains k ones =
 pub sample-unity : (channels : ℕ) (gains : List ℕ) (xs : List ℤ) (i : ℕ) → are_ones gains ≡ true → FitsSigned w32 (get_or xs i (pos 0)) → get_or xs i (pos 0) ≡ amplified (channel_gain gains (i % channels)) (sample_of xs i)
 sample-unity channels gains xs i ones fit =
     sym (ap (λ g. amplified g (get_or xs i (pos 0))) (channel-one gains (i % channels) ones) ∙ unity (get_or xs i (pos 0)) fit)
+
+-- ---- samples
+
+-- one more number is a sample
+pub fits-more : (xs : List ℤ) (i : ℕ) → i < length xs → AllByRecursion (FitsSigned w32) (take i xs) → FitsSigned w32 (get_or xs i (pos 0)) → AllByRecursion (FitsSigned w32) (take (i + 1) xs)
+fits-more xs i below all fit =
+    subst (AllByRecursion (FitsSigned w32)) (sym (take_more xs i (pos 0) below)) (all-append (FitsSigned w32) (take i xs) (get_or xs i (pos 0) ∷ []) all (fit, tt))
+
+-- each of samples is one
+fits-at : (xs : List ℤ) (i : ℕ) → i < length xs → AllByRecursion (FitsSigned w32) xs → FitsSigned w32 (get_or xs i (pos 0))
+fits-at [] i below all = absurd (omega arith)
+fits-at (x ∷ xs) zero below all = all.0
+fits-at (x ∷ xs) (suc i) below all = fits-at xs i (omega arith) all.1
+
+-- samples by gains of 1 stay as they are
+pub amplified-unity : (channels : ℕ) (gains : List ℕ) (xs : List ℤ) → are_ones gains ≡ true → AllByRecursion (FitsSigned w32) xs → xs ≡ all_amplified channels gains xs
+amplified-unity channels gains xs ones all =
+    fill_by_all (λ i. amplified (channel_gain gains (i % channels)) (sample_of xs i)) xs (length xs) (pos 0) refl (λ i below. sample-unity channels gains xs i ones (fits-at xs i below all))

@@ -1,7 +1,7 @@
 use Rattle.std.proofs.Common.{◌≡◌, ◌%◌, length, take, map, pos}
 use Rattle.std.specs.List.{range_with_len}
 use Rattle.sof_base.specs.Equations.{channel_gain}
-use Rattle.fw_gain.proofs.amplifying.factors_of.Given as goal
+use Rattle.fw_gain.proofs.amplifying.factors_each.Given as goal
 
 abbrev pub invariant-loop-k : goal.invariant-loop-k
 invariant-loop-k l = record {

@@ -1,5 +1,5 @@
 -- The tables once a component has moved frames, and what it can move.
-use Rattle.std.proofs.Common.{◌≡◌, refl, sym, ap, ◌∙◌, subst, ℕ, ◌≤◌, List, [], ◌∷◌, ◌++◌, map, length, Bool, true, false, cond, ◌==◌, ◌||◌, nat_eq, Option, Some, None, arith, ℤ}
+use Rattle.std.proofs.Common.{◌≡◌, refl, sym, ap, ◌∙◌, subst, ℕ, ◌+◌, ◌-◌, ◌≤◌, min, List, [], ◌∷◌, ◌++◌, map, get_or, length, Bool, true, false, cond, ◌==◌, ◌||◌, nat_eq, Option, Some, None, arith, ℤ}
 use Rattle.std.proofs.lemmas.List.{length-map}
 use Rattle.std.specs.Prelude.{find}
 use Rattle.std.specs.List.{AllByRecursion, IsDistinct}
@@ -11,13 +11,13 @@ use Rattle.fw_units.specs.declared.component.Component.{Component}
 use Rattle.fw_units.specs.declared.component.Unit as units
 use Rattle.fw_units.specs.declared.component.Unit.TheVariants.{Volume, Demux, Buffer}
 use Rattle.fw_units.specs.Units.{numbers_by}
-use Rattle.fw_components.specs.Tables.{Tables}
+use Rattle.fw_components.specs.Tables.{Tables, held_frames, capacity_at}
 use Rattle.fw_units.specs.Changes.{has_id}
 use Rattle.fw_units.specs.Frames.{words_by, staged_of_one, staged_in, taken_by, pushed_by}
 use Rattle.fw_components.specs.Frames.{words_at}
 use Rattle.fw_components.specs.Kept.{IsKept, IsUnitSound, IsBuffering, IsStreaming, is_plain, sides_by}
-use Rattle.fw_units.specs.Processed.{moves_of, feeds_of, IsLevel, IsInlet, IsOutlet, slices_in, chosen_by, made_frames, made_numbers, output_number, output_frames, fed_at, drained_at, run_unit, run_by, run_at}
-use Rattle.fw_components.specs.Processed.{moves_at, feeds_at, channels_moved, made_at, output_at, eq_numbers_at, numbers_made_at, processed}
+use Rattle.fw_units.specs.Processed.{moves_of, feeds_of, IsLevel, IsShaped, IsInlet, IsOutlet, slices_in, chosen_by, made_frames, made_numbers, output_number, output_frames, fed_at, drained_at, run_unit, run_by, run_at}
+use Rattle.fw_components.specs.Processed.{moves_at, feeds_at, channels_moved, most_moved, made_at, output_at, eq_numbers_at, numbers_made_at, processed}
 use Rattle.fw_units.specs.Moving.{CanMove, outlet_frames, IsMoved}
 use Rattle.fw_components.proofs.Begun.{taken-sides, taken-buffering, pushed-sides, pushed-buffering}
 use Rattle.fw_units.proofs.Found.{find-first, find-past}
@@ -147,6 +147,28 @@ sound-level : (u : units.Unit) → IsUnitSound u → IsLevel u
 sound-level (Volume gains ramp from done frames piece) e = e.0
 sound-level (Demux masks piece) e = e.1
 sound-level u e = tt
+
+-- ---- one buffer and one other
+
+-- one holds n frames, and one has room for them
+pub one-inlet : (t : Tables) (channels n : ℕ) (looked : List ℕ) → length looked ≡ 1 → AllByRecursion (IsShaped t.buffers channels) looked → n ≤ length (held_frames t (get_or looked 0 0)) → AllByRecursion (IsInlet t.buffers channels n) looked
+one-inlet t channels n [] one all low = absurd (omega (arith, one))
+one-inlet t channels n (b ∷ []) one all low = (record { there = all.0.there; shape = all.0.shape; held = low }, tt)
+one-inlet t channels n (b ∷ d ∷ bs) one all low = absurd (omega (arith, one))
+
+pub one-outlet : (t : Tables) (channels n : ℕ) (fed : List ℕ) → length fed ≡ 1 → AllByRecursion (IsShaped t.buffers channels) fed → length (held_frames t (get_or fed 0 0)) + n ≤ capacity_at t (get_or fed 0 0) → AllByRecursion (IsOutlet t.buffers channels n) fed
+one-outlet t channels n [] one all low = absurd (omega (arith, one))
+one-outlet t channels n (b ∷ []) one all low = (record { there = all.0.there; shape = all.0.shape; room = low }, tt)
+one-outlet t channels n (b ∷ d ∷ bs) one all low = absurd (omega (arith, one))
+
+-- how many go from one to one
+pub one-moved : (t : Tables) (looked fed : List ℕ) (most : ℕ) → length looked ≡ 1 → length fed ≡ 1
+    → min (length (held_frames t (get_or looked 0 0))) (min (capacity_at t (get_or fed 0 0) - length (held_frames t (get_or fed 0 0))) most) ≡ most_moved t looked fed most
+one-moved t [] fed most one other = absurd (omega (arith, one))
+one-moved t (a ∷ c ∷ others) fed most one other = absurd (omega (arith, one))
+one-moved t (a ∷ []) [] most one other = absurd (omega (arith, other))
+one-moved t (a ∷ []) (b ∷ []) most one other = refl
+one-moved t (a ∷ []) (b ∷ d ∷ bs) most one other = absurd (omega (arith, other))
 
 -- ---- the component that moves
 

@@ -1,13 +1,14 @@
 -- What the tables are once a volume, a mixer, a mux, an equaliser or a demux has moved frames.
-use Rattle.std.specs.Prelude.{ℕ, ◌+◌, List, [], ◌++◌, drop, map, Bool, false, ◌==◌, if◌then◌else◌, ℤ, find}
+use Rattle.std.specs.Prelude.{ℕ, ◌+◌, ◌-◌, List, [], ◌++◌, drop, map, length, Bool, false, ◌==◌, if◌then◌else◌, ℤ, find}
 use Rattle.std.specs.Option.{option_map_or}
 use Rattle.sof_base.specs.Samples.{Frame}
 use Rattle.stream_law.specs.State.{RingView, History}
 use Rattle.stream_law.specs.Order.{is_among}
+use Rattle.stream_law.specs.Moves.{least}
 use Rattle.fw_units.specs.declared.component.Unit as units
 use Rattle.fw_units.specs.declared.component.Unit.TheVariants.{Volume}
 use Rattle.fw_units.specs.Units.{numbers_by}
-use Rattle.fw_components.specs.Tables.{Tables}
+use Rattle.fw_components.specs.Tables.{Tables, held_frames, capacity_at}
 use Rattle.fw_units.specs.Processed.{chosen_by, drained_at, fed_at, feeds_of, made_frames, made_numbers, moves_of, output_frames, output_number, run_at, slices_in}
 
 -- ---- what can be moved
@@ -31,6 +32,10 @@ ramp_frames_by unit = 0
 
 abbrev pub ramp_frames_at : Tables → ℕ → ℕ
 ramp_frames_at t id = option_map_or (λ c. ramp_frames_by c.unit) (find (λ c. c.id == id) t.comps) 0
+
+-- how many frames may go, at most so many: as many as each buffer that is looked at holds, and as each that is fed has room for
+abbrev pub most_moved : Tables → List ℕ → List ℕ → ℕ → ℕ
+most_moved t looked fed most = least (least most (map (λ b. capacity_at t b - length (held_frames t b)) fed)) (map (λ b. length (held_frames t b)) looked)
 
 -- ---- what is made
 

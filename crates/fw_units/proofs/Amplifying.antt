@@ -1,10 +1,9 @@
 -- Frames that go from ring to ring, each sample times its gain.
 use Rattle.std.proofs.Common.{◌≡◌, refl, sym, ap, ◌∙◌, subst, ℕ, zero, suc, ◌+◌, ◌-◌, ◌*◌, ◌/◌, ◌%◌, ◌<◌, ◌≤◌, List, [], ◌∷◌, ◌++◌, map, take, drop, set, length, get_or, Bool, true, false, cond, ◌==◌, Option, Some, arith, ℤ, pos}
 use Rattle.std.proofs.lemmas.Bool.{eqb-true, eq-eqb, leb-true, or_parts, true≢false, false≢true, false_from_ne_true, ltb-true, ltb-false}
-use Rattle.std.proofs.lemmas.List.{append-nil, get_or_default}
+use Rattle.std.proofs.lemmas.List.{append-nil, get_or_default, length-map}
 use Rattle.std.proofs.Math.Nat.{mul-div_cancel, mul-mod_left, mul_comm, div-le_of_le-mul}
-use Rattle.std.specs.Prelude.{find, position, nat_le, nat_lt}
-use Rattle.std.specs.List.{AllByRecursion}
+use Rattle.std.specs.Prelude.{find, position, nat_lt}
 use Rattle.std.specs.Option.{option_map_or}
 use Rattle.sof_base.specs.Samples.{Frame}
 use Rattle.sof_base.specs.FrameLists.{frames_of}
@@ -22,13 +21,14 @@ use Rattle.fw_units.specs.declared.component.Unit.TheVariants.{Volume}
 use Rattle.stream_law.specs.Ways.{splits}
 use Rattle.fw_units.specs.Units.{kind_by, numbers_by, unit_frames}
 use Rattle.fw_units.specs.Changes.{has_id}
-use Rattle.fw_units.specs.Frames.{channels_by, buffer_frames, kept_words, words_by, staged_by, taken_by, pushed_by, pushed_at}
-use Rattle.fw_units.specs.Processed.{moves_of, feeds_of, IsLevel, IsInlet, slices_in, made_frames, made_numbers, done_after, output_frames, fed_at, drained_at, run_unit, run_by}
+use Rattle.fw_units.specs.Frames.{channels_by, kept_words, words_by, staged_by, taken_by, pushed_by, pushed_at}
+use Rattle.fw_units.specs.Processed.{moves_of, IsLevel, IsInlet, slices_in, made_frames, made_numbers, done_after, output_frames, fed_at, drained_at, run_unit, run_by}
 use Rattle.fw_units.specs.Moving.{samples_in, IsWhole, CanMove, IsMoved, is_past, frames_now}
 use Rattle.fw_units.proofs.MadeLaws.{all-at, only-long, made-ramped}
 use Rattle.fw_units.proofs.Ids.{ascends-map, has-map}
 use Rattle.fw_units.proofs.OutletLaws.{fed-some, given-one, find-unpushed, pushed-id}
 use Rattle.fw_units.proofs.MovedLaws.{found-id}
+use Rattle.fw_units.proofs.Positions.{position-map}
 use Rattle.fw_units.proofs.Putting.{pushed-put}
 use Rattle.fw_units.proofs.Standing.{whole as whole-times}
 use Rattle.fw_units.proofs.StepLaws.{find-apart}
@@ -140,7 +140,7 @@ outlet-apart [] b some apart = absurd (omega (arith, some))
 outlet-apart (a ∷ looked) b some apart = (or_parts (a == b) (is_among looked b) apart).0
 
 module _ (bs mid : List Component) (channels n b : ℕ) (fs : List Frame) (w : List ℤ) (is : mid ≡ map (pushed_at b fs w) bs) where
-  inlet-still : (a : ℕ) → (a == b) ≡ false → IsInlet bs channels n a → IsInlet mid channels n a
+  pub inlet-still : (a : ℕ) → (a == b) ≡ false → IsInlet bs channels n a → IsInlet mid channels n a
   inlet-still a apart inlet =
       let found : find (λ x. x.id == a) mid ≡ find (λ x. x.id == a) bs = ap (find (λ (x : Component). x.id == a)) is ∙ find-unpushed b fs w a bs apart in
       record {
@@ -149,9 +149,11 @@ module _ (bs mid : List Component) (channels n b : ℕ) (fs : List Frame) (w : L
         held = subst (λ (o : Option Component). n ≤ length (option_map_or (λ x. unit_frames x.unit) o [])) (sym found) inlet.held;
       }
 
-  pub inlets-still : (looked : List ℕ) → is_among looked b ≡ false → AllByRecursion (IsInlet bs channels n) looked → AllByRecursion (IsInlet mid channels n) looked
-  inlets-still [] apart all = tt
-  inlets-still (a ∷ looked) apart all = let parts = or_parts (a == b) (is_among looked b) apart in (inlet-still a parts.0 all.0, inlets-still looked parts.1 all.1)
+  pub place-still : (a at : ℕ) → Some at ≡ position (λ x. x.id == a) bs → Some at ≡ position (λ x. x.id == a) mid
+  place-still a at place = place ∙ sym (ap (position (λ (x : Component). x.id == a)) is ∙ position-map (λ (x : Component). x.id == a) (pushed_at b fs w) (λ x. ap (λ k. k == a) (pushed-id b fs w x)) bs)
+
+  pub long-still : length mid ≡ length bs
+  long-still = ap length is ∙ length-map bs (pushed_at b fs w)
 
   pub mid-ascending : Ascends (λ x. x.id) bs → Ascends (λ x. x.id) mid
   mid-ascending ascends = subst (Ascends (λ x. x.id)) (sym is) (ascends-map (pushed_at b fs w) (pushed-id b fs w) bs ascends)

@@ -50,3 +50,9 @@ drained-one seen b n c apart = by (is_among seen c.id) refl (c.id == b) refl
 pub drained-more : (seen : List ℕ) (b n : ℕ) (cs : List Component) → is_among seen b ≡ false → map (taken_at b n) (map (drained_at seen n) cs) ≡ map (drained_at (seen ++ b ∷ []) n) cs
 drained-more seen b n [] apart = refl
 drained-more seen b n (c ∷ cs) apart = (λ i. drained-one seen b n c apart i ∷ drained-more seen b n cs apart i)
+
+-- one alone
+pub drained-single : (looked : List ℕ) (n : ℕ) (cs : List Component) → length looked ≡ 1 → map (taken_at (get_or looked 0 0) n) cs ≡ map (drained_at looked n) cs
+drained-single [] n cs one = absurd (omega (arith, one))
+drained-single (b ∷ []) n cs one = ap (map (taken_at b n)) (drained-none n cs) ∙ drained-more [] b n cs refl
+drained-single (b ∷ d ∷ bs) n cs one = absurd (omega (arith, one))

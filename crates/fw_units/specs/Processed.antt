@@ -39,6 +39,11 @@ IsLevel (Volume gains ramp from done frames piece) = length from ≡ length gain
 IsLevel (Demux masks piece) = list_all (λ m. nat_le m 255) masks ≡ true
 IsLevel unit = Unit {0}
 
+-- a buffer of so many channels is there
+pub record IsShaped (buffers : List Component) (channels b : ℕ) : Type 0 where
+  pub there : has_id buffers b ≡ true
+  pub shape : channels_in buffers b ≡ channels
+
 -- a buffer holds n frames of so many channels
 pub record IsInlet (buffers : List Component) (channels n b : ℕ) : Type 0 where
   pub there : has_id buffers b ≡ true

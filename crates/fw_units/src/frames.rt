@@ -80,14 +80,16 @@ impl Component {
 
     /// The ring of a buffer has the first `n` frames of another behind its own, each sample times the gain of its channel.
     pub(crate) fn amplify_from(&mut self, from: &Component, n: u32, channels: u8, gains: &[u32])
-        requires channels { 1 ≤ channels }
         requires shape { channels_by from.now.unit ≡ channels }
         requires own { channels_by self.old.unit ≡ channels }
         requires held { n ≤ length (unit_frames from.now.unit) }
         requires fit { length (unit_frames self.old.unit) + n ≤ capacity_by self.old.unit }
         ensures pushed { self.new ≡ pushed_by (frames_of channels n (all_amplified channels gains.now (samples_of (take n (unit_frames from.now.unit))))) (kept_words self.new) self.old }
         ensures frames { AreFrames (channels_by from.now.unit) (unit_frames from.now.unit) }
+        ensures some { 1 ≤ channels }
     {
+        // For the proof alone: a frame has a sample at least.
+        let _width = from.frame_samples();
         let (front, back) = from.spans(n);
         self.push_amplified(front, channels, gains);
         if !back.is_empty() {

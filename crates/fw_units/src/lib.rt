@@ -15,6 +15,7 @@ mod workspace;
 pub use component::{Component, Unit};
 pub use hints::Hints;
 pub use making::spans;
+pub use moving::{Passage, find_passage};
 pub use places::{in_of, out_of};
 pub use table::{
     complete_in, end_in, give_all, join_in, place, place_of, set_stream_in, take_at, value_in,

@@ -1,5 +1,5 @@
 // One component moves frames between the buffers of a table.
-ghost use Rattle.std.specs.Prelude.{◌≡◌, ◌==◌, ◌+◌, ◌*◌, ◌/◌, ◌<◌, ◌≤◌, ℕ, Option, true, false, map, take, find, set, get_or, length, nat_eq, vec_capacity};
+ghost use Rattle.std.specs.Prelude.{◌≡◌, ◌==◌, ◌+◌, ◌-◌, ◌*◌, ◌/◌, ◌<◌, ◌≤◌, ℕ, Option, Some, true, false, map, min, take, find, position, set, get_or, length, nat_eq, vec_capacity};
 ghost use Rattle.std.specs.List.{AllByRecursion, IsDistinct};
 ghost use Rattle.stream_law.specs.Placed.{Ascends};
 ghost use Rattle.fw_units.specs.declared.component.Component.{Component};
@@ -7,7 +7,7 @@ ghost use Rattle.fw_units.specs.Changes.{has_id};
 ghost use Rattle.sof_base.specs.FrameLists.{AreFrames, frames_of, samples_of};
 ghost use Rattle.fw_gain.specs.Kernels.{all_amplified};
 ghost use Rattle.fw_units.specs.Units.{unit_frames, capacity_by};
-ghost use Rattle.fw_units.specs.Frames.{kept_words, words_by, channels_by, channels_in, buffer_frames, pushed_by, pushed_at};
+ghost use Rattle.fw_units.specs.Frames.{kept_words, words_by, channels_by, channels_in, buffer_frames, capacity_in, taken_at, pushed_by, pushed_at};
 ghost use Rattle.fw_units.specs.Processed.{IsInlet, IsOutlet, chosen_by, drained_at, output_number};
 ghost use Rattle.fw_units.specs.Moving.{CanMove, IsMoved, IsWhole, is_past, samples_in};
 
@@ -17,6 +17,41 @@ use crate::making::done_after;
 use crate::workspace::{MOST, Workspace};
 use sof_base::Sample;
 use stream_law::Join;
+
+/// Where two buffers stand, and how many frames may go from the first to the second.
+#[derive(Clone, Copy)]
+pub struct Passage {
+    pub from: usize,
+    pub to: usize,
+    pub count: u32,
+}
+
+/// The passage between two buffers for no more than so many frames: for as many as the first holds and the second has room for.
+pub fn find_passage(
+    hints: &Hints,
+    buffers: &[Component],
+    inlet: u32,
+    outlet: u32,
+    most: u32,
+) -> Passage
+    requires ascends { Ascends (λ c. c.id) buffers.now }
+    requires inlet { has_id buffers.now inlet ≡ true }
+    requires outlet { has_id buffers.now outlet ≡ true }
+    ensures from { Some result.from ≡ position (λ c. c.id == inlet) buffers.now }
+    ensures to { Some result.to ≡ position (λ c. c.id == outlet) buffers.now }
+    ensures within { (result.from < length buffers.now) × (result.to < length buffers.now) }
+    ensures held { result.count ≤ length (buffer_frames buffers.now inlet) }
+    ensures room { length (buffer_frames buffers.now outlet) + result.count ≤ capacity_in buffers.now outlet }
+    ensures count { result.count ≡ min (length (buffer_frames buffers.now inlet)) (min (capacity_in buffers.now outlet - length (buffer_frames buffers.now outlet)) most) }
+{
+    let from = hints.place(buffers, inlet);
+    let to = hints.place(buffers, outlet);
+    let space = buffers[to].room();
+    let there = buffers[from].held();
+    let bound = space.min(most);
+    let count = there.min(bound);
+    Passage { from, to, count }
+}
 
 impl Component {
     /// Moves `n` frames out of the buffers that it looks at into those that it feeds.
@@ -34,8 +69,40 @@ impl Component {
         ensures moved { IsMoved (chosen_by self.old.unit self.old.id joins.now) (output_number joins.now self.old.id) looked.now fed.now n buffers.old.items self.old buffers.new.items self.new }
         ensures capacity { vec_capacity buffers.new ≡ vec_capacity buffers.old }
     {
+        self.steps(
+            joins,
+            hints,
+            buffers,
+            looked,
+            fed,
+            n,
+            &mut workspace.sums,
+            &mut workspace.samples,
+        );
+    }
+
+    /// The same from one buffer into one other, which stand at these places.
+    pub fn carry_one(
+        &mut self,
+        joins: &[Join],
+        hints: &Hints,
+        buffers: &mut Vec<Component>,
+        looked: &[u32],
+        fed: &[u32],
+        from: usize,
+        to: usize,
+        n: u32,
+        workspace: &mut Workspace,
+    )
+        requires can { CanMove buffers.old.items looked.now fed.now n self.old }
+        requires from { Some from ≡ position (λ c. c.id == get_or looked.now 0 0) buffers.old.items }
+        requires to { Some to ≡ position (λ c. c.id == get_or fed.now 0 0) buffers.old.items }
+        requires within { (from < length buffers.old.items) × (to < length buffers.old.items) }
+        ensures moved { IsMoved (chosen_by self.old.unit self.old.id joins.now) (output_number joins.now self.old.id) looked.now fed.now n buffers.old.items self.old buffers.new.items self.new }
+        ensures capacity { vec_capacity buffers.new ≡ vec_capacity buffers.old }
+    {
         if self.unit.is_past() {
-            self.amplify(hints, buffers, looked, fed, n);
+            self.amplify(buffers, looked, fed, from, to, n);
         } else {
             self.steps(
                 joins,
@@ -53,19 +120,23 @@ impl Component {
     // Moves frames from ring to ring, each sample times its gain.
     fn amplify(
         &mut self,
-        hints: &Hints,
         buffers: &mut Vec<Component>,
         looked: &[u32],
         fed: &[u32],
+        from: usize,
+        to: usize,
         n: u32,
     )
         requires can { CanMove buffers.old.items looked.now fed.now n self.old }
         requires past { is_past self.old.unit ≡ true }
+        requires from { Some from ≡ position (λ c. c.id == get_or looked.now 0 0) buffers.old.items }
+        requires to { Some to ≡ position (λ c. c.id == get_or fed.now 0 0) buffers.old.items }
+        requires within { (from < length buffers.old.items) × (to < length buffers.old.items) }
         ensures moved { (chosen : Option ℕ) (outputs : ℕ → ℕ) → IsMoved chosen outputs looked.now fed.now n buffers.old.items self.old buffers.new.items self.new }
         ensures capacity { vec_capacity buffers.new ≡ vec_capacity buffers.old }
     {
-        // For the proof alone: a frame has a sample at least.
-        let _width = width_of(hints, buffers.as_slice(), fed[0]);
+        let inlet = looked[0];
+        let outlet = fed[0];
         if let Unit::Volume {
             gains,
             done,
@@ -74,15 +145,16 @@ impl Component {
         } = &mut self.unit
         {
             amplify_over(
-                hints,
                 buffers,
-                looked[0],
-                fed[0],
+                inlet,
+                outlet,
+                from,
+                to,
                 n,
                 self.channels,
                 gains.items(),
             );
-            drain_in(hints, buffers, looked, n);
+            drain_at(buffers, inlet, from, n);
             *done = done_after(*length, *done, n);
         }
     }
@@ -174,26 +246,27 @@ fn width_of(hints: &Hints, buffers: &[Component], id: u32) -> usize
 
 // A buffer has the first `n` frames of another behind its own, each sample times the gain of its channel.
 fn amplify_over(
-    hints: &Hints,
     buffers: &mut Vec<Component>,
-    inlet: u32,
-    outlet: u32,
+    _inlet: u32,
+    _outlet: u32,
+    from: usize,
+    to: usize,
     n: u32,
     channels: u8,
     gains: &[u32],
 )
     requires ascends { Ascends (λ c. c.id) buffers.old.items }
-    requires apart { (inlet == outlet) ≡ false }
-    requires channels { 1 ≤ channels }
-    requires inlet { IsInlet buffers.old.items channels n inlet }
-    requires outlet { IsOutlet buffers.old.items channels n outlet }
-    ensures items { buffers.new.items ≡ map (pushed_at outlet (frames_of channels n (all_amplified channels gains.now (samples_in buffers.old.items n inlet))) (words_by (find (λ x. x.id == outlet) buffers.new.items))) buffers.old.items }
+    requires apart { (_inlet == _outlet) ≡ false }
+    requires from { Some from ≡ position (λ c. c.id == _inlet) buffers.old.items }
+    requires to { Some to ≡ position (λ c. c.id == _outlet) buffers.old.items }
+    requires within { (from < length buffers.old.items) × (to < length buffers.old.items) }
+    requires inlet { IsInlet buffers.old.items channels n _inlet }
+    requires outlet { IsOutlet buffers.old.items channels n _outlet }
+    ensures items { buffers.new.items ≡ map (pushed_at _outlet (frames_of channels n (all_amplified channels gains.now (samples_in buffers.old.items n _inlet))) (words_by (find (λ x. x.id == _outlet) buffers.new.items))) buffers.old.items }
     ensures capacity { vec_capacity buffers.new ≡ vec_capacity buffers.old }
-    ensures frames { IsWhole buffers.old.items inlet }
+    ensures frames { IsWhole buffers.old.items _inlet }
+    ensures some { 1 ≤ channels }
 {
-    let components = buffers.as_slice();
-    let from = hints.place(components, inlet);
-    let to = hints.place(components, outlet);
     amplify_between(buffers.as_mut_slice(), from, to, n, channels, gains);
 }
 
@@ -208,7 +281,6 @@ fn amplify_between(
 )
     requires apart { (from == to) ≡ false }
     requires there { (from < length buffers.old) × (to < length buffers.old) }
-    requires channels { 1 ≤ channels }
     requires shape { (d : Component) → channels_by (get_or buffers.old from d).unit ≡ channels }
     requires own { (d : Component) → channels_by (get_or buffers.old to d).unit ≡ channels }
     requires held { (d : Component) → n ≤ length (unit_frames (get_or buffers.old from d).unit) }
@@ -216,6 +288,7 @@ fn amplify_between(
     ensures put { (d : Component) → buffers.new ≡ set buffers.old to (get_or buffers.new to d) }
     ensures pushed { (d : Component) → get_or buffers.new to d ≡ pushed_by (frames_of channels n (all_amplified channels gains.now (samples_of (take n (unit_frames (get_or buffers.old from d).unit))))) (kept_words (get_or buffers.new to d)) (get_or buffers.old to d) }
     ensures frames { (d : Component) → AreFrames (channels_by (get_or buffers.old from d).unit) (unit_frames (get_or buffers.old from d).unit) }
+    ensures some { 1 ≤ channels }
 {
     if from < to {
         let (near, far) = buffers.split_at_mut(to);
@@ -224,6 +297,18 @@ fn amplify_between(
         let (front, back) = buffers.split_at_mut(from);
         front[to].amplify_from(&back[0], n, channels, gains);
     }
+}
+
+// The buffer of an id, which stands at this place, loses its first frames.
+fn drain_at(buffers: &mut Vec<Component>, _inlet: u32, at: usize, n: u32)
+    requires ascends { Ascends (λ c. c.id) buffers.old.items }
+    requires place { Some at ≡ position (λ c. c.id == _inlet) buffers.old.items }
+    requires within { at < length buffers.old.items }
+    requires held { n ≤ length (buffer_frames buffers.old.items _inlet) }
+    ensures items { buffers.new.items ≡ map (taken_at _inlet n) buffers.old.items }
+    ensures capacity { vec_capacity buffers.new ≡ vec_capacity buffers.old }
+{
+    buffers[at].take(n);
 }
 
 // The buffers that are looked at, each of them named once, lose their first frames.

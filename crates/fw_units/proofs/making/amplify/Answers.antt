@@ -1,5 +1,4 @@
-use Rattle.std.proofs.Common.{◌≡◌, sym, ap, ◌∙◌, List, ℤ}
-use Rattle.fw_gain.specs.RampKernels.{all_ramped}
+use Rattle.std.proofs.Common.{sym, ◌∙◌}
 use Rattle.fw_gain.proofs.RampKernelLaws.{ramped-past}
 use Rattle.fw_units.specs.Moving.{samples_in}
 use Rattle.fw_units.proofs.making.amplify.Goals as goal

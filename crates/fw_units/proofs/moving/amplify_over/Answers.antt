@@ -15,53 +15,49 @@ use Rattle.fw_units.proofs.moving.amplify_over.Goals as goal
 
 pub amplify_between-requires-clause-apart : goal.amplify_between-requires-clause-apart
 amplify_between-requires-clause-apart c =
-    let cs = c.args.buffers.now.items in let lent = c.as_slice-components.ensures.value in
-    places-apart cs c.args.inlet c.args.outlet c.place-from.result c.place-to.result c.requires.apart
-    (c.place-from.ensures.place ∙ ap (position (λ (x : Component). x.id == c.args.inlet)) lent)
-    (c.place-to.ensures.place ∙ ap (position (λ (x : Component). x.id == c.args.outlet)) lent)
-    (omega (arith, c.place-from.ensures.within, ap length lent))
+    places-apart c.args.buffers.now.items c.args._inlet c.args._outlet c.args.from c.args.to c.requires.apart c.requires.from c.requires.to c.requires.within.0
 
 pub amplify_between-requires-clause-there : goal.amplify_between-requires-clause-there
 amplify_between-requires-clause-there c =
-    let lent = c.as_slice-components.ensures.value in let mine = c.as_mut_slice.ensures.value in
-    (omega (arith, c.place-from.ensures.within, ap length lent, ap length mine), omega (arith, c.place-to.ensures.within, ap length lent, ap length mine))
+    let mine = c.as_mut_slice.ensures.value in
+    (omega (arith, c.requires.within.0, ap length mine), omega (arith, c.requires.within.1, ap length mine))
 
 pub amplify_between-requires-clause-shape : goal.amplify_between-requires-clause-shape
 amplify_between-requires-clause-shape c d =
-    let cs = c.args.buffers.now.items in let lent = c.as_slice-components.ensures.value in let a = c.args.inlet in
-    let first : Some c.place-from.result ≡ position (λ (x : Component). x.id == a) cs = c.place-from.ensures.place ∙ ap (position (λ (x : Component). x.id == a)) lent in
-    ap (λ (l : List Component). channels_by (get_or l c.place-from.result d).unit) c.as_mut_slice.ensures.value
-    ∙ channels-is a cs (get_or cs c.place-from.result d) (taken-found a cs c.place-from.result d first) ∙ c.requires.inlet.shape
+    let cs = c.args.buffers.now.items in let a = c.args._inlet in
+    let first : Some c.args.from ≡ position (λ (x : Component). x.id == a) cs = c.requires.from in
+    ap (λ (l : List Component). channels_by (get_or l c.args.from d).unit) c.as_mut_slice.ensures.value
+    ∙ channels-is a cs (get_or cs c.args.from d) (taken-found a cs c.args.from d first) ∙ c.requires.inlet.shape
 
 pub amplify_between-requires-clause-own : goal.amplify_between-requires-clause-own
 amplify_between-requires-clause-own c d =
-    let cs = c.args.buffers.now.items in let lent = c.as_slice-components.ensures.value in let b = c.args.outlet in
-    let second : Some c.place-to.result ≡ position (λ (x : Component). x.id == b) cs = c.place-to.ensures.place ∙ ap (position (λ (x : Component). x.id == b)) lent in
-    ap (λ (l : List Component). channels_by (get_or l c.place-to.result d).unit) c.as_mut_slice.ensures.value
-    ∙ channels-is b cs (get_or cs c.place-to.result d) (taken-found b cs c.place-to.result d second) ∙ c.requires.outlet.shape
+    let cs = c.args.buffers.now.items in let b = c.args._outlet in
+    let second : Some c.args.to ≡ position (λ (x : Component). x.id == b) cs = c.requires.to in
+    ap (λ (l : List Component). channels_by (get_or l c.args.to d).unit) c.as_mut_slice.ensures.value
+    ∙ channels-is b cs (get_or cs c.args.to d) (taken-found b cs c.args.to d second) ∙ c.requires.outlet.shape
 
 pub amplify_between-requires-clause-held : goal.amplify_between-requires-clause-held
 amplify_between-requires-clause-held c d =
-    let cs = c.args.buffers.now.items in let lent = c.as_slice-components.ensures.value in let a = c.args.inlet in
-    let first : Some c.place-from.result ≡ position (λ (x : Component). x.id == a) cs = c.place-from.ensures.place ∙ ap (position (λ (x : Component). x.id == a)) lent in
-    subst (λ (l : List Component). c.args.n ≤ length (unit_frames (get_or l c.place-from.result d).unit)) (sym c.as_mut_slice.ensures.value)
-    (subst (λ (fs : List Frame). c.args.n ≤ length fs) (sym (frames-is a cs (get_or cs c.place-from.result d) (taken-found a cs c.place-from.result d first))) c.requires.inlet.held)
+    let cs = c.args.buffers.now.items in let a = c.args._inlet in
+    let first : Some c.args.from ≡ position (λ (x : Component). x.id == a) cs = c.requires.from in
+    subst (λ (l : List Component). c.args.n ≤ length (unit_frames (get_or l c.args.from d).unit)) (sym c.as_mut_slice.ensures.value)
+    (subst (λ (fs : List Frame). c.args.n ≤ length fs) (sym (frames-is a cs (get_or cs c.args.from d) (taken-found a cs c.args.from d first))) c.requires.inlet.held)
 
 pub amplify_between-requires-clause-room : goal.amplify_between-requires-clause-room
 amplify_between-requires-clause-room c d =
-    let cs = c.args.buffers.now.items in let lent = c.as_slice-components.ensures.value in let b = c.args.outlet in
-    let second : Some c.place-to.result ≡ position (λ (x : Component). x.id == b) cs = c.place-to.ensures.place ∙ ap (position (λ (x : Component). x.id == b)) lent in
-    let it = taken-found b cs c.place-to.result d second in
-    subst (λ (l : List Component). length (unit_frames (get_or l c.place-to.result d).unit) + c.args.n ≤ capacity_by (get_or l c.place-to.result d).unit) (sym c.as_mut_slice.ensures.value)
-    (subst (λ (p : List Frame × ℕ). length p.0 + c.args.n ≤ p.1) (λ i. (sym (frames-is b cs (get_or cs c.place-to.result d) it) i, sym (capacity-is b cs (get_or cs c.place-to.result d) it) i)) c.requires.outlet.room)
+    let cs = c.args.buffers.now.items in let b = c.args._outlet in
+    let second : Some c.args.to ≡ position (λ (x : Component). x.id == b) cs = c.requires.to in
+    let it = taken-found b cs c.args.to d second in
+    subst (λ (l : List Component). length (unit_frames (get_or l c.args.to d).unit) + c.args.n ≤ capacity_by (get_or l c.args.to d).unit) (sym c.as_mut_slice.ensures.value)
+    (subst (λ (p : List Frame × ℕ). length p.0 + c.args.n ≤ p.1) (λ i. (sym (frames-is b cs (get_or cs c.args.to d) it) i, sym (capacity-is b cs (get_or cs c.args.to d) it) i)) c.requires.outlet.room)
 
 pub returns-clause-items : goal.returns-clause-items
 returns-clause-items c =
-    let cs = c.args.buffers.now.items in let lent = c.as_slice-components.ensures.value in let mine = c.as_mut_slice.ensures.value in
-    let a = c.args.inlet in let b = c.args.outlet in let from = c.place-from.result in let to = c.place-to.result in let n = c.args.n in
-    let first : Some from ≡ position (λ (x : Component). x.id == a) cs = c.place-from.ensures.place ∙ ap (position (λ (x : Component). x.id == a)) lent in
-    let second : Some to ≡ position (λ (x : Component). x.id == b) cs = c.place-to.ensures.place ∙ ap (position (λ (x : Component). x.id == b)) lent in
-    let low : to < length cs = omega (arith, c.place-to.ensures.within, ap length lent) in
+    let cs = c.args.buffers.now.items in let mine = c.as_mut_slice.ensures.value in
+    let a = c.args._inlet in let b = c.args._outlet in let from = c.args.from in let to = c.args.to in let n = c.args.n in
+    let first : Some from ≡ position (λ (x : Component). x.id == a) cs = c.requires.from in
+    let second : Some to ≡ position (λ (x : Component). x.id == b) cs = c.requires.to in
+    let low : to < length cs = c.requires.within.1 in
     let d = one-of cs (omega (arith, low)) in
     let new = c.amplify_between.new.buffers in
     let put : new ≡ set cs to (get_or new to d) = c.amplify_between.ensures.put d ∙ ap (λ (l : List Component). set l to (get_or new to d)) mine in
@@ -79,9 +75,9 @@ returns-clause-items c =
 
 pub returns-clause-frames : goal.returns-clause-frames
 returns-clause-frames c =
-    let cs = c.args.buffers.now.items in let lent = c.as_slice-components.ensures.value in let mine = c.as_mut_slice.ensures.value in let a = c.args.inlet in let from = c.place-from.result in
-    let first : Some from ≡ position (λ (x : Component). x.id == a) cs = c.place-from.ensures.place ∙ ap (position (λ (x : Component). x.id == a)) lent in
-    let d = one-of cs (omega (arith, c.place-from.ensures.within, ap length lent)) in
+    let cs = c.args.buffers.now.items in let mine = c.as_mut_slice.ensures.value in let a = c.args._inlet in let from = c.args.from in
+    let first : Some from ≡ position (λ (x : Component). x.id == a) cs = c.requires.from in
+    let d = one-of cs (omega (arith, c.requires.within.0)) in
     let it = taken-found a cs from d first in
     subst (λ (p : ℕ × List Frame). AreFrames p.0 p.1) (λ i. (channels-is a cs (get_or cs from d) it i, frames-is a cs (get_or cs from d) it i))
     (subst (λ (l : List Component). AreFrames (channels_by (get_or l from d).unit) (unit_frames (get_or l from d).unit)) mine (c.amplify_between.ensures.frames d))

@@ -1,4 +1,4 @@
-use Rattle.std.proofs.Common.{◌≡◌, ◌≤◌, ◌∙◌, refl, sym, ap, subst, Some, List, length, set, ◌==◌}
+use Rattle.std.proofs.Common.{◌≤◌, ◌∙◌, refl, sym, ap, subst, List, length, set, ◌==◌}
 use Rattle.std.specs.Prelude.{position}
 use Rattle.fw_units.specs.declared.component.Component.{Component}
 use Rattle.fw_units.specs.Changes.{has_id}

@@ -1,4 +1,4 @@
-use Rattle.std.proofs.Common.{◌≡◌, sym, ap, ◌∙◌, subst, ℕ, ◌+◌, ◌*◌, ◌/◌, ◌%◌, ◌≤◌, ◌++◌, List, ℤ, take, length, arith, length-append}
+use Rattle.std.proofs.Common.{◌≡◌, refl, sym, ap, ◌∙◌, subst, ℕ, ◌+◌, ◌*◌, ◌/◌, ◌%◌, ◌≤◌, ◌++◌, List, ℤ, take, length, arith, length-append}
 use Rattle.std.proofs.lemmas.Bool.Decides.{Decides-eqb}
 use Rattle.sof_base.specs.Samples.{Frame}
 use Rattle.sof_base.specs.FrameLists.{frames_of, samples_of}
@@ -12,6 +12,10 @@ use Rattle.fw_units.proofs.Amplifying.{front-few, back-whole, back-frames, both-
 use Rattle.fw_units.proofs.Units.{pushed-channels, pushed-capacity, pushed-most}
 use Rattle.fw_units.proofs.component.Component.amplify_from.Goals as goal
 
+-- frames of the one have as many samples as those of the other, so one at least
+some-width : (result from channels width : ℕ) → 1 ≤ result → result ≡ from → from ≡ channels → width ≡ channels → 1 ≤ width
+some-width result from channels width some is shape own = omega (arith, some, is, shape, own)
+
 pub push_amplified-requires-clause-whole : goal.push_amplified-requires-clause-whole
 push_amplified-requires-clause-whole c = ap (λ k. length c.spans.result.0.now % k) (c.requires.own ∙ sym c.requires.shape) ∙ c.spans.ensures.whole
 
@@ -19,7 +23,7 @@ pub push_amplified-requires-clause-fit : goal.push_amplified-requires-clause-fit
 push_amplified-requires-clause-fit c =
     let u = c.args.self.now.unit in let fs = unit_frames c.args.from.now.unit in let n = c.args.n in let gains = c.args.gains.now in
     let front : List ℤ = c.spans.result.0.now in let back : List ℤ = c.spans.result.1.now in let width = channels_by u in
-    let some : 1 ≤ width = omega (arith, c.requires.channels, c.requires.own) in
+    let some : 1 ≤ width = some-width c.frame_samples-width.result (channels_by c.args.from.now.unit) c.args.channels width c.frame_samples-width.ensures.some c.frame_samples-width.ensures.is c.requires.shape c.requires.own in
     let alike : channels_by c.args.from.now.unit ≡ width = c.requires.shape ∙ sym c.requires.own in
     let total : length front + length back ≡ n * width = sym (length-append front back) ∙ ap length c.spans.ensures.samples ∙ length-taken (channels_by c.args.from.now.unit) n fs c.spans.ensures.frames c.requires.held ∙ ap (λ k. n * k) alike in
     let none : length front % width ≡ 0 = ap (λ k. length front % k) (sym alike) ∙ c.spans.ensures.whole in
@@ -29,7 +33,7 @@ pub push_amplified-requires-then-not-is_empty-clause-channels : goal.push_amplif
 push_amplified-requires-then-not-is_empty-clause-channels c =
     let u = c.args.self.now.unit in let fs = unit_frames c.args.from.now.unit in let n = c.args.n in let gains = c.args.gains.now in
     let front : List ℤ = c.spans.result.0.now in let back : List ℤ = c.spans.result.1.now in let width = channels_by u in
-    let some : 1 ≤ width = omega (arith, c.requires.channels, c.requires.own) in
+    let some : 1 ≤ width = some-width c.frame_samples-width.result (channels_by c.args.from.now.unit) c.args.channels width c.frame_samples-width.ensures.some c.frame_samples-width.ensures.is c.requires.shape c.requires.own in
     let alike : channels_by c.args.from.now.unit ≡ width = c.requires.shape ∙ sym c.requires.own in
     let total : length front + length back ≡ n * width = sym (length-append front back) ∙ ap length c.spans.ensures.samples ∙ length-taken (channels_by c.args.from.now.unit) n fs c.spans.ensures.frames c.requires.held ∙ ap (λ k. n * k) alike in
     let none : length front % width ≡ 0 = ap (λ k. length front % k) (sym alike) ∙ c.spans.ensures.whole in
@@ -41,7 +45,7 @@ pub push_amplified-requires-then-not-is_empty-clause-whole : goal.push_amplified
 push_amplified-requires-then-not-is_empty-clause-whole c =
     let u = c.args.self.now.unit in let fs = unit_frames c.args.from.now.unit in let n = c.args.n in let gains = c.args.gains.now in
     let front : List ℤ = c.spans.result.0.now in let back : List ℤ = c.spans.result.1.now in let width = channels_by u in
-    let some : 1 ≤ width = omega (arith, c.requires.channels, c.requires.own) in
+    let some : 1 ≤ width = some-width c.frame_samples-width.result (channels_by c.args.from.now.unit) c.args.channels width c.frame_samples-width.ensures.some c.frame_samples-width.ensures.is c.requires.shape c.requires.own in
     let alike : channels_by c.args.from.now.unit ≡ width = c.requires.shape ∙ sym c.requires.own in
     let total : length front + length back ≡ n * width = sym (length-append front back) ∙ ap length c.spans.ensures.samples ∙ length-taken (channels_by c.args.from.now.unit) n fs c.spans.ensures.frames c.requires.held ∙ ap (λ k. n * k) alike in
     let none : length front % width ≡ 0 = ap (λ k. length front % k) (sym alike) ∙ c.spans.ensures.whole in
@@ -53,7 +57,7 @@ pub push_amplified-requires-then-not-is_empty-clause-fit : goal.push_amplified-r
 push_amplified-requires-then-not-is_empty-clause-fit c =
     let u = c.args.self.now.unit in let fs = unit_frames c.args.from.now.unit in let n = c.args.n in let gains = c.args.gains.now in
     let front : List ℤ = c.spans.result.0.now in let back : List ℤ = c.spans.result.1.now in let width = channels_by u in
-    let some : 1 ≤ width = omega (arith, c.requires.channels, c.requires.own) in
+    let some : 1 ≤ width = some-width c.frame_samples-width.result (channels_by c.args.from.now.unit) c.args.channels width c.frame_samples-width.ensures.some c.frame_samples-width.ensures.is c.requires.shape c.requires.own in
     let alike : channels_by c.args.from.now.unit ≡ width = c.requires.shape ∙ sym c.requires.own in
     let total : length front + length back ≡ n * width = sym (length-append front back) ∙ ap length c.spans.ensures.samples ∙ length-taken (channels_by c.args.from.now.unit) n fs c.spans.ensures.frames c.requires.held ∙ ap (λ k. n * k) alike in
     let none : length front % width ≡ 0 = ap (λ k. length front % k) (sym alike) ∙ c.spans.ensures.whole in
@@ -64,11 +68,17 @@ push_amplified-requires-then-not-is_empty-clause-fit c =
     let room : capacity_by c.push_amplified.new.self.unit ≡ capacity_by u = ap (λ (y : Component). capacity_by y.unit) c.push_amplified.ensures ∙ pushed-capacity first words u in
     omega (arith, more, held, room, length-frames width (length front / width) (all_amplified width gains front), front-few width n some front back total none, back-frames width n some front back total none, c.requires.fit)
 
+pub returns-then-not-is_empty-clause-some : goal.returns-then-not-is_empty-clause-some
+returns-then-not-is_empty-clause-some c = some-width c.frame_samples-width.result (channels_by c.args.from.now.unit) c.args.channels c.args.channels c.frame_samples-width.ensures.some c.frame_samples-width.ensures.is c.requires.shape refl
+
+pub returns-else-not-is_empty-clause-some : goal.returns-else-not-is_empty-clause-some
+returns-else-not-is_empty-clause-some c = some-width c.frame_samples-width.result (channels_by c.args.from.now.unit) c.args.channels c.args.channels c.frame_samples-width.ensures.some c.frame_samples-width.ensures.is c.requires.shape refl
+
 pub returns-then-not-is_empty-clause-pushed : goal.returns-then-not-is_empty-clause-pushed
 returns-then-not-is_empty-clause-pushed c =
     let u = c.args.self.now.unit in let fs = unit_frames c.args.from.now.unit in let n = c.args.n in let gains = c.args.gains.now in
     let front : List ℤ = c.spans.result.0.now in let back : List ℤ = c.spans.result.1.now in let width = channels_by u in
-    let some : 1 ≤ width = omega (arith, c.requires.channels, c.requires.own) in
+    let some : 1 ≤ width = some-width c.frame_samples-width.result (channels_by c.args.from.now.unit) c.args.channels width c.frame_samples-width.ensures.some c.frame_samples-width.ensures.is c.requires.shape c.requires.own in
     let alike : channels_by c.args.from.now.unit ≡ width = c.requires.shape ∙ sym c.requires.own in
     let total : length front + length back ≡ n * width = sym (length-append front back) ∙ ap length c.spans.ensures.samples ∙ length-taken (channels_by c.args.from.now.unit) n fs c.spans.ensures.frames c.requires.held ∙ ap (λ k. n * k) alike in
     let none : length front % width ≡ 0 = ap (λ k. length front % k) (sym alike) ∙ c.spans.ensures.whole in
@@ -86,7 +96,7 @@ pub returns-else-not-is_empty-clause-pushed : goal.returns-else-not-is_empty-cla
 returns-else-not-is_empty-clause-pushed c =
     let u = c.args.self.now.unit in let fs = unit_frames c.args.from.now.unit in let n = c.args.n in let gains = c.args.gains.now in
     let front : List ℤ = c.spans.result.0.now in let back : List ℤ = c.spans.result.1.now in let width = channels_by u in
-    let some : 1 ≤ width = omega (arith, c.requires.channels, c.requires.own) in
+    let some : 1 ≤ width = some-width c.frame_samples-width.result (channels_by c.args.from.now.unit) c.args.channels width c.frame_samples-width.ensures.some c.frame_samples-width.ensures.is c.requires.shape c.requires.own in
     let alike : channels_by c.args.from.now.unit ≡ width = c.requires.shape ∙ sym c.requires.own in
     let total : length front + length back ≡ n * width = sym (length-append front back) ∙ ap length c.spans.ensures.samples ∙ length-taken (channels_by c.args.from.now.unit) n fs c.spans.ensures.frames c.requires.held ∙ ap (λ k. n * k) alike in
     let none : length front % width ≡ 0 = ap (λ k. length front % k) (sym alike) ∙ c.spans.ensures.whole in

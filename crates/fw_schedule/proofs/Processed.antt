@@ -38,7 +38,7 @@ use Rattle.fw_units.specs.Units.{comp_by, edge_by, kind_by, ramp_by, numbers_by}
 use Rattle.fw_components.specs.Tables.{Tables, graph_of, view_by, rings_of, histories_of, staging_of, held_frames, capacity_at}
 use Rattle.fw_units.specs.Changes.{has_id}
 use Rattle.fw_components.specs.Kept.{IsKept, is_plain}
-use Rattle.fw_units.specs.Processed.{moves_of, feeds_of, IsInlet, IsOutlet, slices_in}
+use Rattle.fw_units.specs.Processed.{moves_of, feeds_of, IsShaped, IsInlet, IsOutlet, slices_in}
 use Rattle.fw_components.specs.Processed.{moves_at, feeds_at, channels_moved, ramp_frames_by, ramp_frames_at, made_at, output_at, eq_numbers_at, drained_ring, fed_ring, moved_rings, with_numbers}
 use Rattle.fw_walks.proofs.Naming.{find-map}
 use Rattle.fw_walks.proofs.OnWays.{any-map}
@@ -361,6 +361,13 @@ module _ (t : Tables) (kept : IsKept t) (can : CanTick t) (id : ℕ) (there : Is
 
   pub looked-there : (looked : List ℕ) → looked ≡ looked_at v (λ b. length (held_frames t b)) id → AllByRecursion (λ b. has_id t.buffers b ≡ true) looked
   looked-there looked are = in-each-among (λ b. has_id t.buffers b ≡ true) looked (λ b is. (looked-at b (ap (λ ids. is_among ids b) (sym are) ∙ is)).there)
+
+  -- both have its channels
+  pub looked-shaped : (looked : List ℕ) → looked ≡ looked_at v (λ b. length (held_frames t b)) id → AllByRecursion (IsShaped t.buffers (channels_moved t id)) looked
+  looked-shaped looked are = in-each-among (IsShaped t.buffers (channels_moved t id)) looked (λ b is. let at = looked-at b (ap (λ ids. is_among ids b) (sym are) ∙ is) in record { there = at.there; shape = at.shape ∙ sym wide })
+
+  pub fed-shaped : (fed : List ℕ) → fed ≡ fed_by v id → AllByRecursion (IsShaped t.buffers (channels_moved t id)) fed
+  fed-shaped fed are = in-each-among (IsShaped t.buffers (channels_moved t id)) fed (λ b is. let at = fed-at b (ap (λ ids. is_among ids b) (sym are) ∙ is) in record { there = at.there; shape = at.shape ∙ sym wide })
 
   -- ---- the stage after it
 

@@ -1,5 +1,5 @@
 -- A schedule is that of all tables that show the same ways, pipelines and streams.
-use Rattle.std.proofs.Common.{◌≡◌, refl, sym, ap, ◌∙◌, subst, ℕ, zero, suc, ◌/◌, List, [], ◌∷◌, map, length, Bool, true, false, not, ◌==◌, ◌&&◌, ◌||◌, Option, Some, None, option_map}
+use Rattle.std.proofs.Common.{◌≡◌, refl, sym, ap, ◌∙◌, subst, ℕ, zero, suc, ◌/◌, List, [], ◌∷◌, map, length, true, false, not, ◌==◌, ◌&&◌, ◌||◌, Option, Some, None, option_map}
 use Rattle.std.specs.Prelude.{find, filter, slice_get, option_and_then}
 use Rattle.std.specs.List.{AllByRecursion, list_any, list_all}
 use Rattle.std.specs.Option.{option_map_or}
@@ -135,6 +135,8 @@ module _ (v w : View) (keeps : KeepsSteps v w) where
     channels = was.channels ∙ channels-same s.id;
     period = was.period ∙ period-same s.id;
     rate = was.rate ∙ rate-same s.id;
+    whole = was.whole;
+    over = was.over;
     fed = was.fed ∙ ap (λ (bs : List ℕ). slice_get bs 0) (outlets-same s.id);
     within = was.within;
     inlets = was.inlets ∙ inlets-same s.id;

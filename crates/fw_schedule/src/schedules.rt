@@ -1,5 +1,5 @@
 // What a tick works out from a registry before anything moves.
-ghost use Rattle.std.specs.Prelude.{◌≡◌, ◌+◌, ◌<◌, ◌≤◌, ◌++◌, length, slice_index};
+ghost use Rattle.std.specs.Prelude.{◌≡◌, ◌+◌, ◌*◌, ◌/◌, ◌%◌, ◌<◌, ◌≤◌, ◌++◌, length, slice_index};
 ghost use Rattle.std.specs.Option.{option_map_or};
 ghost use Rattle.stream_law.specs.Ways.{components};
 ghost use Rattle.fw_components.specs.Tables.{graph_of, view_by};
@@ -57,19 +57,34 @@ fn step_at(registry: &Registry, at: usize, ends: &mut ArrayVec<u32, 256>) -> Ste
     let past = ends.len();
     add_outlets(registry, comp.id, ends);
     let params = registry.live_params(comp.id);
+    let micros = period_in(registry.pipes(), comp.pipe);
+    let period = micros / 1000;
+    let rate = rate_in(params);
+    let frames = frames_of_period(period, rate);
     Step {
         id: comp.id,
         kind,
         format: format_in(&comp.unit),
         active: active(registry, comp.id),
         channels: channels_in(params),
-        period: period_in(registry.pipes(), comp.pipe) / 1000,
-        rate: rate_in(params),
+        period,
+        rate,
+        whole: frames.0,
+        over: frames.1,
         fed: ends.as_slice().get(past).copied(),
         first,
         past,
         end: ends.len(),
     }
+}
+
+// How many frames so many ticks have, and what is over, in thousandths of one.
+fn frames_of_period(period: u32, rate: u32) -> (u64, u32)
+    ensures whole { result.0 ≡ period * rate / 1000 }
+    ensures over { result.1 ≡ period * rate % 1000 }
+{
+    let all = u64::from(period) * u64::from(rate);
+    (all / 1000, (all % 1000) as u32)
 }
 
 // How many channels frames have; 0 without parameters.

@@ -1,5 +1,5 @@
 // What each component does at a tick.
-ghost use Rattle.std.specs.Prelude.{◌≡◌, ◌≤◌, ◌%◌, ◌==◌, ◌&&◌, true, length, slice_range};
+ghost use Rattle.std.specs.Prelude.{◌≡◌, ◌≤◌, ◌*◌, ◌/◌, ◌%◌, ◌==◌, ◌&&◌, true, length, slice_range};
 ghost use Rattle.stream_law.specs.State.{View};
 ghost use Rattle.stream_law.specs.Ways.{rate_of};
 ghost use Rattle.stream_law.specs.Moves.{period as period_of, quota};
@@ -8,8 +8,9 @@ use sof_base::Format;
 use stream_law::Kind;
 
 /// A component that moves: its id and kind, the format of its samples where it is an endpoint, whether it is Active, how many
-/// channels it moves, the period of its pipeline in ticks, its frames a second, the first buffer that it feeds, and where the ids of
-/// its inlets begin and end among those of all; those of the buffers that it feeds come behind them, up to `end`.
+/// channels it moves, the period of its pipeline in ticks, its frames a second, how many frames a period has, and what is over, in
+/// thousandths of one, the first buffer that it feeds, and where the ids of its inlets begin and end among those of all; those of the
+/// buffers that it feeds come behind them, up to `end`.
 #[derive(Clone, Copy)]
 pub(crate) struct Step {
     pub(crate) id: u32,
@@ -19,6 +20,8 @@ pub(crate) struct Step {
     pub(crate) channels: u8,
     pub(crate) period: u32,
     pub(crate) rate: u32,
+    pub(crate) whole: u64,
+    pub(crate) over: u32,
     pub(crate) fed: Option<u32>,
     pub(crate) first: usize,
     pub(crate) past: usize,
@@ -38,21 +41,20 @@ impl Step {
     /// The most frames that it moves at this clock: those that a stream of its rate has up to this tick, and had not up to the run
     /// before it.
     pub(crate) fn quota(&self, clock: u32) -> u32
-        requires { (self.now.period ≤ 10) × (self.now.rate ≤ 192000) }
+        requires short { self.now.period ≤ 10 }
+        requires few { self.now.whole ≤ 1920 }
+        requires whole { self.now.whole ≡ self.now.period * self.now.rate / 1000 }
+        requires over { self.now.over ≡ self.now.period * self.now.rate % 1000 }
         ensures { (v : View) → self.now.period ≡ period_of v self.now.id → self.now.rate ≡ rate_of v self.now.id → result ≡ quota v clock self.now.id }
     {
-        let all = self.period * self.rate;
-        let over = all % 1000;
+        let whole = self.whole as u32;
+        let over = self.over;
         // a rate that is a multiple of 1000 leaves nothing over, and takes no more than this
         if over == 0 {
-            return all / 1000;
+            return whole;
         }
         let part = (clock % 1000) * (self.rate % 1000) % 1000;
-        if part < over {
-            all / 1000 + 1
-        } else {
-            all / 1000
-        }
+        if part < over { whole + 1 } else { whole }
     }
 
     /// Its inlets, of those of all.
@@ -83,6 +85,8 @@ impl Default for Step {
             channels: 0,
             period: 0,
             rate: 0,
+            whole: 0,
+            over: 0,
             fed: None,
             first: 0,
             past: 0,

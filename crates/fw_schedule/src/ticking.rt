@@ -1,5 +1,5 @@
 // A tick over a registry and the endpoints.
-ghost use Rattle.std.specs.Prelude.{◌≡◌, ◌+◌, ◌-◌, ◌*◌, ◌≤◌, ◌++◌, ◌&&◌, not, map, filter, nat_le, slice_get, ℕ, true, false, Some, List, [], ◌∷◌, min, take, replicate, length};
+ghost use Rattle.std.specs.Prelude.{◌≡◌, ◌==◌, ◌+◌, ◌-◌, ◌*◌, ◌≤◌, ◌++◌, ◌&&◌, not, map, filter, nat_le, slice_get, ℕ, true, false, Some, List, [], ◌∷◌, min, take, replicate, length};
 ghost use Rattle.std.specs.List.{AllByRecursion};
 ghost use Rattle.std.specs.Option.{option_map_or};
 ghost use Rattle.sof_base.specs.Samples.{width, frames_in, frames_out};
@@ -164,7 +164,8 @@ fn feed_into(
     feed_frames(registry, io, scratch, step, buffer, n);
 }
 
-// A sink moves frames out of its buffer.
+// A sink moves frames out of its buffer. It is never inlined: within `tick_by` its constants would be loaded again for each step.
+#[inline(never)]
 fn drain(registry: &mut Registry, out: &mut Outputs, step: &Step, most: u32, ends: &[u32])
     requires can { CanTick registry.old }
     requires step { IsStepOf (view_by registry.old) ends.now step.now }
@@ -246,9 +247,20 @@ fn pass(registry: &mut Registry, id: u32, most: u32, looked: &[u32], fed: &[u32]
     if looked.is_empty() {
         return;
     }
+    if are_single(looked, fed) {
+        registry.process_one(id, looked, fed, most);
+        return;
+    }
     let bound = least_free(registry, fed, most);
     let n = least_held(registry, looked, bound);
     registry.process(id, looked, fed, n);
+}
+
+// Whether there is one of these, and one of those.
+fn are_single(looked: &[u32], fed: &[u32]) -> bool
+    ensures { result ≡ (length looked.now == 1 && length fed.now == 1) }
+{
+    looked.len() == 1 && fed.len() == 1
 }
 
 // Of these buffers those that hold a frame.

@@ -63,10 +63,10 @@ returns-clause-step c =
     let t = c.args.registry.now in let v = view_by t in let kept = c.comps-comps.ensures.kept in let at = c.args.at in let d = c.index-comps-at.result in
     let is : d ≡ get_or t.comps at d = c.index-comps-at.is ∙ ap (λ (cs : List Component). get_or cs at d) c.comps-comps.ensures.items in
     let params = c.live_params-params.ensures in
-    let period : c.period_in.result / 1000 ≡ period v d.id =
-    ap (λ n. n / 1000) (c.period_in.ensures ∙ ap (λ (ps : List Component). option_map_or (λ p. period_by p.unit) (find (λ p. p.pipe == d.pipe) ps) 0) c.pipes.ensures.items)
+    let period : c.period_in-micros.result / 1000 ≡ period v d.id =
+    ap (λ n. n / 1000) (c.period_in-micros.ensures ∙ ap (λ (ps : List Component). option_map_or (λ p. period_by p.unit) (find (λ p. p.pipe == d.pipe) ps) 0) c.pipes.ensures.items)
     ∙ period-at t kept at c.requires.there d is in
-    let rate = c.rate_in.ensures ∙ ap (λ (o : Option Params). option_map_or (λ p. p.rate) o 0) params in
+    let rate = c.rate_in-rate.ensures ∙ ap (λ (o : Option Params). option_map_or (λ p. p.rate) o 0) params in
     let first = c.len-first.ensures.value in
     let past = c.len-past.ensures.value in
     let end = c.len.ensures.value in
@@ -84,6 +84,8 @@ returns-clause-step c =
       channels = c.channels_in.ensures ∙ ap (λ (o : Option Params). option_map_or (λ p. p.channels) o 0) params;
       period = period;
       rate = rate;
+      whole = c.frames_of_period-frames.ensures.whole;
+      over = c.frames_of_period-frames.ensures.over;
       fed = c.copied.ensures ∙ read ∙ first-of new (fed_by v d.id) c.len-past.result c.len.result slice (omega (arith, end));
       within = (low, omega (arith, past, end, ap length outlets, length-append mid (fed_by v d.id)), omega (arith, end));
       inlets =

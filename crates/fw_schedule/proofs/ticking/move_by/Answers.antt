@@ -1,4 +1,5 @@
-use Rattle.std.proofs.Common.{◌≡◌, sym, ◌∙◌, [], ◌∷◌, false, arith}
+use Rattle.std.proofs.Common.{◌≡◌, sym, ◌∙◌, ◌*◌, ◌≤◌, [], ◌∷◌, false, arith}
+use Rattle.std.proofs.Math.Nat.{mul-le-mul}
 use Rattle.stream_law.specs.Moves.{runs}
 use Rattle.stream_law.specs.Move.{ring_length, ring_room}
 use Rattle.stream_law.specs.Seen.{blob_in}
@@ -20,8 +21,15 @@ pub quota-most-requires : goal.quota-most-requires
 quota-most-requires c =
     let s = c.args.step.now in let is = c.requires.step in let v = view_by c.args.registry.now in let can = c.requires.can in
     let now = runs-active v c.args.clock s.id (sym (runs-is v c.args.clock s.id s.period s.active is.active is.period) ∙ sym c.runs.ensures ∙ c.if-runs.true) in
-    let few = rate-few v can.played s.id (active-live v can.wired can.linked can.played s.id now) in
-    (omega (arith, is.period, period-most v.graph s.id can.wired.periods), omega (arith, is.rate, few))
+    let low : s.rate ≤ 192000 = omega (arith, is.rate, rate-few v can.played s.id (active-live v can.wired can.linked can.played s.id now)) in
+    let short : s.period ≤ 10 = omega (arith, is.period, period-most v.graph s.id can.wired.periods) in
+    let most : s.period * s.rate ≤ 10 * 192000 = mul-le-mul short low in
+    record {
+      short = short;
+      few = omega (arith, is.whole, most);
+      whole = is.whole;
+      over = is.over;
+    }
 
 pub carry-requires-clause-few : goal.carry-requires-clause-few
 carry-requires-clause-few c =

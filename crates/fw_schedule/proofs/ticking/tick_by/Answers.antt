@@ -32,7 +32,7 @@ each-low (x ∷ xs) low = (low 0 x (omega arith), each-low xs (λ k d within. lo
 
 -- what is read past the last step
 abbrev blank : Step
-blank = record { id = 0; kind = HostPlay; format = S16; active = false; channels = 0; period = 0; rate = 0; fed = None; first = 0; past = 0; end = 0 }
+blank = record { id = 0; kind = HostPlay; format = S16; active = false; channels = 0; period = 0; rate = 0; whole = 0; over = 0; fed = None; first = 0; past = 0; end = 0 }
 
 -- the id of a step
 id-of : (ss : List Step) (i : ℕ) (d : Step) → i < length ss → (get_or ss i d).id ≡ get_or (map (λ (s : Step). s.id) ss) i 0

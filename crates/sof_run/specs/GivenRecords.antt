@@ -1,5 +1,5 @@
 -- What giving records to a device came to.
-use Rattle.std.specs.Prelude.{◌≡◌, ℕ, ◌<◌, true, false, Bool, List, [], Option, Some, None, is_some, Result, Ok, Err}
+use Rattle.std.specs.Prelude.{◌≡◌, ◌⊎◌, ℕ, ◌<◌, true, false, Bool, List, [], Option, Some, None, is_some, Result, Ok, Err}
 use Rattle.sof_desk.specs.Desk.{DeskCall}
 use Rattle.mbox_link.specs.Calls as calls
 use Rattle.mbox_link.specs.Calls.{Meaning, Did, world}
@@ -7,6 +7,7 @@ use Rattle.ipc3_trace.specs.declared.entry.Entry.{Entry}
 use Rattle.ipc3_trace.specs.declared.entry.Entry.TheVariants.{Boot, Cut, Request, Reply, Tick, Lost}
 use Rattle.ipc3_trace.specs.declared.fault.TraceFault.{TraceFault}
 use Rattle.sof_session.specs.Lives.{Life, Bare, Turn, Turns}
+use Rattle.sof_run.specs.declared.replay_fault.ReplayFault.{ReplayFault}
 use Rattle.sof_run.specs.declared.replay_fault.Stopped.{Stopped}
 use Rattle.sof_run.specs.declared.replay_fault.Stopped.TheVariants.{At, Device}
 use Rattle.sof_run.specs.declared.replay_fault.Tally.{Tally}
@@ -51,3 +52,8 @@ abbrev pub WentThrough : {P : Type 0} → Meaning P → List Entry → Option Tr
 WentThrough means es end old (Ok tally) new =
     (tally ≡ tally_of es) × ((last : Bool → Todo) → GivesOn means (given_todo (means.most old) es end false None 0 last) (last (is_some (means.on new))) old new)
 WentThrough means es end old (Err why) new = (last : Bool → Todo) → GivesOn means (given_todo (means.most old) es end false None 0 last) (stopped_todo why) old new
+
+-- this record is at fault, found where all in front of it were given; or none is, and all were given or the device failed
+abbrev pub FoundFault : {P : Type 0} → Meaning P → List Entry → Option TraceFault → P → Option ReplayFault → Type 0
+FoundFault {P} means es end old (Some fault) = (new : P) × WentThrough means es end old (Err (At fault)) new
+FoundFault {P} means es end old None = (new : P) × (((tally : Tally) × WentThrough means es end old (Ok tally) new) ⊎ WentThrough means es end old (Err Device) new)

@@ -1,5 +1,5 @@
 // All of `replay`.
-ghost use Rattle.std.specs.Prelude.{◌≡◌, ◌≤◌, ◌-◌, ◌^◌, [], ◌∷◌, take, List, ℕ, Option, None, true, is_ok, is_some};
+ghost use Rattle.std.specs.Prelude.{◌≡◌, ◌≤◌, ◌-◌, ◌^◌, [], ◌∷◌, take, List, ℕ, Option, None, true, is_ok, is_some, IfOk};
 ghost use Rattle.mbox_link.specs.Calls.{Exchanged, world};
 ghost use Rattle.ipc3_trace.specs.Reading.{trace_in};
 ghost use Rattle.sof_session.specs.Lives.{Bare, Turned};
@@ -8,7 +8,7 @@ ghost use Rattle.sof_run.specs.Play.{lines_todo};
 ghost use Rattle.sof_run.specs.Replaying as law;
 ghost use Rattle.sof_run.specs.Replaying.{record_fault, tallied, replay_lines, on_words};
 ghost use Rattle.sof_run.specs.ReplayTodo.{replay, replayed_todo, stopped_todo};
-ghost use Rattle.sof_run.specs.GivenRecords.{GaveRecord, WentOn, IsBelow, WentThrough};
+ghost use Rattle.sof_run.specs.GivenRecords.{GaveRecord, WentOn, IsBelow, WentThrough, FoundFault};
 
 use crate::check::say_count;
 use crate::decode::TRACE_LIMIT;
@@ -282,19 +282,23 @@ pub fn do_replay<D: Desk, P: Dsp>(alloc: Global, name: &str, desk: &mut D, dsp: 
     Ended { status, dsp }
 }
 
-/// The first record at fault of a trace that is given to a device that is off, if one is before the device fails.
+/// The first record at fault of a trace whose records are given to a device that is off, in order, if one is before the device fails.
+///
+/// `NoMemory` where there is none for the windows of the endpoints.
 pub fn record_at_fault<P: Dsp>(
     alloc: Global,
     bytes: &[u8],
     dsp: P,
 ) -> Result<Option<ReplayFault>, NoMemory>
     requires off { P.means.on dsp ≡ None }
+    ensures { IfOk result (λ found. FoundFault P.means (trace_in bytes.now).0 (trace_in bytes.now).1 dsp found) }
 {
     let mut inputs = Inputs::new(alloc)?;
     let mut outputs = Outputs::new(alloc)?;
     let mut dsp = dsp;
     match give_records(bytes, &mut dsp, &mut inputs, &mut outputs) {
         Err(Stopped::At(fault)) => Ok(Some(fault)),
-        Err(Stopped::Device) | Ok(_) => Ok(None),
+        Err(Stopped::Device) => Ok(None),
+        Ok(_) => Ok(None),
     }
 }

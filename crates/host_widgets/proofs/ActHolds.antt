@@ -19,7 +19,7 @@ use Rattle.host_widgets.specs.Keeps.{KeepsRecord}
 use Rattle.host_widgets.specs.HostActs.{Act, after, fresh_in}
 use Rattle.host_widgets.specs.ActMessages.{act_message}
 use Rattle.host_widgets.specs.ViewOf.{record_view}
-use Rattle.host_widgets.specs.OneAct.{own, outcome_by}
+use Rattle.host_widgets.specs.OneAct.{act_rules, own, outcome_by}
 use Rattle.host_widgets.specs.ActCalls.{ActDid, came_to}
 use Rattle.host_widgets.proofs.Exchanges.{came, verdict-number}
 use Rattle.host_widgets.proofs.Effects.{row-decoded}
@@ -28,7 +28,7 @@ use Rattle.host_widgets.proofs.SoundPlays.{sound-plays}
 use Rattle.host_widgets.proofs.StandingOn.{StandsOn, ReadsOn, LeavesAll, still-stands, stands-by, reads-of, ticks-stand, ticks-leave}
 
 module _ {D : Type 0} (means : Meaning D) (plan : Plan) (heap : ℕ) (goes_on : Bool) (sound : IsSound plan) (kept : Record) (act : Act) (is : IsTaken plan kept act) (acts : List Act) (m : Meeting) (w v : World D)
-    (did : ActDid means plan heap kept act m w v) (f : FwState) (on : means.on w.device ≡ Some f) (keeps : KeepsRecord plan heap kept f) (ready : AreReady plan goes_on (act ∷ acts) f) where
+    (did : ActDid means (act_rules plan heap) kept act m w v) (f : FwState) (on : means.on w.device ≡ Some f) (keeps : KeepsRecord plan heap kept f) (ready : AreReady plan goes_on (act ∷ acts) f) where
   -- the device keeps this record, and stands these moments later; and this is so of its state
   pub record Holds (So : FwState → Type 0) (now : Record) (moments : List Moment) : Type 0 where
     pub state : FwState

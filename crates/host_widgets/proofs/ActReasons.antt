@@ -24,7 +24,7 @@ use Rattle.host_widgets.specs.ActLists.{bring_up}
 use Rattle.host_widgets.specs.Expected.{needed_by}
 use Rattle.host_widgets.specs.Host.{Outcome, IsRecordOf, errno, verdict}
 use Rattle.host_widgets.specs.Bringing.{Fits}
-use Rattle.host_widgets.specs.OneAct.{own, outcome_by, lag_of, performed}
+use Rattle.host_widgets.specs.OneAct.{act_rules, own, outcome_by, lag_of, performed}
 use Rattle.host_widgets.specs.Walk.{followed_by, walk}
 use Rattle.host_widgets.specs.ActCalls.{ActsDid, Counted, Onwards, came_to, next_of}
 use Rattle.host_widgets.specs.ActCarried.{ActsSent}
@@ -80,7 +80,7 @@ module _ {D : Type 0} (means : Meaning D) (plan : Plan) (heap : ℕ) where
     -- ---- acts that leave the record, one after another
 
     abbrev outcome_of : List Meeting → List Act → Outcome
-    outcome_of ms acts = (walk plan heap false next_of kept ms acts).outcome
+    outcome_of ms acts = (walk (act_rules plan heap) false next_of kept ms acts).outcome
 
     -- what is behind an act that was answered so and came to this
     abbrev Behind : Act → List Act → Meeting → List Meeting → World D → World D → Result Reply HostFault → Outcome → Type 0
@@ -88,7 +88,7 @@ module _ {D : Type 0} (means : Meaning D) (plan : Plan) (heap : ℕ) where
         MatchResult r (λ reply. ActsBecause means plan heap kept acts mid v (outcome_from means plan heap kept act acts m ms o)) (λ fault. (v ≡ mid) × (outcome_from means plan heap kept act acts m ms o ≡ Err fault))
 
     -- each has its reason
-    pub acts-because : (acts : List Act) (ms : List Meeting) (w v : World D) → AllByRecursion (Leaves plan kept) acts → ActsDid means plan heap false kept acts ms w v → ActsBecause means plan heap kept acts w v (outcome_of ms acts)
+    pub acts-because : (acts : List Act) (ms : List Meeting) (w v : World D) → AllByRecursion (Leaves plan kept) acts → ActsDid means (act_rules plan heap) false kept acts ms w v → ActsBecause means plan heap kept acts w v (outcome_of ms acts)
     acts-because [] ms w v all did = (did.1, refl)
     acts-because (act ∷ acts) [] w v all did = absurd did
     acts-because (act ∷ acts) (m ∷ ms) w v all (mid, d, on) = (
@@ -99,18 +99,18 @@ module _ {D : Type 0} (means : Meaning D) (plan : Plan) (heap : ℕ) where
       by (verdict d.answer) d.came on (acts-because acts ms mid v all.1),
     )
       where
-        passed : GoesOn means plan heap kept act acts m ms mid v (Ok tt) → (ActsDid means plan heap false kept acts ms mid v → ActsBecause means plan heap kept acts mid v (outcome_of ms acts)) → ActsBecause means plan heap kept acts mid v (outcome_from means plan heap kept act acts m ms (Ok tt))
+        passed : GoesOn means plan heap kept act acts m ms mid v (Ok tt) → (ActsDid means (act_rules plan heap) false kept acts ms mid v → ActsBecause means plan heap kept acts mid v (outcome_of ms acts)) → ActsBecause means plan heap kept acts mid v (outcome_from means plan heap kept act acts m ms (Ok tt))
         passed on go =
-            subst (λ (now : Record). ActsBecause means plan heap kept acts mid v (walk plan heap false next_of now ms acts).outcome) (sym all.0)
-            (go (subst (λ (now : Record). ActsDid means plan heap false now acts ms mid v) all.0 on))
+            subst (λ (now : Record). ActsBecause means plan heap kept acts mid v (walk (act_rules plan heap) false next_of now ms acts).outcome) (sym all.0)
+            (go (subst (λ (now : Record). ActsDid means (act_rules plan heap) false now acts ms mid v) all.0 on))
 
         failed : (fault : HostFault) → GoesOn means plan heap kept act acts m ms mid v (Err fault) → (v ≡ mid) × (outcome_from means plan heap kept act acts m ms (Err fault) ≡ Err fault)
         failed fault =
-            subst (λ (b : Bool). Onwards b ms mid v (ActsDid means plan heap false kept acts ms mid v) → (v ≡ mid) × ((followed_by act (performed plan act kept (lag_of m) (Err fault)) ms b (walk plan heap false next_of kept ms acts)).outcome ≡ Err fault)) (sym (ends-at fault))
+            subst (λ (b : Bool). Onwards b ms mid v (ActsDid means (act_rules plan heap) false kept acts ms mid v) → (v ≡ mid) × ((followed_by act (performed (act_rules plan heap) act kept (lag_of m) (Err fault)) ms b (walk (act_rules plan heap) false next_of kept ms acts)).outcome ≡ Err fault)) (sym (ends-at fault))
             (λ end. (end.1, refl))
 
         by : (r : Result Reply HostFault) → came_to r ≡ outcome_by m.fate (own plan heap kept act) → GoesOn means plan heap kept act acts m ms mid v (outcome_by m.fate (own plan heap kept act)) →
-            (ActsDid means plan heap false kept acts ms mid v → ActsBecause means plan heap kept acts mid v (outcome_of ms acts)) → Behind act acts m ms mid v r (outcome_by m.fate (own plan heap kept act))
+            (ActsDid means (act_rules plan heap) false kept acts ms mid v → ActsBecause means plan heap kept acts mid v (outcome_of ms acts)) → Behind act acts m ms mid v r (outcome_by m.fate (own plan heap kept act))
         by (Ok reply) is on go = subst (λ (o : Outcome). GoesOn means plan heap kept act acts m ms mid v o → Behind act acts m ms mid v (Ok reply) o) is (λ now. passed now go) on
         by (Err fault) is on go = subst (λ (o : Outcome). GoesOn means plan heap kept act acts m ms mid v o → Behind act acts m ms mid v (Err fault) o) is (λ now. failed fault now) on
 

@@ -18,7 +18,7 @@ use Rattle.host_widgets.specs.HostActs.{Act, after}
 use Rattle.host_widgets.specs.ActMessages.{act_message}
 use Rattle.host_widgets.specs.ViewOf.{record_view}
 use Rattle.host_widgets.specs.Host.{Outcome, Agrees, Sides, verdict, errno}
-use Rattle.host_widgets.specs.OneAct.{own, outcome_by}
+use Rattle.host_widgets.specs.OneAct.{act_rules, own, outcome_by}
 use Rattle.host_widgets.specs.ActCalls.{ActDid, came_to}
 use Rattle.host_widgets.proofs.Exchanges.{came, verdict-number}
 use Rattle.host_widgets.proofs.Effects.{row-decoded}
@@ -52,7 +52,7 @@ module _ {D : Type 0} (means : Meaning D) (plan : Plan) (heap : ℕ) (kept : Rec
     before-shows : view_of before.0 ≡ record_view plan kept
     before-shows = still (means.pending w.device - means.pending x.sent.device) (state.0, w.io) ∙ state.2
 
-    comes : (m : Meeting) × (did : ActDid means plan heap kept act m w x.sent) × (did.answer ≡ x.answer)
+    comes : (m : Meeting) × (did : ActDid means (act_rules plan heap) kept act m w x.sent) × (did.answer ≡ x.answer)
     comes = act-comes means plan heap kept act a w x.sent state.0 state.1 state.2 x.answer x.exchanged
 
     said : result ≡ outcome_by comes.0.fate (own plan heap kept act)

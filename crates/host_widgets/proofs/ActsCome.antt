@@ -19,7 +19,7 @@ use Rattle.mbox_link.specs.Meetings.{Meeting}
 use Rattle.host_widgets.specs.declared.kept.Record.{Record}
 use Rattle.host_widgets.specs.HostActs.{Act}
 use Rattle.host_widgets.specs.ActMessages.{act_message}
-use Rattle.host_widgets.specs.OneAct.{own, outcome_by}
+use Rattle.host_widgets.specs.OneAct.{act_rules, own, outcome_by}
 use Rattle.host_widgets.specs.ViewOf.{record_view}
 use Rattle.host_widgets.specs.ActCalls.{ActDid, came_to}
 
@@ -44,7 +44,7 @@ module _ {D : Type 0} (means : Meaning D) (plan : Plan) (heap : ℕ) (kept : Rec
   before = ticks (means.pending w.device - means.pending v.device) (f, w.io)
 
   abbrev pub Did : Type 0
-  Did = (m : Meeting) × (did : ActDid means plan heap kept act m w v) × (did.answer ≡ answer)
+  Did = (m : Meeting) × (did : ActDid means (act_rules plan heap) kept act m w v) × (did.answer ≡ answer)
 
   -- the message met that lag, and a fate that its answer shows
   pub act-did : IsMessage (act_message plan act) → ((g : FwState) → came_to (verdict (Some (done_reply (body_of g (decoded (message_spelling (act_message plan act))))))) ≡ Ok tt) →

@@ -22,7 +22,7 @@ use Rattle.host_widgets.specs.HostActs.{Act, Make, Join, Put, Part, Finish, afte
 use Rattle.host_widgets.specs.Acts.{widget_ids}
 use Rattle.host_widgets.specs.ActLists.{control_acts_by, control_acts, bring_up}
 use Rattle.host_widgets.specs.Host.{Outcome}
-use Rattle.host_widgets.specs.OneAct.{own, outcome_by, lag_of, performed}
+use Rattle.host_widgets.specs.OneAct.{act_rules, own, outcome_by, lag_of, performed}
 use Rattle.host_widgets.specs.Walk.{goes_past, followed_by, walk}
 use Rattle.host_widgets.specs.ActCalls.{next_of}
 use Rattle.host_widgets.proofs.LookedUp.{each-found}
@@ -64,7 +64,7 @@ module _ (plan : Plan) (kept : Record) where
       by true is = same.0 is
       by false is = refl
 
-  abbrev IsThere : Pair → Type 0
+  abbrev pub IsThere : Pair → Type 0
   IsThere p = control_at plan kept p.0.comp ≡ Some p
 
   -- no other control has its component
@@ -85,10 +85,10 @@ module _ (plan : Plan) (kept : Record) where
       controls = stays p.0.comp f plan.controls kept.controls (alone p there f keeps (controls_of plan kept) all) i;
     }
 
-    put-leaves : (p : Pair) → IsThere p → Leaves (Put p.0.comp p.1.values)
+    pub put-leaves : (p : Pair) → IsThere p → Leaves (Put p.0.comp p.1.values)
     put-leaves p there = same-control p there (with_values p.1.values) refl
 
-    part-leaves : (p : Pair) → IsThere p → (k : ℕ) → Leaves (Part p.0.comp p.1.blob k)
+    pub part-leaves : (p : Pair) → IsThere p → (k : ℕ) → Leaves (Part p.0.comp p.1.blob k)
     part-leaves p there k = by (is_last p.1.blob k)
       where
         by : (b : Bool) → (if b then with_control plan p.0.comp (with_blob p.1.blob) kept else kept) ≡ kept
@@ -123,14 +123,14 @@ module _ (plan : Plan) (kept : Record) where
       (all-mapped Leaves (λ (p : Pipe). Finish p.id) (λ (p : Pipe). refl) plan.graph.pipes)))
 
   -- a walk of such acts leaves the record, wherever it ends
-  pub walk-leaves : (heap : ℕ) (acts : List Act) (ms : List Meeting) → AllByRecursion Leaves acts → (walk plan heap false next_of kept ms acts).kept ≡ kept
+  pub walk-leaves : (heap : ℕ) (acts : List Act) (ms : List Meeting) → AllByRecursion Leaves acts → (walk (act_rules plan heap) false next_of kept ms acts).kept ≡ kept
   walk-leaves heap [] ms all = refl
   walk-leaves heap (act ∷ acts) ms all = by (outcome_by (next_of ms).0.fate (own plan heap kept act)) (walk-leaves heap acts (next_of ms).1 all.1)
     where
-      ended : (o : Outcome) (b : Bool) → (walk plan heap false next_of kept (next_of ms).1 acts).kept ≡ kept → (followed_by act (record { outcome = o; kept = kept; moments = lag_of (next_of ms).0 }) (next_of ms).1 b (walk plan heap false next_of kept (next_of ms).1 acts)).kept ≡ kept
+      ended : (o : Outcome) (b : Bool) → (walk (act_rules plan heap) false next_of kept (next_of ms).1 acts).kept ≡ kept → (followed_by act (record { outcome = o; kept = kept; moments = lag_of (next_of ms).0 }) (next_of ms).1 b (walk (act_rules plan heap) false next_of kept (next_of ms).1 acts)).kept ≡ kept
       ended o true rest = rest
       ended o false rest = refl
 
-      by : (o : Outcome) → (walk plan heap false next_of kept (next_of ms).1 acts).kept ≡ kept → (let a = performed plan act kept (lag_of (next_of ms).0) o in (followed_by act a (next_of ms).1 (goes_past false a.outcome) (walk plan heap false next_of a.kept (next_of ms).1 acts)).kept ≡ kept)
-      by (Ok done) rest = ap (λ (now : Record). (walk plan heap false next_of now (next_of ms).1 acts).kept) all.0 ∙ rest
+      by : (o : Outcome) → (walk (act_rules plan heap) false next_of kept (next_of ms).1 acts).kept ≡ kept → (let a = performed (act_rules plan heap) act kept (lag_of (next_of ms).0) o in (followed_by act a (next_of ms).1 (goes_past false a.outcome) (walk (act_rules plan heap) false next_of a.kept (next_of ms).1 acts)).kept ≡ kept)
+      by (Ok done) rest = ap (λ (now : Record). (walk (act_rules plan heap) false next_of now (next_of ms).1 acts).kept) all.0 ∙ rest
       by (Err fault) rest = ended (Err fault) (goes_past false (Err fault)) rest

@@ -64,7 +64,9 @@ pub mod BuildingMoments
 pub mod LinkEnds
 pub mod OneMessage
 pub mod ActSteps
+pub mod AnsweredActs
 pub mod PlainOrders
+pub mod OrderJobs
 pub mod OneOrder
 pub mod ChangedPlaces
 pub mod ActReasons

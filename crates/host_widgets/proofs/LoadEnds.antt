@@ -24,7 +24,7 @@ use Rattle.host_widgets.specs.ActMessages.{act_message}
 use Rattle.host_widgets.specs.ActLists.{bring_up}
 use Rattle.host_widgets.specs.Host.{Outcome, AreControls, Agrees}
 use Rattle.host_widgets.specs.Bringing.{Fits, BroughtUp, SucceedsExactly}
-use Rattle.host_widgets.specs.OneAct.{own, outcome_by, lag_of, performed}
+use Rattle.host_widgets.specs.OneAct.{act_rules, own, outcome_by, lag_of, performed}
 use Rattle.host_widgets.specs.Walk.{followed_by, walk}
 use Rattle.host_widgets.specs.ActCalls.{ActsDid, Counted, next_of, calls_of}
 use Rattle.host_widgets.specs.Orders.{Carried, brought_end, loading}
@@ -38,21 +38,21 @@ module _ {D : Type 0} (means : Meaning D) (plan : Plan) (heap : ℕ) (kept : Rec
   -- ---- acts that leave the record
 
   abbrev outcome_of : List Meeting → List Act → Outcome
-  outcome_of ms acts = (walk plan heap false next_of kept ms acts).outcome
+  outcome_of ms acts = (walk (act_rules plan heap) false next_of kept ms acts).outcome
 
   -- where all passed, none was refused
-  pub all-free : (acts : List Act) (ms : List Meeting) (w v : World D) → AllByRecursion (Leaves plan kept) acts → ActsDid means plan heap false kept acts ms w v → outcome_of ms acts ≡ Ok tt → AllFree plan heap kept acts
+  pub all-free : (acts : List Act) (ms : List Meeting) (w v : World D) → AllByRecursion (Leaves plan kept) acts → ActsDid means (act_rules plan heap) false kept acts ms w v → outcome_of ms acts ≡ Ok tt → AllFree plan heap kept acts
   all-free [] ms w v all did passed = tt
   all-free (act ∷ acts) [] w v all did passed = absurd did
   all-free (act ∷ acts) (m ∷ ms) w v all (mid, d, on) passed = by (outcome_by m.fate (own plan heap kept act)) refl (all-free acts ms mid v all.1) on passed
     where
-      by : (o : Outcome) → outcome_by m.fate (own plan heap kept act) ≡ o → (ActsDid means plan heap false kept acts ms mid v → outcome_of ms acts ≡ Ok tt → AllFree plan heap kept acts) → GoesOn means plan heap kept act acts m ms mid v o → outcome_from means plan heap kept act acts m ms o ≡ Ok tt → AllFree plan heap kept (act ∷ acts)
+      by : (o : Outcome) → outcome_by m.fate (own plan heap kept act) ≡ o → (ActsDid means (act_rules plan heap) false kept acts ms mid v → outcome_of ms acts ≡ Ok tt → AllFree plan heap kept acts) → GoesOn means plan heap kept act acts m ms mid v o → outcome_from means plan heap kept act acts m ms o ≡ Ok tt → AllFree plan heap kept (act ∷ acts)
       by (Ok done) is go on passed = (
         passed-free m.fate (own plan heap kept act) is,
-        go (subst (λ (now : Record). ActsDid means plan heap false now acts ms mid v) all.0 on) (subst (λ (now : Record). (walk plan heap false next_of now ms acts).outcome ≡ Ok tt) all.0 passed),
+        go (subst (λ (now : Record). ActsDid means (act_rules plan heap) false now acts ms mid v) all.0 on) (subst (λ (now : Record). (walk (act_rules plan heap) false next_of now ms acts).outcome ≡ Ok tt) all.0 passed),
       )
       by (Err fault) is go on passed =
-          let no : Err fault ≡ Ok tt = sym (ap (λ (b : Bool). (followed_by act (performed plan act kept (lag_of m) (Err fault)) ms b (walk plan heap false next_of kept ms acts)).outcome) (ends-at fault)) ∙ passed in
+          let no : Err fault ≡ Ok tt = sym (ap (λ (b : Bool). (followed_by act (performed (act_rules plan heap) act kept (lag_of m) (Err fault)) ms b (walk (act_rules plan heap) false next_of kept ms acts)).outcome) (ends-at fault)) ∙ passed in
           absurd (cc no)
 
   -- neither count rose
@@ -67,7 +67,7 @@ module _ {D : Type 0} (means : Meaning D) (plan : Plan) (heap : ℕ) (kept : Rec
   }
 
   -- where the sizes fit and no count rose, all passed
-  pub all-pass : (acts : List Act) (ms : List Meeting) (w v : World D) (g : FwState) → AllByRecursion (Leaves plan kept) acts → FollowAll plan heap kept g acts → ActsDid means plan heap false kept acts ms w v → Fits plan heap → Calm w.device v.device → outcome_of ms acts ≡ Ok tt
+  pub all-pass : (acts : List Act) (ms : List Meeting) (w v : World D) (g : FwState) → AllByRecursion (Leaves plan kept) acts → FollowAll plan heap kept g acts → ActsDid means (act_rules plan heap) false kept acts ms w v → Fits plan heap → Calm w.device v.device → outcome_of ms acts ≡ Ok tt
   all-pass [] ms w v g all follow did fits calm = refl
   all-pass (act ∷ acts) [] w v g all follow did fits calm = absurd did
   all-pass (act ∷ acts) (m ∷ ms) w v g all follow (mid, d, on) fits calm =
@@ -80,11 +80,11 @@ module _ {D : Type 0} (means : Meaning D) (plan : Plan) (heap : ℕ) (kept : Rec
       none-fell : (c : D) → Steady means c c
       none-fell c = record { faults = NoneFell-same (means.faults c); refusals = NoneFell-same (means.refusals c); boots = omega arith; pending = omega arith; most = refl }
 
-      by : (fate : Fate) → Counted means fate w.device mid.device → (ActsDid means plan heap false kept acts ms mid v → Fits plan heap → Calm mid.device v.device → outcome_of ms acts ≡ Ok tt) →
+      by : (fate : Fate) → Counted means fate w.device mid.device → (ActsDid means (act_rules plan heap) false kept acts ms mid v → Fits plan heap → Calm mid.device v.device → outcome_of ms acts ≡ Ok tt) →
           GoesOn means plan heap kept act acts m ms mid v (outcome_by fate None) → outcome_from means plan heap kept act acts m ms (outcome_by fate None) ≡ Ok tt
       by Pass counted go on =
-          subst (λ (now : Record). (walk plan heap false next_of now ms acts).outcome ≡ Ok tt) (sym all.0)
-          (go (subst (λ (now : Record). ActsDid means plan heap false now acts ms mid v) all.0 on) fits (calm-within w.device mid.device v.device v.device d.exchanged.steady (none-fell v.device) calm))
+          subst (λ (now : Record). (walk (act_rules plan heap) false next_of now ms acts).outcome ≡ Ok tt) (sym all.0)
+          (go (subst (λ (now : Record). ActsDid means (act_rules plan heap) false now acts ms mid v) all.0 on) fits (calm-within w.device mid.device v.device v.device d.exchanged.steady (none-fell v.device) calm))
       by (Refuse e) counted go on = absurd (calm.refusals (subst (λ (y : World D). Rose (means.refusals w.device) (means.refusals y.device)) (sym on.1) counted))
       by Drop counted go on = absurd (calm.faults (subst (λ (y : World D). Rose (means.faults w.device) (means.faults y.device)) (sym on.1) counted))
       by Lose counted go on = absurd (calm.faults (subst (λ (y : World D). Rose (means.faults w.device) (means.faults y.device)) (sym on.1) counted))

@@ -21,7 +21,7 @@ use Rattle.host_widgets.specs.ActLists.{bring_up}
 use Rattle.host_widgets.specs.StateOf.{state_by}
 use Rattle.host_widgets.specs.Host.{Outcome, verdict}
 use Rattle.host_widgets.specs.Bringing.{Fits, BroughtUp}
-use Rattle.host_widgets.specs.OneAct.{own, outcome_by, performed as came_by, lag_of}
+use Rattle.host_widgets.specs.OneAct.{act_rules, own, outcome_by, performed as came_by, lag_of}
 use Rattle.host_widgets.specs.Walk.{walk, followed_by, goes_past}
 use Rattle.host_widgets.specs.ActCalls.{ActDid, ActsDid, Onwards, came_to, next_of}
 use Rattle.host_widgets.specs.ActCarried.{ActsSent}
@@ -75,7 +75,7 @@ module _ {D : Type 0} (means : Meaning D) (plan : Plan) (heap : ℕ) (kept : Rec
     passes : (f : FwState) → came_to (verdict (Some (done_reply (body_of f (decoded request))))) ≡ Ok tt
     passes f = ap came_to (verdict-done f plan act (Some (done_reply (body_of f (decoded request)))) follows.told follows.message refl)
 
-    pub it-did : (m : Meeting) × (did : ActDid means plan heap kept act m w v) × (did.answer ≡ answer)
+    pub it-did : (m : Meeting) × (did : ActDid means (act_rules plan heap) kept act m w v) × (did.answer ≡ answer)
     it-did =
         let r = row_by (own plan heap kept act) refl in
         act-did means plan heap kept act w v (at g t) on answer x follows.message passes r.0 (ap (λ (p : FwState × Io). row p.0 (act_message plan act)) ticked-so ∙ r.1)
@@ -98,17 +98,17 @@ module _ {D : Type 0} (means : Meaning D) (plan : Plan) (heap : ℕ) (kept : Rec
 
   -- an act that came to this, and those behind it
   abbrev pub GoesOn : Act → List Act → Meeting → List Meeting → World D → World D → Outcome → Type 0
-  GoesOn act acts m ms mid v o = let a = came_by plan act kept (lag_of m) o in Onwards (goes_past false a.outcome) ms mid v (ActsDid means plan heap false a.kept acts ms mid v)
+  GoesOn act acts m ms mid v o = let a = came_by (act_rules plan heap) act kept (lag_of m) o in Onwards (goes_past false a.outcome) ms mid v (ActsDid means (act_rules plan heap) false a.kept acts ms mid v)
 
   -- and what they all come to
   abbrev pub outcome_from : Act → List Act → Meeting → List Meeting → Outcome → Outcome
-  outcome_from act acts m ms o = let a = came_by plan act kept (lag_of m) o in (followed_by act a ms (goes_past false a.outcome) (walk plan heap false next_of a.kept ms acts)).outcome
+  outcome_from act acts m ms o = let a = came_by (act_rules plan heap) act kept (lag_of m) o in (followed_by act a ms (goes_past false a.outcome) (walk (act_rules plan heap) false next_of a.kept ms acts)).outcome
 
   -- what they met, what they came to, and where all passed the state that they leave
   pub record Followed (acts : List Act) (w v : World D) (g : FwState) (t : ℕ) (result : Outcome) : Type 0 where
     pub meetings : List Meeting
-    pub did : ActsDid means plan heap false kept acts meetings w v
-    pub came_so : result ≡ (walk plan heap false next_of kept meetings acts).outcome
+    pub did : ActsDid means (act_rules plan heap) false kept acts meetings w v
+    pub came_so : result ≡ (walk (act_rules plan heap) false next_of kept meetings acts).outcome
     pub io : v.io ≡ w.io
     pub fewer : means.pending v.device ≤ means.pending w.device
     pub on : result ≡ Ok tt → means.on v.device ≡ Some (at (effects plan acts g) (t + (means.pending w.device - means.pending v.device)))
@@ -130,7 +130,7 @@ module _ {D : Type 0} (means : Meaning D) (plan : Plan) (heap : ℕ) (kept : Rec
       io-stays : mid.io ≡ w.io
       io-stays = same-io act answer w mid g t follow.0 are on x
 
-      it : (m : Meeting) × (did : ActDid means plan heap kept act m w mid) × (did.answer ≡ answer)
+      it : (m : Meeting) × (did : ActDid means (act_rules plan heap) kept act m w mid) × (did.answer ≡ answer)
       it = it-did act answer w mid g t follow.0 are on x
 
       came-is : came_to (verdict answer) ≡ outcome_by it.0.fate (own plan heap kept act)
@@ -146,8 +146,8 @@ module _ {D : Type 0} (means : Meaning D) (plan : Plan) (heap : ℕ) (kept : Rec
           let clock : (t + (means.pending w.device - means.pending mid.device)) + (means.pending mid.device - means.pending v.device) ≡ t + (means.pending w.device - means.pending v.device) = omega (arith, x.steady.pending, r.fewer) in
           record {
             meetings = it.0 ∷ r.meetings;
-            did = (mid, it.1, subst (GoesOn act acts it.0 r.meetings mid v) passed (subst (λ (now : Record). ActsDid means plan heap false now acts r.meetings mid v) (sym all.0) r.did));
-            came_so = subst (λ (o : Outcome). result ≡ outcome_from act acts it.0 r.meetings o) passed (subst (λ (now : Record). result ≡ (walk plan heap false next_of now r.meetings acts).outcome) (sym all.0) r.came_so);
+            did = (mid, it.1, subst (GoesOn act acts it.0 r.meetings mid v) passed (subst (λ (now : Record). ActsDid means (act_rules plan heap) false now acts r.meetings mid v) (sym all.0) r.did));
+            came_so = subst (λ (o : Outcome). result ≡ outcome_from act acts it.0 r.meetings o) passed (subst (λ (now : Record). result ≡ (walk (act_rules plan heap) false next_of now r.meetings acts).outcome) (sym all.0) r.came_so);
             io = r.io ∙ io-stays;
             fewer = omega (arith, x.steady.pending, r.fewer);
             on = λ done. r.on done ∙ ap (λ (n : ℕ). Some (at (effects plan acts (effect (act_message plan act) g)) n)) clock;
@@ -156,8 +156,8 @@ module _ {D : Type 0} (means : Meaning D) (plan : Plan) (heap : ℕ) (kept : Rec
           let failed : Err fault ≡ outcome_by it.0.fate (own plan heap kept act) = ap came_to (sym is) ∙ came-is in
           record {
             meetings = it.0 ∷ [];
-            did = (mid, it.1, subst (GoesOn act acts it.0 [] mid v) failed (subst (λ (b : Bool). Onwards b [] mid v (ActsDid means plan heap false kept acts [] mid v)) (sym (ends-at fault)) (refl, end.0)));
-            came_so = subst (λ (o : Outcome). result ≡ outcome_from act acts it.0 [] o) failed (subst (λ (b : Bool). result ≡ (followed_by act (came_by plan act kept (lag_of it.0) (Err fault)) [] b (walk plan heap false next_of kept [] acts)).outcome) (sym (ends-at fault)) end.1);
+            did = (mid, it.1, subst (GoesOn act acts it.0 [] mid v) failed (subst (λ (b : Bool). Onwards b [] mid v (ActsDid means (act_rules plan heap) false kept acts [] mid v)) (sym (ends-at fault)) (refl, end.0)));
+            came_so = subst (λ (o : Outcome). result ≡ outcome_from act acts it.0 [] o) failed (subst (λ (b : Bool). result ≡ (followed_by act (came_by (act_rules plan heap) act kept (lag_of it.0) (Err fault)) [] b (walk (act_rules plan heap) false next_of kept [] acts)).outcome) (sym (ends-at fault)) end.1);
             io = ap (λ (y : World D). y.io) end.0 ∙ io-stays;
             fewer = omega (arith, x.steady.pending, ap (λ (y : World D). means.pending y.device) end.0);
             on = λ done. absurd (let no : Err fault ≡ Ok tt = sym end.1 ∙ done in cc no);

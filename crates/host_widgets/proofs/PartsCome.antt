@@ -28,7 +28,7 @@ use Rattle.host_widgets.specs.ActLists.{part_acts}
 use Rattle.host_widgets.specs.ActCalls.{ActsDid, Onwards, came_to, next_of}
 use Rattle.host_widgets.specs.ActCarried.{ActsSent}
 use Rattle.host_widgets.specs.Host.{Outcome, verdict}
-use Rattle.host_widgets.specs.OneAct.{performed as came_by, lag_of, own, outcome_by}
+use Rattle.host_widgets.specs.OneAct.{act_rules, performed as came_by, lag_of, own, outcome_by}
 use Rattle.host_widgets.specs.ViewOf.{graph_by, record_view}
 use Rattle.host_widgets.specs.Walk.{walk, followed_by, goes_past}
 use Rattle.host_widgets.proofs.ReplyErrors.{done_reply}
@@ -152,21 +152,21 @@ module _ {D : Type 0} (means : Meaning D) (plan : Plan) (heap : ℕ) (kept : Rec
 
   pub record Came (acts : List Act) (w v : World D) (result : Outcome) : Type 0 where
     pub meetings : List Meeting
-    pub did : ActsDid means plan heap false kept acts meetings w v
-    pub came_so : result ≡ (walk plan heap false next_of kept meetings acts).outcome
-    pub left : (walk plan heap false next_of kept meetings acts).kept ≡ left_by result
+    pub did : ActsDid means (act_rules plan heap) false kept acts meetings w v
+    pub came_so : result ≡ (walk (act_rules plan heap) false next_of kept meetings acts).outcome
+    pub left : (walk (act_rules plan heap) false next_of kept meetings acts).kept ≡ left_by result
     pub ends : Ending v result
 
   -- an act that came to this, and those behind it
   abbrev GoesOn : Act → List Act → Meeting → List Meeting → World D → World D → Outcome → Type 0
-  GoesOn act acts m ms mid v o = let a = came_by plan act kept (lag_of m) o in Onwards (goes_past false a.outcome) ms mid v (ActsDid means plan heap false a.kept acts ms mid v)
+  GoesOn act acts m ms mid v o = let a = came_by (act_rules plan heap) act kept (lag_of m) o in Onwards (goes_past false a.outcome) ms mid v (ActsDid means (act_rules plan heap) false a.kept acts ms mid v)
 
   abbrev whole : Act → List Act → Meeting → List Meeting → Outcome → Outcome × Record
   whole act acts m ms o =
-      let a = came_by plan act kept (lag_of m) o in let j = followed_by act a ms (goes_past false a.outcome) (walk plan heap false next_of a.kept ms acts) in (j.outcome, j.kept)
+      let a = came_by (act_rules plan heap) act kept (lag_of m) o in let j = followed_by act a ms (goes_past false a.outcome) (walk (act_rules plan heap) false next_of a.kept ms acts) in (j.outcome, j.kept)
 
   abbrev ended : Act → List Act → Meeting → HostFault → Bool → Outcome × Record
-  ended act acts m fault b = let j = followed_by act (came_by plan act kept (lag_of m) (Err fault)) [] b (walk plan heap false next_of kept [] acts) in (j.outcome, j.kept)
+  ended act acts m fault b = let j = followed_by act (came_by (act_rules plan heap) act kept (lag_of m) (Err fault)) [] b (walk (act_rules plan heap) false next_of kept [] acts) in (j.outcome, j.kept)
 
   module _ (k : ℕ) (low : k < parts blob) (w mid v : World D) (s : Stands k w) (answer : Option (List ℕ)) (e : Exchanged means (message_spelling (SetData id (blob_part blob k))) answer w mid) (acts : List Act) (result : Outcome) where
     abbrev this : Act
@@ -184,15 +184,15 @@ module _ {D : Type 0} (means : Meaning D) (plan : Plan) (heap : ℕ) (kept : Rec
         let so : Err fault ≡ outcome_by it.0.fate (own plan heap kept this) = ap came_to (sym is) ∙ came-is in
         record {
           meetings = it.0 ∷ [];
-          did = (mid, it.1, subst (GoesOn this acts it.0 [] mid v) so (subst (λ (b : Bool). Onwards b [] mid v (ActsDid means plan heap false kept acts [] mid v)) (sym (ends-at fault)) (refl, end.0)));
+          did = (mid, it.1, subst (GoesOn this acts it.0 [] mid v) so (subst (λ (b : Bool). Onwards b [] mid v (ActsDid means (act_rules plan heap) false kept acts [] mid v)) (sym (ends-at fault)) (refl, end.0)));
           came_so = end.1 ∙ ap (λ (b : Bool). (ended this acts it.0 fault b).0) (sym (ends-at fault)) ∙ ap (λ (o : Outcome). (whole this acts it.0 [] o).0) so;
           left = sym (ap (λ (b : Bool). (ended this acts it.0 fault b).1) (sym (ends-at fault)) ∙ ap (λ (o : Outcome). (whole this acts it.0 [] o).1) so) ∙ ap left_by (sym end.1);
           ends = subst (λ (y : World D × Outcome). Ending y.0 y.1) (λ i. (sym end.0 i, sym end.1 i)) (subst (After k low w mid s answer e) (ap came_to is) (after-it k low w mid s answer e));
         }
 
     -- one that passed is followed by the rest, by the record then
-    followed : (reply : Reply) → verdict answer ≡ Ok reply → (ms : List Meeting) → ActsDid means plan heap false (after plan this kept) acts ms mid v → result ≡ (walk plan heap false next_of (after plan this kept) ms acts).outcome →
-        (walk plan heap false next_of (after plan this kept) ms acts).kept ≡ left_by result → Ending v result → Came (this ∷ acts) w v result
+    followed : (reply : Reply) → verdict answer ≡ Ok reply → (ms : List Meeting) → ActsDid means (act_rules plan heap) false (after plan this kept) acts ms mid v → result ≡ (walk (act_rules plan heap) false next_of (after plan this kept) ms acts).outcome →
+        (walk (act_rules plan heap) false next_of (after plan this kept) ms acts).kept ≡ left_by result → Ending v result → Came (this ∷ acts) w v result
     followed reply is ms did came_so left ends =
         let so : Ok tt ≡ outcome_by it.0.fate (own plan heap kept this) = ap came_to (sym is) ∙ came-is in
         record {
@@ -209,9 +209,9 @@ module _ {D : Type 0} (means : Meaning D) (plan : Plan) (heap : ℕ) (kept : Rec
         let end : (v ≡ mid) × (result ≡ Ok tt) = subst (λ (xs : List Act). ActsSent means plan xs mid v result) none more in
         let shown : Shows mid (blob_view id blob (record_view plan kept)) = subst (Passed k low w mid s answer e) last (subst (After k low w mid s answer e) (ap came_to is) (after-it k low w mid s answer e)) in
         let made : after plan this kept ≡ now = ap (λ (b : Bool). cond b now kept) last in
-        followed reply is [] (subst (λ (xs : List Act). ActsDid means plan heap false (after plan this kept) xs [] mid v) (sym none) (refl, end.0))
-        (end.1 ∙ ap (λ (xs : List Act). (walk plan heap false next_of (after plan this kept) [] xs).outcome) (sym none))
-        (ap (λ (xs : List Act). (walk plan heap false next_of (after plan this kept) [] xs).kept) none ∙ made ∙ ap left_by (sym end.1))
+        followed reply is [] (subst (λ (xs : List Act). ActsDid means (act_rules plan heap) false (after plan this kept) xs [] mid v) (sym none) (refl, end.0))
+        (end.1 ∙ ap (λ (xs : List Act). (walk (act_rules plan heap) false next_of (after plan this kept) [] xs).outcome) (sym none))
+        (ap (λ (xs : List Act). (walk (act_rules plan heap) false next_of (after plan this kept) [] xs).kept) none ∙ made ∙ ap left_by (sym end.1))
         (subst (λ (y : World D × Outcome). Ending y.0 y.1) (λ i. (sym end.0 i, sym end.1 i)) shown)
 
     -- one before it
@@ -220,9 +220,9 @@ module _ {D : Type 0} (means : Meaning D) (plan : Plan) (heap : ℕ) (kept : Rec
         let there_now : Stands (k + 1) mid = subst (Passed k low w mid s answer e) more (subst (After k low w mid s answer e) (ap came_to is) (after-it k low w mid s answer e)) in
         let r = go there_now in
         let same : kept ≡ after plan this kept = ap (λ (b : Bool). cond b now kept) (sym more) in
-        followed reply is r.meetings (subst (λ (y : Record). ActsDid means plan heap false y acts r.meetings mid v) same r.did)
-        (r.came_so ∙ ap (λ (y : Record). (walk plan heap false next_of y r.meetings acts).outcome) same)
-        (ap (λ (y : Record). (walk plan heap false next_of y r.meetings acts).kept) (sym same) ∙ r.left) r.ends
+        followed reply is r.meetings (subst (λ (y : Record). ActsDid means (act_rules plan heap) false y acts r.meetings mid v) same r.did)
+        (r.came_so ∙ ap (λ (y : Record). (walk (act_rules plan heap) false next_of y r.meetings acts).outcome) same)
+        (ap (λ (y : Record). (walk (act_rules plan heap) false next_of y r.meetings acts).kept) (sym same) ∙ r.left) r.ends
 
   from-come : (m k : ℕ) → k + suc m ≡ parts blob → (w v : World D) (result : Outcome) → Stands k w → ActsSent means plan (parts_from k (suc m)) w v result → Came (parts_from k (suc m)) w v result
   from-come zero k all w v result s (mid, answer, e, more) = by (is_last blob k) refl (verdict answer) refl more

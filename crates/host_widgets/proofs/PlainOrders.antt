@@ -10,7 +10,7 @@ use Rattle.host_widgets.specs.declared.answers.HostFault.TheVariants.{NotLoaded,
 use Rattle.host_widgets.specs.declared.kept.Record.{Record}
 use Rattle.host_widgets.specs.HostActs.{Act, after}
 use Rattle.host_widgets.specs.Host.{Outcome}
-use Rattle.host_widgets.specs.OneAct.{performed, lag_of}
+use Rattle.host_widgets.specs.OneAct.{act_rules, performed, lag_of}
 use Rattle.host_widgets.specs.Walk.{Walked, walk, followed_by, goes_past}
 use Rattle.host_widgets.specs.ActCalls.{ActsDid, Onwards, next_of, calls_of}
 use Rattle.host_widgets.specs.Orders.{Order, Carried, Ends, Plain, plain_end}
@@ -56,10 +56,10 @@ module _ {D : Type 0} (means : Meaning D) (plan : Plan) (heap : ℕ) where
     -- an act of an outcome, and those behind it
     module _ (m : Meeting) (ms : List Meeting) (o : Outcome) where
       abbrev Behind : World D → World D → Bool → Type 0
-      Behind mid v b = Onwards b ms mid v (ActsDid means plan heap false (performed plan act kept (lag_of m) o).kept acts ms mid v)
+      Behind mid v b = Onwards b ms mid v (ActsDid means (act_rules plan heap) false (performed (act_rules plan heap) act kept (lag_of m) o).kept acts ms mid v)
 
-      abbrev whole : Bool → Walked (List Meeting)
-      whole b = followed_by act (performed plan act kept (lag_of m) o) ms b (walk plan heap false next_of (performed plan act kept (lag_of m) o).kept ms acts)
+      abbrev whole : Bool → Walked Record Act (List Meeting)
+      whole b = followed_by act (performed (act_rules plan heap) act kept (lag_of m) o) ms b (walk (act_rules plan heap) false next_of (performed (act_rules plan heap) act kept (lag_of m) o).kept ms acts)
 
     abbrev Comes : Meeting → List Meeting → World D → World D → World D → Record → Outcome → Outcome → Bool → Type 0
     Comes m ms mid sent v kept' result o b = Behind m ms o mid sent b × (result ≡ (whole m ms o b).outcome) × Ends means plan heap (plain (act ∷ acts) done) kept kept' sent v (whole m ms o b)
@@ -68,7 +68,7 @@ module _ {D : Type 0} (means : Meaning D) (plan : Plan) (heap : ℕ) where
     pub ends-with : (fault : HostFault) (kept' : Record) (v : World D) → ActCarried means plan heap act kept kept' w v (Err fault) → CarriedBy (act ∷ acts) done kept kept' w v (Err fault)
     ends-with fault kept' v x =
         let here : Comes x.meeting [] x.sent x.sent v kept' (Err fault) (Err fault) false = ((refl, refl), refl, subst (λ (end : Record × List Moment). (kept' ≡ end.0) × Led means x.sent (calls_of heap end.1) v) (same-end done kept fault) x.ends) in
-        let there = subst (λ (o : Outcome). Comes x.meeting [] x.sent x.sent v kept' (Err fault) o (goes_past false (performed plan act kept (lag_of x.meeting) o).outcome)) x.said
+        let there = subst (λ (o : Outcome). Comes x.meeting [] x.sent x.sent v kept' (Err fault) o (goes_past false (performed (act_rules plan heap) act kept (lag_of x.meeting) o).outcome)) x.said
         (subst (λ (b : Bool). Comes x.meeting [] x.sent x.sent v kept' (Err fault) (Err fault) b) (sym (ends-at fault)) here) in
         record { meetings = x.meeting ∷ []; begun = w; sent = x.sent; first = refl; walked = (x.sent, x.did, there.0); came = there.1; ends = there.2 }
 
@@ -76,9 +76,9 @@ module _ {D : Type 0} (means : Meaning D) (plan : Plan) (heap : ℕ) where
     pub goes-on : (k1 k2 : Record) (mid v : World D) (result : Outcome) → ActCarried means plan heap act kept k1 w mid (Ok tt) → CarriedBy acts done k1 k2 mid v result → CarriedBy (act ∷ acts) done kept k2 w v result
     goes-on k1 k2 mid v result x rest =
         let y : CarriedBy acts done (after plan act kept) k2 x.sent v result = subst (λ (p : Record × World D). CarriedBy acts done p.0 k2 p.1 v result) (λ i. (x.ends.0 i, x.ends.1 i)) rest in
-        let did = subst (λ (b : World D). ActsDid means plan heap false (after plan act kept) acts y.meetings b y.sent) y.first y.walked in
+        let did = subst (λ (b : World D). ActsDid means (act_rules plan heap) false (after plan act kept) acts y.meetings b y.sent) y.first y.walked in
         let here : Comes x.meeting y.meetings x.sent y.sent v k2 result (Ok tt) true = (did, y.came, y.ends) in
-        let there = subst (λ (o : Outcome). Comes x.meeting y.meetings x.sent y.sent v k2 result o (goes_past false (performed plan act kept (lag_of x.meeting) o).outcome)) x.said here in
+        let there = subst (λ (o : Outcome). Comes x.meeting y.meetings x.sent y.sent v k2 result o (goes_past false (performed (act_rules plan heap) act kept (lag_of x.meeting) o).outcome)) x.said here in
         record { meetings = x.meeting ∷ y.meetings; begun = w; sent = y.sent; first = refl; walked = (x.sent, x.did, there.0); came = there.1; ends = there.2 }
 
   -- one act alone

@@ -65,7 +65,7 @@ abbrev pub put_graph : Plan → Record → List Pair → Graph
 put_graph plan kept todo = record { comps = map (comp_while plan kept todo) plan.graph.comps; edges = plan.graph.edges; pipes = map begun plan.graph.pipes; joins = plan.graph.joins }
 
 -- what a component without a live control begins with is what is set at it
-bare-setting : (kind : Kind) (w : WidgetPlan) → first_setting (component_words kind None w) ≡ record_setting kind None
+pub bare-setting : (kind : Kind) (w : WidgetPlan) → first_setting (component_words kind None w) ≡ record_setting kind None
 bare-setting kinds.HostPlay w = refl
 bare-setting kind w = refl
 
@@ -86,16 +86,16 @@ puts-none plan sound kept are = λ i. record { comps = map-all (made_comp plan) 
 
 -- ---- what a control sets
 
-abbrev wanted : ControlKind → ControlRec → Setting
+abbrev pub wanted : ControlKind → ControlRec → Setting
 wanted (Volume min max channels lowest step mute) r = settings.Gains (map (control_gain (Volume min max channels lowest step mute)) r.values)
 wanted (Choice items) r = settings.Choice (get_or r.values 0 0)
 wanted (Blob most initial) r = settings.Blob r.blob
 wanted (Masks min max channels) r = settings.Masks (eight_masks r.values)
 
-abbrev with_kind : ℕ → ControlKind → ControlPlan
+abbrev pub with_kind : ℕ → ControlKind → ControlPlan
 with_kind id q = record { comp = id; kind = q }
 
-set-is : (id : ℕ) (q : ControlKind) (r : ControlRec) (kind : Kind) → IsControlOf q kind → record_setting kind (Some (with_kind id q, r)) ≡ wanted q r
+pub set-is : (id : ℕ) (q : ControlKind) (r : ControlRec) (kind : Kind) → IsControlOf q kind → record_setting kind (Some (with_kind id q, r)) ≡ wanted q r
 set-is id (Volume min max channels lowest step mute) r kind is = ap (λ (x : Kind). record_setting x (Some (with_kind id (Volume min max channels lowest step mute), r))) is.0
 set-is id (Choice items) r kind is = ap (λ (x : Kind). record_setting x (Some (with_kind id (Choice items), r))) is.0
 set-is id (Blob most initial) r kind is = ap (λ (x : Kind). record_setting x (Some (with_kind id (Blob most initial), r))) is.0
@@ -119,14 +119,14 @@ module _ (plan : Plan) (sound : IsSound plan) (kept : Record) (id : ℕ) (q : Co
     abbrev comp_by : Setting → Comp
     comp_by s = record { id = c.id; kind = c.kind; pipe = c.pipe; setting = s; ramp = c.ramp }
 
-    put-comp : with_setting id (wanted q r) (comp_while plan kept ((with_kind id q, r) ∷ ks) c) ≡ comp_while plan kept ks c
+    pub put-comp : with_setting id (wanted q r) (comp_while plan kept ((with_kind id q, r) ∷ ks) c) ≡ comp_while plan kept ks c
     put-comp = ap (λ (h : Bool). cond (c.id == id) (comp_by (wanted q r)) (comp_by (cond (h || list_any (λ (p : Pair). p.0.comp == c.id) ks) (first c) (record_setting c.kind (control_at plan kept c.id))))) (eqb_turned id c.id) ∙ by (c.id == id) refl
       where
         by : (h : Bool) → (c.id == id) ≡ h → cond h (comp_by (wanted q r)) (comp_by (cond (h || list_any (λ (p : Pair). p.0.comp == c.id) ks) (first c) (record_setting c.kind (control_at plan kept c.id)))) ≡ comp_while plan kept ks c
         by true e = let same : c.id ≡ id = eqb-true c.id id e in ap comp_by (sym (by-set same)) ∙ ap (λ (h : Bool). comp_by (cond h (first c) (record_setting c.kind (control_at plan kept c.id)))) (sym (rest-apart same))
         by false e = refl
 
-    kept-comp : ((w : WidgetPlan) (kind : Kind) → IsControlOf q kind → first_setting (component_words kind (Some (with_kind id q)) w) ≡ wanted q r) → comp_while plan kept ((with_kind id q, r) ∷ ks) c ≡ comp_while plan kept ks c
+    pub kept-comp : ((w : WidgetPlan) (kind : Kind) → IsControlOf q kind → first_setting (component_words kind (Some (with_kind id q)) w) ≡ wanted q r) → comp_while plan kept ((with_kind id q, r) ∷ ks) c ≡ comp_while plan kept ks c
     kept-comp stays = ap (λ (h : Bool). comp_by (cond (h || list_any (λ (p : Pair). p.0.comp == c.id) ks) (first c) (record_setting c.kind (control_at plan kept c.id)))) (eqb_turned id c.id) ∙ by (c.id == id) refl
       where
         by : (h : Bool) → (c.id == id) ≡ h → comp_by (cond (h || list_any (λ (p : Pair). p.0.comp == c.id) ks) (first c) (record_setting c.kind (control_at plan kept c.id))) ≡ comp_while plan kept ks c
@@ -205,7 +205,7 @@ module _ (plan : Plan) (sound : IsSound plan) (kept : Record) (id : ℕ) (q : Co
 
 -- ---- by kinds of controls
 
-volume-new : (n : ℕ) (values : List ℕ) → length values ≡ n → AreGains values → new_setting kinds.Volume (settings.Gains (replicate n 65536)) 0 values ≡ Some (settings.Gains values)
+pub volume-new : (n : ℕ) (values : List ℕ) → length values ≡ n → AreGains values → new_setting kinds.Volume (settings.Gains (replicate n 65536)) 0 values ≡ Some (settings.Gains values)
 volume-new n values same are =
     let long : length (replicate n 65536) ≡ n = length-replicate n 65536 in
     let lengths : (length values == length (replicate n 65536)) ≡ true = eq-eqb (length values) (length (replicate n 65536)) (same ∙ sym long) in

@@ -19,7 +19,7 @@ use Rattle.host_widgets.specs.Host.{Outcome, verdict}
 use Rattle.host_widgets.specs.Bringing.{Sent}
 use Rattle.host_widgets.specs.ActCalls.{ActsDid, Onwards, came_to}
 use Rattle.host_widgets.specs.ActCarried.{ActsSent}
-use Rattle.host_widgets.specs.OneAct.{one_act}
+use Rattle.host_widgets.specs.OneAct.{act_rules, one_act}
 use Rattle.host_widgets.specs.Walk.{goes_past}
 use Rattle.host_widgets.specs.declared.kept.Record.{Record}
 use Rattle.mbox_link.specs.Meetings.{Meeting}
@@ -85,13 +85,13 @@ module _ {D : Type 0} (means : Meaning D) (plan : Plan) where
         by (Err fault) end now go = subst Kept (sym end.0) now
 
     -- the same of acts by what they met
-    pub did-keep : (heap : ℕ) (goes_on : Bool) (acts : List Act) (ms : List Meeting) (now : Record) (w v : World D) → ActsDid means plan heap goes_on now acts ms w v → Kept w → Kept v
+    pub did-keep : (heap : ℕ) (goes_on : Bool) (acts : List Act) (ms : List Meeting) (now : Record) (w v : World D) → ActsDid means (act_rules plan heap) goes_on now acts ms w v → Kept w → Kept v
     did-keep heap goes_on [] ms now w v did kept = subst Kept (sym did.1) kept
     did-keep heap goes_on (act ∷ acts) [] now w v did kept = absurd did
     did-keep heap goes_on (act ∷ acts) (m ∷ ms) now w v (mid, d, on) kept =
-        by (goes_past goes_on (one_act plan heap now act m).outcome) on (each (message_spelling (act_message plan act)) d.answer w mid d.exchanged kept) (did-keep heap goes_on acts ms (one_act plan heap now act m).kept mid v)
+        by (goes_past goes_on (one_act (act_rules plan heap) now act m).outcome) on (each (message_spelling (act_message plan act)) d.answer w mid d.exchanged kept) (did-keep heap goes_on acts ms (one_act (act_rules plan heap) now act m).kept mid v)
       where
-        by : (b : Bool) → Onwards b ms mid v (ActsDid means plan heap goes_on (one_act plan heap now act m).kept acts ms mid v) → Kept mid → (ActsDid means plan heap goes_on (one_act plan heap now act m).kept acts ms mid v → Kept mid → Kept v) → Kept v
+        by : (b : Bool) → Onwards b ms mid v (ActsDid means (act_rules plan heap) goes_on (one_act (act_rules plan heap) now act m).kept acts ms mid v) → Kept mid → (ActsDid means (act_rules plan heap) goes_on (one_act (act_rules plan heap) now act m).kept acts ms mid v → Kept mid → Kept v) → Kept v
         by true rest at go = go rest at
         by false end at go = subst Kept (sym end.1) at
 
@@ -115,10 +115,10 @@ module _ {D : Type 0} (means : Meaning D) (plan : Plan) where
   sent-room = sent-keep HasPendingRoom room-stays
 
   -- for a caller that goes on behind acts
-  pub did-on : (heap : ℕ) (goes_on : Bool) (acts : List Act) (ms : List Meeting) (now : Record) (w v : World D) → ActsDid means plan heap goes_on now acts ms w v → IsOn w → IsOn v
+  pub did-on : (heap : ℕ) (goes_on : Bool) (acts : List Act) (ms : List Meeting) (now : Record) (w v : World D) → ActsDid means (act_rules plan heap) goes_on now acts ms w v → IsOn w → IsOn v
   did-on = did-keep IsOn on-stays
 
-  pub did-room : (heap : ℕ) (goes_on : Bool) (acts : List Act) (ms : List Meeting) (now : Record) (w v : World D) → ActsDid means plan heap goes_on now acts ms w v → HasPendingRoom w → HasPendingRoom v
+  pub did-room : (heap : ℕ) (goes_on : Bool) (acts : List Act) (ms : List Meeting) (now : Record) (w v : World D) → ActsDid means (act_rules plan heap) goes_on now acts ms w v → HasPendingRoom w → HasPendingRoom v
   did-room = did-keep HasPendingRoom room-stays
 
   -- ---- the turns of a loop over items that each are an act

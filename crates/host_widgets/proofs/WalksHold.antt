@@ -12,7 +12,7 @@ use Rattle.mbox_link.specs.Meetings.{Meeting}
 use Rattle.host_widgets.specs.declared.kept.Record.{Record}
 use Rattle.host_widgets.specs.HostActs.{Act, after, fresh_in}
 use Rattle.host_widgets.specs.ViewOf.{record_view}
-use Rattle.host_widgets.specs.OneAct.{Performed, performed, lag_of, own, outcome_by}
+use Rattle.host_widgets.specs.OneAct.{act_rules, Performed, performed, lag_of, own, outcome_by}
 use Rattle.host_widgets.specs.Walk.{Walked, walk, followed_by, goes_past, first_of}
 use Rattle.host_widgets.specs.ActCalls.{ActDid, ActsDid, Onwards, next_of}
 use Rattle.host_widgets.specs.Host.{IsRecordOf}
@@ -89,7 +89,7 @@ module _ {D : Type 0} (means : Meaning D) (plan : Plan) (heap : ℕ) (goes_on : 
   abbrev pub ReadBy : FwState → World D → World D → List Moment → Type 0
   ReadBy f w v moments = ReadsOn (Some f) w.io v.io moments
 
-  abbrev pub HeldBy : FwState → World D → World D → Walked (List Meeting) → Type 0
+  abbrev pub HeldBy : FwState → World D → World D → Walked Record Act (List Meeting) → Type 0
   HeldBy f w v walked = ByLink walked.outcome (Held f w v walked.kept walked.moments) (ReadBy f w v walked.moments)
 
   -- the first fault of a refusal and of what came behind it
@@ -117,15 +117,15 @@ module _ {D : Type 0} (means : Meaning D) (plan : Plan) (heap : ℕ) (goes_on : 
   by-map (Err (Refused d)) Up Up' Down Down' f g x = f x
   by-map (Err (Blob n)) Up Up' Down Down' f g x = f x
 
-  abbrev met_walk : Record → List Meeting → List Act → Walked (List Meeting)
-  met_walk kept ms acts = walk plan heap goes_on next_of kept ms acts
+  abbrev met_walk : Record → List Meeting → List Act → Walked Record Act (List Meeting)
+  met_walk kept ms acts = walk (act_rules plan heap) goes_on next_of kept ms acts
 
   -- what an act is followed by, where acts go on or end
   module _ (act : Act) (acts : List Act) (kept : Record) (ms : List Meeting) (ticks : List Moment) (f : FwState) (w mid v : World D) where
-    abbrev Behind : Performed → Bool → Type 0
-    Behind a b = Onwards b ms mid v (ActsDid means plan heap goes_on a.kept acts ms mid v)
+    abbrev Behind : Performed Record → Bool → Type 0
+    Behind a b = Onwards b ms mid v (ActsDid means (act_rules plan heap) goes_on a.kept acts ms mid v)
 
-    abbrev Left : Performed → Bool → Type 0
+    abbrev Left : Performed Record → Bool → Type 0
     Left a b = HeldBy f w v (followed_by act a ms b (met_walk a.kept ms acts))
 
     -- what is so behind it is so from its beginning
@@ -135,8 +135,8 @@ module _ {D : Type 0} (means : Meaning D) (plan : Plan) (heap : ℕ) (goes_on : 
         (behind f w mid v now then_kept ms' more first) (reads-by (Some f) (Some first.state) w.io mid.io v.io ms' more first.stands)
 
     -- after a refusal
-    refused : (e : _) (b : Bool) → (first : Held f w mid kept ticks) → Behind (performed plan act kept ticks (Err (Refused e))) b →
-        (b ≡ true → ActsDid means plan heap goes_on kept acts ms mid v → HeldBy first.state mid v (met_walk kept ms acts)) → Left (performed plan act kept ticks (Err (Refused e))) b
+    refused : (e : _) (b : Bool) → (first : Held f w mid kept ticks) → Behind (performed (act_rules plan heap) act kept ticks (Err (Refused e))) b →
+        (b ≡ true → ActsDid means (act_rules plan heap) goes_on kept acts ms mid v → HeldBy first.state mid v (met_walk kept ms acts)) → Left (performed (act_rules plan heap) act kept ticks (Err (Refused e))) b
     refused e true first did rest =
         let r = rest refl did in
         let w' = met_walk kept ms acts in
@@ -144,8 +144,8 @@ module _ {D : Type 0} (means : Meaning D) (plan : Plan) (heap : ℕ) (goes_on : 
     refused e false first did rest = subst (λ (x : World D). Held f w x kept ticks) (sym did.1) first
 
     -- after one that passed
-    passed : (now : Record) (ms' : List Moment) → (first : Held f w mid now ms') → ActsDid means plan heap goes_on now acts ms mid v →
-        (ActsDid means plan heap goes_on now acts ms mid v → HeldBy first.state mid v (met_walk now ms acts)) → HeldBy f w v (followed_by act (record { outcome = Ok tt; kept = now; moments = ms' }) ms true (met_walk now ms acts))
+    passed : (now : Record) (ms' : List Moment) → (first : Held f w mid now ms') → ActsDid means (act_rules plan heap) goes_on now acts ms mid v →
+        (ActsDid means (act_rules plan heap) goes_on now acts ms mid v → HeldBy first.state mid v (met_walk now ms acts)) → HeldBy f w v (followed_by act (record { outcome = Ok tt; kept = now; moments = ms' }) ms true (met_walk now ms acts))
     passed now ms' first did rest =
         let w' = met_walk now ms acts in
         later now ms' first w'.outcome w'.kept w'.moments (rest did)
@@ -153,7 +153,7 @@ module _ {D : Type 0} (means : Meaning D) (plan : Plan) (heap : ℕ) (goes_on : 
   -- ---- a walk
 
   -- what one act left, as a part of a walk
-  module _ (kept : Record) (act : Act) (is : IsTaken plan kept act) (acts : List Act) (m : Meeting) (w mid : World D) (did : ActDid means plan heap kept act m w mid) (f : FwState) (on : means.on w.device ≡ Some f) (keeps : KeepsRecord plan heap kept f) (ready : AreReady plan goes_on (act ∷ acts) f) where
+  module _ (kept : Record) (act : Act) (is : IsTaken plan kept act) (acts : List Act) (m : Meeting) (w mid : World D) (did : ActDid means (act_rules plan heap) kept act m w mid) (f : FwState) (on : means.on w.device ≡ Some f) (keeps : KeepsRecord plan heap kept f) (ready : AreReady plan goes_on (act ∷ acts) f) where
     abbrev HoldsOf : (FwState → Type 0) → Record → List Moment → Type 0
     HoldsOf So now moments = Holds means plan heap goes_on sound kept act is acts m w mid did f on keeps ready So now moments
 
@@ -165,11 +165,11 @@ module _ {D : Type 0} (means : Meaning D) (plan : Plan) (heap : ℕ) (goes_on : 
 
     -- a walk from here, by a state that is on and keeps a record
     abbrev Goes : World D → List Meeting → Record → Type 0
-    Goes v ms now = ActsDid means plan heap goes_on now acts ms mid v → (g : FwState) → means.on mid.device ≡ Some g → IsRecordOf plan now → KeepsRecord plan heap now g → AreReady plan goes_on acts g → HeldBy g mid v (met_walk now ms acts)
+    Goes v ms now = ActsDid means (act_rules plan heap) goes_on now acts ms mid v → (g : FwState) → means.on mid.device ≡ Some g → IsRecordOf plan now → KeepsRecord plan heap now g → AreReady plan goes_on acts g → HeldBy g mid v (met_walk now ms acts)
 
     by_outcome : (v : World D) (ms : List Meeting) → Goes v ms (after plan act kept) → (goes_on ≡ true → Goes v ms kept) → (o : Outcome) → ThenOf o →
-        Behind act acts kept ms (lag_of m) f w mid v (performed plan act kept (lag_of m) o) (goes_past goes_on (performed plan act kept (lag_of m) o).outcome) →
-        Left act acts kept ms (lag_of m) f w mid v (performed plan act kept (lag_of m) o) (goes_past goes_on (performed plan act kept (lag_of m) o).outcome)
+        Behind act acts kept ms (lag_of m) f w mid v (performed (act_rules plan heap) act kept (lag_of m) o) (goes_past goes_on (performed (act_rules plan heap) act kept (lag_of m) o).outcome) →
+        Left act acts kept ms (lag_of m) f w mid v (performed (act_rules plan heap) act kept (lag_of m) o) (goes_past goes_on (performed (act_rules plan heap) act kept (lag_of m) o).outcome)
     by_outcome v ms on_passed on_refused (Ok done) h more =
         let first = held (λ g. AreReady plan goes_on acts g) (after plan act kept) (lag_of m ++ Now (record_view plan (after plan act kept)) (fresh_in plan act) ∷ []) h in
         passed act acts kept ms (lag_of m) f w mid v (after plan act kept) (lag_of m ++ Now (record_view plan (after plan act kept)) (fresh_in plan act) ∷ []) first more (λ did. on_passed did first.state first.is_on first.record_now first.keeps_now h.so)
@@ -185,7 +185,7 @@ module _ {D : Type 0} (means : Meaning D) (plan : Plan) (heap : ℕ) (goes_on : 
     by_outcome v ms on_passed on_refused (Err (Range n)) h more = subst (λ (x : World D). Held f w x kept (lag_of m)) (sym more.1) (held (λ g. goes_on ≡ true → AreReady plan goes_on acts g) kept (lag_of m) h)
     by_outcome v ms on_passed on_refused (Err (Blob n)) h more = subst (λ (x : World D). Held f w x kept (lag_of m)) (sym more.1) (held (λ g. goes_on ≡ true → AreReady plan goes_on acts g) kept (lag_of m) h)
 
-  walk-by : (acts : List Act) (ms : List Meeting) (kept : Record) (w v : World D) → ActsDid means plan heap goes_on kept acts ms w v → HaveLaw plan goes_on kept acts → IsRecordOf plan kept →
+  walk-by : (acts : List Act) (ms : List Meeting) (kept : Record) (w v : World D) → ActsDid means (act_rules plan heap) goes_on kept acts ms w v → HaveLaw plan goes_on kept acts → IsRecordOf plan kept →
       (f : FwState) → means.on w.device ≡ Some f → KeepsRecord plan heap kept f → AreReady plan goes_on acts f → HeldBy f w v (met_walk kept ms acts)
   walk-by [] ms kept w v did are is f on keeps ready = none kept f w v on is keeps did.1
   walk-by (act ∷ acts) [] kept w v did are is f on keeps ready = absurd did
@@ -195,6 +195,6 @@ module _ {D : Type 0} (means : Meaning D) (plan : Plan) (heap : ℕ) (goes_on : 
       (λ goes more g g_on g_is g_keeps g_ready. walk-by acts ms kept did.0 v more (are.2 goes) g_is g g_on g_keeps g_ready)
       (outcome_by m.fate (own plan heap kept act)) (act-holds means plan heap goes_on sound kept act are.0 acts m w did.0 did.1 f on keeps ready) did.2
 
-  pub walk-holds : (acts : List Act) (ms : List Meeting) (kept : Record) (w v : World D) → ActsDid means plan heap goes_on kept acts ms w v → AreTaken plan goes_on kept acts → IsRecordOf plan kept →
+  pub walk-holds : (acts : List Act) (ms : List Meeting) (kept : Record) (w v : World D) → ActsDid means (act_rules plan heap) goes_on kept acts ms w v → AreTaken plan goes_on kept acts → IsRecordOf plan kept →
       (f : FwState) → means.on w.device ≡ Some f → KeepsRecord plan heap kept f → HeldBy f w v (met_walk kept ms acts)
   walk-holds acts ms kept w v did are is f on keeps = walk-by acts ms kept w v did are.each is f on keeps (are.ready f)

@@ -9,14 +9,11 @@ use Rattle.mbox_link.specs.declared.fates.Fate.{Fate}
 use Rattle.mbox_link.specs.declared.fates.Fate.TheVariants.{Pass, Refuse, Drop, Lose}
 use Rattle.mbox_link.specs.Exchange.{Rose}
 use Rattle.mbox_link.specs.Calls.{World, Meaning, Call, Boot, Cut, Tick, Exchanged}
-use Rattle.tplg_plan.specs.declared.plans.Plan.{Plan}
 use Rattle.host_widgets.specs.declared.answers.HostFault.{HostFault}
 use Rattle.host_widgets.specs.Host.{Outcome, verdict}
 use Rattle.mbox_link.specs.Meetings.{Meeting}
-use Rattle.host_widgets.specs.declared.kept.Record.{Record}
-use Rattle.host_widgets.specs.HostActs.{Act}
-use Rattle.host_widgets.specs.ActMessages.{act_message}
-use Rattle.host_widgets.specs.OneAct.{own, outcome_by, one_act}
+use Rattle.host_widgets.specs.ActRules.{ActRules}
+use Rattle.host_widgets.specs.OneAct.{outcome_by, one_act}
 use Rattle.host_widgets.specs.Walk.{goes_past}
 
 -- ---- one act
@@ -35,14 +32,14 @@ Counted means Lose old new = Rose (means.faults old) (means.faults new)
 
 -- One exchange with a device that is on, of the act's message, which is one that is written. What that met is what the exchange did: the
 -- ticks that `pending` fell by, and the fate that its answer shows.
-pub record ActDid {D : Type 0} (means : Meaning D) (plan : Plan) (heap : ℕ) (kept : Record) (act : Act) (m : Meeting) (w v : World D) : Type 0 where
+pub record ActDid {D S A : Type 0} (means : Meaning D) (rules : ActRules S A) (kept : S) (act : A) (m : Meeting) (w v : World D) : Type 0 where
   pub on : is_some (means.on w.device) ≡ true
-  pub message : IsMessage (act_message plan act)
+  pub message : IsMessage (rules.message act)
   pub answer : Option (List ℕ)
-  pub exchanged : Exchanged means (message_spelling (act_message plan act)) answer w v
+  pub exchanged : Exchanged means (message_spelling (rules.message act)) answer w v
   pub lag : m.lag ≡ means.pending w.device - means.pending v.device
   pub counted : Counted means m.fate w.device v.device
-  pub came : came_to (verdict answer) ≡ outcome_by m.fate (own plan heap kept act)
+  pub came : came_to (verdict answer) ≡ outcome_by m.fate (rules.own kept act)
 
 -- ---- acts, one after another
 
@@ -52,13 +49,13 @@ Onwards true ms w v Rest = Rest
 Onwards false ms w v Rest = (ms ≡ []) × (v ≡ w)
 
 -- these messages were sent, and no other call was made; each met this
-abbrev pub ActsDid : {D : Type 0} → Meaning D → Plan → ℕ → Bool → Record → List Act → List Meeting → World D → World D → Type 0
-ActsDid means plan heap goes_on kept [] ms w v = (ms ≡ []) × (v ≡ w)
-ActsDid means plan heap goes_on kept (act ∷ acts) [] w v = ⊥
-ActsDid {D} means plan heap goes_on kept (act ∷ acts) (m ∷ ms) w v =
-    (mid : World D) × ActDid means plan heap kept act m w mid ×
-    Onwards (goes_past goes_on (one_act plan heap kept act m).outcome) ms mid v
-    (ActsDid means plan heap goes_on (one_act plan heap kept act m).kept acts ms mid v)
+abbrev pub ActsDid : {D S A : Type 0} → Meaning D → ActRules S A → Bool → S → List A → List Meeting → World D → World D → Type 0
+ActsDid means rules goes_on kept [] ms w v = (ms ≡ []) × (v ≡ w)
+ActsDid means rules goes_on kept (act ∷ acts) [] w v = ⊥
+ActsDid {D} means rules goes_on kept (act ∷ acts) (m ∷ ms) w v =
+    (mid : World D) × ActDid means rules kept act m w mid ×
+    Onwards (goes_past goes_on (one_act rules kept act m).outcome) ms mid v
+    (ActsDid means rules goes_on (one_act rules kept act m).kept acts ms mid v)
 
 -- the meetings of messages, one after another
 abbrev pub next_of : List Meeting → Meeting × List Meeting

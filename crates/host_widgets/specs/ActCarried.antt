@@ -8,7 +8,7 @@ use Rattle.host_widgets.specs.declared.answers.HostFault.{HostFault}
 use Rattle.host_widgets.specs.declared.answers.HostFault.TheVariants.{LinkDown}
 use Rattle.host_widgets.specs.declared.kept.Record.{Record}
 use Rattle.host_widgets.specs.HostActs.{Act}
-use Rattle.host_widgets.specs.OneAct.{own, outcome_by, performed}
+use Rattle.host_widgets.specs.OneAct.{own, act_rules, outcome_by, performed}
 use Rattle.host_widgets.specs.ActCalls.{ActDid, came_to, calls_of}
 use Rattle.host_widgets.specs.Orders.{plain_end}
 use Rattle.host_widgets.specs.Host.{Outcome, verdict}
@@ -52,6 +52,6 @@ pub record Passes {D : Type 0} (means : Meaning D) (heap : ℕ) (request : List 
 pub record ActCarried {D : Type 0} (means : Meaning D) (plan : Plan) (heap : ℕ) (act : Act) (kept kept' : Record) (w v : World D) (result : Outcome) : Type 0 where
   pub meeting : Meeting
   pub sent : World D
-  pub did : ActDid means plan heap kept act meeting w sent
+  pub did : ActDid means (act_rules plan heap) kept act meeting w sent
   pub said : result ≡ outcome_by meeting.fate (own plan heap kept act)
-  pub ends : PlainEnd means heap result (performed plan act kept [] result).kept kept' sent v
+  pub ends : PlainEnd means heap result (performed (act_rules plan heap) act kept [] result).kept kept' sent v

@@ -5,7 +5,7 @@ use Rattle.std.specs.Option.{option_map}
 use Rattle.sof_base.specs.BlobFaults.{is_blob}
 use Rattle.sof_base.specs.declared.errno.Errno.{Errno}
 use Rattle.sof_base.specs.declared.format.Params.{Params}
-use Rattle.stream_law.specs.State.{view_of}
+use Rattle.stream_law.specs.State.{View, view_of}
 use Rattle.stream_law.specs.Ways.{is_live_phase, touch, same_shape, agree}
 use Rattle.ipc3_model.specs.declared.reply.Reply.{Reply}
 use Rattle.ipc3_model.specs.declared.reply.Body.TheVariants.{Nothing}
@@ -67,12 +67,16 @@ conflicts plan host p (s, r) =
 
 -- ---- both sides
 
--- the device by the record's power: on with the view that the record says, or off; a record that is unloaded is the
+-- the device by the record's power: on with the view that is expected, or off; a record that is unloaded is the
 -- first, and while the power is off no stream runs or is paused
+abbrev pub SidesBy : {D : Type 0} → Meaning D → Plan → View → Record → D → Power → Type 0
+SidesBy means plan view kept device Unloaded = (kept ≡ first_record plan) × (means.on device ≡ None)
+SidesBy means plan view kept device On = option_map view_of (means.on device) ≡ Some view
+SidesBy means plan view kept device Off = (list_any (λ s. is_live_phase (phase_of s.found)) kept.streams ≡ false) × (means.on device ≡ None)
+
+-- on with the view that the record says
 abbrev pub Sides : {D : Type 0} → Meaning D → Plan → Record → D → Power → Type 0
-Sides means plan kept device Unloaded = (kept ≡ first_record plan) × (means.on device ≡ None)
-Sides means plan kept device On = option_map view_of (means.on device) ≡ Some (record_view plan kept)
-Sides means plan kept device Off = (list_any (λ s. is_live_phase (phase_of s.found)) kept.streams ≡ false) × (means.on device ≡ None)
+Sides means plan kept device power = SidesBy means plan (record_view plan kept) kept device power
 
 -- what a command may set: a value for each channel of a volume, in its range; the number of one of a mux's items; a blob that is not
 -- longer than an equaliser takes; and a mask for each channel of a demux's control, in its range
@@ -98,7 +102,11 @@ pub record IsRecordOf (plan : Plan) (kept : Record) : Type 0 where
   pub each : list_all (λ r. may_have r.found r.params) kept.streams ≡ true
   pub shapes : agree (record_view plan kept) ≡ true
 
--- the record and the device agree
-pub record Agrees {D : Type 0} (means : Meaning D) (plan : Plan) (kept : Record) (device : D) : Type 0 where
+-- the record and the device agree, where this view is expected while the power is on
+pub record AgreesBy {D : Type 0} (means : Meaning D) (plan : Plan) (view : View) (kept : Record) (device : D) : Type 0 where
   pub record_is : IsRecordOf plan kept
-  pub sides : Sides means plan kept device kept.power
+  pub sides : SidesBy means plan view kept device kept.power
+
+-- the view that the record says
+abbrev pub Agrees : {D : Type 0} → Meaning D → Plan → Record → D → Type 0
+Agrees means plan kept device = AgreesBy means plan (record_view plan kept) kept device

@@ -14,13 +14,16 @@ pub mod Keeps
 pub mod Host
 pub mod IdleStreams
 pub mod Bringing
+pub mod ActRules
 pub mod OneAct
 pub mod Walk
 pub mod ActCalls
 pub mod Orders
 pub mod TestedOrders
+pub mod Routines
 pub mod Named
 pub mod ActCarried
+pub mod AnsweredOrders
 pub mod WalkRows
 pub mod Sides
 pub mod NeedLaws

@@ -14,6 +14,7 @@ use Rattle.mbox_link.specs.Meetings.{Meeting}
 use Rattle.host_widgets.specs.declared.kept.Record.{Record}
 use Rattle.host_widgets.specs.Kept.{first_record, with_power, went_down}
 use Rattle.host_widgets.specs.HostActs.{Act}
+use Rattle.host_widgets.specs.OneAct.{act_rules}
 use Rattle.host_widgets.specs.Walk.{Walked, walk}
 use Rattle.host_widgets.specs.ActCalls.{ActsDid, next_of, calls_of}
 use Rattle.host_widgets.specs.ActLists.{bring_up, bring_back, go_down}
@@ -94,7 +95,7 @@ ticking kept = record { first = where_on kept.power (Tick ∷ []); acts = []; ma
 -- ---- over any device
 
 -- what a walk left is ended: the record, and the calls of the last moments
-abbrev pub Ends : {D : Type 0} → Meaning D → Plan → ℕ → Order → Record → Record → World D → World D → Walked (List Meeting) → Type 0
+abbrev pub Ends : {D : Type 0} → Meaning D → Plan → ℕ → Order → Record → Record → World D → World D → Walked Record Act (List Meeting) → Type 0
 Ends means plan heap o kept kept' w v walked =
     let end = end_by o.manner plan o.done kept walked.kept walked.outcome in (kept' ≡ end.0) × Led means w (calls_of heap end.1) v
 
@@ -105,9 +106,9 @@ pub record Carried {D : Type 0} (means : Meaning D) (plan : Plan) (heap : ℕ) (
   pub begun : World D
   pub sent : World D
   pub first : Led means w (calls_of heap o.first) begun
-  pub walked : ActsDid means plan heap (goes_on_after_refusal o.manner) kept o.acts meetings begun sent
-  pub came : result ≡ (walk plan heap (goes_on_after_refusal o.manner) next_of kept meetings o.acts).outcome
-  pub ends : Ends means plan heap o kept kept' sent v (walk plan heap (goes_on_after_refusal o.manner) next_of kept meetings o.acts)
+  pub walked : ActsDid means (act_rules plan heap) (goes_on_after_refusal o.manner) kept o.acts meetings begun sent
+  pub came : result ≡ (walk (act_rules plan heap) (goes_on_after_refusal o.manner) next_of kept meetings o.acts).outcome
+  pub ends : Ends means plan heap o kept kept' sent v (walk (act_rules plan heap) (goes_on_after_refusal o.manner) next_of kept meetings o.acts)
 
 -- ---- a call, by its test
 

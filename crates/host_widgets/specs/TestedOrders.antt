@@ -7,6 +7,7 @@ use Rattle.host_widgets.specs.Host.{Outcome}
 use Rattle.mbox_link.specs.Meetings.{Meeting}
 use Rattle.host_widgets.specs.declared.kept.Record.{Record}
 use Rattle.host_widgets.specs.HostActs.{Act}
+use Rattle.host_widgets.specs.OneAct.{act_rules}
 use Rattle.host_widgets.specs.Walk.{walk}
 use Rattle.host_widgets.specs.ActCalls.{ActsDid, next_of}
 use Rattle.host_widgets.specs.Orders.{Order, Carried}
@@ -15,9 +16,9 @@ use Rattle.host_widgets.specs.Orders.{Order, Carried}
 -- they came to this, and left this record.
 pub record ActsCame {D : Type 0} (means : Meaning D) (plan : Plan) (heap : ℕ) (past_refusals : Bool) (acts : List Act) (kept kept' : Record) (w v : World D) (result : Outcome) : Type 0 where
   pub meetings : List Meeting
-  pub did : ActsDid means plan heap past_refusals kept acts meetings w v
-  pub came : result ≡ (walk plan heap past_refusals next_of kept meetings acts).outcome
-  pub left : kept' ≡ (walk plan heap past_refusals next_of kept meetings acts).kept
+  pub did : ActsDid means (act_rules plan heap) past_refusals kept acts meetings w v
+  pub came : result ≡ (walk (act_rules plan heap) past_refusals next_of kept meetings acts).outcome
+  pub left : kept' ≡ (walk (act_rules plan heap) past_refusals next_of kept meetings acts).kept
 
 -- where the test tells a fault, that is answered, with nothing changed and no call made; else the order is carried out
 pub record Tested {D : Type 0} (means : Meaning D) (plan : Plan) (heap : ℕ) (test : Option HostFault) (o : Order) (kept kept' : Record) (w v : World D) (result : Outcome) : Type 0 where

@@ -13,6 +13,8 @@ use Rattle.host_widgets.specs.declared.kept.Power.TheVariants.{On}
 use Rattle.host_widgets.specs.declared.kept.Record.{Record}
 use Rattle.host_widgets.specs.HostRecord.{no_caps}
 use Rattle.host_widgets.specs.ActLists.{close_by, go_down}
+use Rattle.host_widgets.specs.HostActs.{Act}
+use Rattle.host_widgets.specs.OneAct.{act_rules}
 use Rattle.host_widgets.specs.Walk.{Walked, walk}
 
 -- one stream that plays, of host 0
@@ -42,9 +44,9 @@ abbrev pub meets : ℕ → Fate → Entry
 meets number fate = record { number = number; fate = fate; lag = 0 }
 
 -- a stream that runs is closed
-abbrev pub closing : List Entry → Walked Queue
-closing entries = walk one_plan 0 false (next_meeting calm) (one_stream Running) (ahead entries) (close_by 0 Running)
+abbrev pub closing : List Entry → Walked Record Act Queue
+closing entries = walk (act_rules one_plan 0) false (next_meeting calm) (one_stream Running) (ahead entries) (close_by 0 Running)
 
 -- the device goes down while it runs, and goes on after a refusal
-abbrev pub going_down : List Entry → Walked Queue
-going_down entries = walk one_plan 0 true (next_meeting calm) (one_stream Running) (ahead entries) (go_down one_plan (one_stream Running))
+abbrev pub going_down : List Entry → Walked Record Act Queue
+going_down entries = walk (act_rules one_plan 0) true (next_meeting calm) (one_stream Running) (ahead entries) (go_down one_plan (one_stream Running))

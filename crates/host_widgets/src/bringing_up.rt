@@ -90,8 +90,8 @@ fn put_controls<P: Dsp>(
     Ok(())
 }
 
-// Sets a live control: by its values, or by the parts of its blob where it has one.
-fn put_control<P: Dsp>(
+/// Sets a live control: by its values, or by the parts of its blob where it has one. Nothing is cut.
+pub fn put_control<P: Dsp>(
     plan: &Plan,
     control: &ControlPlan,
     kept: &ControlRec,

@@ -114,7 +114,7 @@ fn made_pipe(plan: &Plan, id: u32, words: &WidgetPlan) -> Option<Message>
         .map(|pipe| pipe_message(id, words, pipe.sched, pipe.period))
 }
 
-// The message that makes what an id names: a component, or else a buffer, or else a pipeline.
+/// The message that makes what an id names: a component, or else a buffer, or else a pipeline.
 pub fn make_message(plan: &Plan, id: u32, words: &WidgetPlan) -> Message
     ensures { result ≡ acts.make_message plan.now id words.now }
 {

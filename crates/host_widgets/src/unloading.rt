@@ -43,8 +43,8 @@ fn reset_all(plan: &Plan, controls: &mut Items<ControlRec>)
     }
 }
 
-// Nothing is loaded.
-fn forget(plan: &Plan, kept: &mut Record)
+/// The record is as before the first load.
+pub fn forget(plan: &Plan, kept: &mut Record)
     requires plan { IsSound plan.now }
     requires kept { IsRecordOf plan.now kept.old }
     ensures { kept.new ≡ first_record plan.now }

@@ -24,6 +24,7 @@ use Rattle.host_widgets.specs.declared.kept.ControlRec.{ControlRec}
 use Rattle.host_widgets.specs.declared.kept.Power.{Power}
 use Rattle.host_widgets.specs.declared.kept.Power.TheVariants as powers
 use Rattle.host_widgets.specs.declared.kept.Record.{Record}
+use Rattle.host_widgets.specs.OneAct.{act_rules}
 use Rattle.host_widgets.specs.ActCalls.{next_of, calls_of}
 use Rattle.host_widgets.specs.ActCarried.{PlainEnd}
 use Rattle.host_widgets.specs.ActLists.{part_acts}
@@ -77,7 +78,7 @@ is-powered means plan kept device agrees power =
     ap is_some s.1
 
 -- a blob that is there twice is there
-twice : (comp : ℕ) (blob : List ℕ) (ks : List ControlPlan) (rs : List ControlRec) →
+pub twice : (comp : ℕ) (blob : List ℕ) (ks : List ControlPlan) (rs : List ControlRec) →
     changed (λ (k : ControlPlan). k.comp) comp (with_blob blob) ks (changed (λ (k : ControlPlan). k.comp) comp (with_blob blob) ks rs) ≡ changed (λ (k : ControlPlan). k.comp) comp (with_blob blob) ks rs
 twice comp blob [] rs = refl
 twice comp blob (k ∷ ks) [] = refl
@@ -160,7 +161,7 @@ module _ (plan : Plan) (sound : IsSound plan) (kept : Record) (is : IsRecordOf p
       abbrev EndsSo : Record → World D → Record → Outcome → Type 0
       EndsSo kept' u so o = let end = plain_end (with_control plan k.comp (with_blob blob)) so o in (kept' ≡ end.0) × Led means x.sent (calls_of heap end.1) u
 
-      carried : (kept' : Record) (o : Outcome) (walked : Record) → result ≡ o → (walk plan heap false next_of kept came.meetings (part_acts k.comp blob)).kept ≡ walked → EndsSo kept' v walked o → CarriedSo kept' v result
+      carried : (kept' : Record) (o : Outcome) (walked : Record) → result ≡ o → (walk (act_rules plan heap) false next_of kept came.meetings (part_acts k.comp blob)).kept ≡ walked → EndsSo kept' v walked o → CarriedSo kept' v result
       carried kept' o walked is_o is_walked ends =
           subst (λ (p : Power). Carried means plan heap (sends p (part_acts k.comp blob) (with_control plan k.comp (with_blob blob)) Done) kept kept' w v result) (sym power)
           (answering means plan heap (plain (part_acts k.comp blob) (with_control plan k.comp (with_blob blob))) Done kept kept' w v result record {
@@ -180,7 +181,7 @@ module _ (plan : Plan) (sound : IsSound plan) (kept : Record) (is : IsRecordOf p
       pub parts-done : result ≡ Ok tt → (kept' : Record) → kept' ≡ with_blob_here i blob mid → Both kept' v (Ok tt)
       parts-done ok kept' so = (
         subst (CarriedSo kept' v) ok
-            (carried kept' (Ok tt) now ok (subst (λ (o : Outcome). (walk plan heap false next_of kept came.meetings (part_acts k.comp blob)).kept ≡ left_by means plan heap kept k.comp (id-low plan sound kept is i low) (set_comp plan kept here.comp) there-set an-equaliser blob a-blob o) ok came.left)
+            (carried kept' (Ok tt) now ok (subst (λ (o : Outcome). (walk (act_rules plan heap) false next_of kept came.meetings (part_acts k.comp blob)).kept ≡ left_by means plan heap kept k.comp (id-low plan sound kept is i low) (set_comp plan kept here.comp) there-set an-equaliser blob a-blob o) ok came.left)
             (is_now ∙ now-twice, passed.1)),
         subst (λ (y : Record). Agrees means plan y v.device) (sym is_now) record { record_is = now-record; sides = subst (λ (p : Power). Sides means plan now v.device p) (sym power) shown },
       )
@@ -201,7 +202,7 @@ module _ (plan : Plan) (sound : IsSound plan) (kept : Record) (is : IsRecordOf p
       pub parts-ended : (fault : HostFault) → result ≡ Err fault → Both mid v (Err fault)
       parts-ended fault failed = (
         subst (CarriedSo mid v) failed
-            (carried mid (Err fault) kept failed (subst (λ (o : Outcome). (walk plan heap false next_of kept came.meetings (part_acts k.comp blob)).kept ≡ left_by means plan heap kept k.comp (id-low plan sound kept is i low) (set_comp plan kept here.comp) there-set an-equaliser blob a-blob o) failed came.left)
+            (carried mid (Err fault) kept failed (subst (λ (o : Outcome). (walk (act_rules plan heap) false next_of kept came.meetings (part_acts k.comp blob)).kept ≡ left_by means plan heap kept k.comp (id-low plan sound kept is i low) (set_comp plan kept here.comp) there-set an-equaliser blob a-blob o) failed came.left)
             (subst (λ (end : Record × List Moment). (mid ≡ end.0) × Led means x.sent (calls_of heap end.1) v) (same-end (with_control plan k.comp (with_blob blob)) kept fault) ended)),
         by fault ended (subst (λ (o : Outcome). Ending means plan heap kept k.comp (id-low plan sound kept is i low) (set_comp plan kept here.comp) there-set an-equaliser blob a-blob x.sent o) failed came.ends),
       )

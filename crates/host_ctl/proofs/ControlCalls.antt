@@ -1,10 +1,10 @@
 -- One act of each kind, for the control at a place of a sound plan.
-use Rattle.std.proofs.Common.{◌≡◌, ⊎_elim, refl, sym, ap, subst, ◌∙◌, ℕ, ◌<◌, ◌≤◌, ◌-◌, zero, suc, List, [], ◌∷◌, length, get_or, Option, Some, Result, Ok, Err, pos, arith}
+use Rattle.std.proofs.Common.{◌≡◌, ⊎_elim, refl, sym, ap, subst, ◌∙◌, ℕ, ◌<◌, ◌≤◌, zero, suc, List, [], ◌∷◌, length, get_or, Option, Some, Result, Ok, Err, true, pos, arith}
+use Rattle.std.specs.Prelude.{is_some}
 use Rattle.std.specs.Option.{option_map, option_and_then}
 use Rattle.std.proofs.lemmas.Bool.{le-leb}
-use Rattle.sof_base.specs.Ports.{Io}
 use Rattle.stream_law.specs.declared.graph.Comp.{Comp}
-use Rattle.stream_law.specs.State.{FwState, view_of}
+use Rattle.stream_law.specs.State.{FwState}
 use Rattle.stream_law.specs.Ways.{comp_of}
 use Rattle.ipc3_model.specs.declared.message.Message.{Message}
 use Rattle.ipc3_model.specs.declared.message.Message.TheVariants.{GetValue}
@@ -14,7 +14,6 @@ use Rattle.ipc3_model.specs.declared.reply.Reply.{Reply}
 use Rattle.ipc3_model.specs.Messages.{message_spelling, decoded}
 use Rattle.ipc3_model.proofs.Spelled.{decoded_reply-exactly}
 use Rattle.mbox_link.specs.Step.{body_of, values_body}
-use Rattle.mbox_link.specs.Exchange.{ticks}
 use Rattle.mbox_link.specs.Calls.{World, Meaning}
 use Rattle.tplg_plan.specs.declared.plans.Plan.{Plan}
 use Rattle.tplg_plan.specs.declared.plans.ControlPlan.{ControlPlan}
@@ -24,29 +23,28 @@ use Rattle.tplg_plan.specs.Sound.{IsSound}
 use Rattle.host_widgets.specs.declared.answers.Answer.TheVariants as answers
 use Rattle.host_widgets.specs.declared.answers.HostFault.{HostFault}
 use Rattle.host_widgets.specs.declared.answers.HostFault.TheVariants.{Refused, LinkDown}
-use Rattle.host_widgets.specs.declared.kept.Power.{Power}
 use Rattle.host_widgets.specs.declared.kept.Power.TheVariants.{On}
 use Rattle.host_widgets.specs.declared.kept.Record.{Record}
 use Rattle.host_widgets.specs.declared.kept.ControlRec.{ControlRec}
 use Rattle.host_widgets.specs.HostActs.{Act, Put, Ask}
 use Rattle.host_widgets.specs.ActMessages.{act_message, set_message}
-use Rattle.host_widgets.specs.ViewOf.{record_view, set_comp}
-use Rattle.host_widgets.specs.Host.{Outcome, Agrees, Sides, verdict, judged, errno}
+use Rattle.host_widgets.specs.ViewOf.{set_comp}
+use Rattle.host_widgets.specs.Host.{Outcome, Agrees, IsRecordOf, verdict, judged, errno}
 use Rattle.host_widgets.specs.ActCalls.{came_to}
 use Rattle.host_widgets.specs.ActCarried.{Replied, Passes, PlainEnd, ActCarried}
-use Rattle.host_widgets.proofs.ActsCome.{still}
-use Rattle.host_widgets.proofs.ActSteps.{state-with, done, ended}
-use Rattle.host_widgets.proofs.Effects.{decoded-message}
+use Rattle.host_widgets.proofs.ActSteps.{done, ended}
+use Rattle.host_widgets.proofs.Effects.{decoded-message, row-decoded}
 use Rattle.host_widgets.proofs.Exchanges.{came, verdict-number}
 use Rattle.host_widgets.proofs.GreatestGains.{AreGains, value-slots}
 use Rattle.host_widgets.proofs.OneMessage.{passes}
 use Rattle.host_widgets.proofs.ReplyErrors.{done_reply, zero-fits}
 use Rattle.host_ctl.specs.ControlOrders.{control_answer}
-use Rattle.host_ctl.specs.ControlAnswers.{MaySet, value_command, carried_by, setting_answer, Shows}
+use Rattle.host_ctl.specs.ControlAnswers.{HasSet, IsSetAt, MaySet, value_command, carried_by, setting_answer, Shows}
 use Rattle.host_ctl.specs.ControlAsks.{named_control}
 use Rattle.host_ctl.specs.ControlPlaces.{no_control, no_values, control_here, record_here, with_values_at}
+use Rattle.host_ctl.proofs.ControlShown.{IsThere, before, before-there, has-there, left-set, state}
 use Rattle.host_ctl.proofs.ControlsThere.{live, place-changed}
-use Rattle.host_ctl.proofs.ControlsTaken.{put-shown, put-comes, puts, asks, ask-fits, ask-shown, ask-comes, found-in, shown-in}
+use Rattle.host_ctl.proofs.ControlsTaken.{put-shown, put-comes, puts, asks, ask-fits, ask-shown, ask-stays, ask-comes, shown-here}
 use Rattle.host_ctl.proofs.PutAnswers.{values_by, values-at, values-fit, set-said}
 
 -- the control at a place, as it is read from the plan's list
@@ -132,55 +130,66 @@ module _ {D : Type 0} (means : Meaning D) (plan : Plan) (sound : IsSound plan) (
     ask-ended fault is =
         ended means plan heap kept ask (ask-shown plan sound kept agrees.record_is i low command at) (ask-comes plan sound kept agrees.record_is i low command at heap) w agrees power kept' v (came_to result) x fault (ap came_to is)
 
-    -- the state and the endpoints right before the message
-    state : (f : FwState) × (means.on w.device ≡ Some f) × (view_of f ≡ record_view plan kept)
-    state = state-with (means.on w.device) (record_view plan kept) (subst (λ (x : Power). Sides means plan kept w.device x) power agrees.sides)
+-- ---- what the firmware has, where it has the component of the control as the record sets it
 
-    abbrev before : FwState × Io
-    before = ticks (means.pending w.device - means.pending h'.sent.device) (state.0, w.io)
+module _ {D : Type 0} (means : Meaning D) (plan : Plan) (sound : IsSound plan) (heap i : ℕ) (low : i < length plan.controls) (kept : Record) (is : IsRecordOf plan kept) where
+  abbrev control : ControlPlan
+  control = control_here plan i
 
-    shows : view_of before.0 ≡ record_view plan kept
-    shows = still (means.pending w.device - means.pending h'.sent.device) (state.0, w.io) ∙ state.2
+  module _ (w : World D) (on : is_some (means.on w.device) ≡ true) (set : IsSetAt means plan kept control.comp w.device)
+      (command : ℕ) (at : value_command control.kind ≡ Some command) (message : Message) (comp : ControlPlan) (message-is : message ≡ GetValue comp.comp command) (comp-is : comp ≡ control) (kept' : Record) (v : World D) (result : Result Reply HostFault) (h : Replied means heap (message_spelling message) kept kept' w v result) where
+    abbrev asking : Act
+    asking = Ask control.comp 0
+
+    h'' : Replied means heap (message_spelling (act_message plan asking)) kept kept' w v result
+    h'' = subst (λ (m : Message). Replied means heap (message_spelling m) kept kept' w v result) (message-is ∙ ap (λ (y : ControlPlan). GetValue y.comp command) comp-is ∙ sym (asks plan sound kept is i low command at)) h
+
+    abbrev now : FwState
+    now = (before plan sound kept is i low means w on set h''.sent).0
+
+    there : IsThere plan sound kept is i low now
+    there = before-there plan sound kept is i low means w on set h''.sent
 
     abbrev vs : List ℕ
-    vs = values_by (record_here kept i) k.kind
+    vs = values_by (record_here kept i) control.kind
 
     -- the firmware's reply carries what the control has there
-    body-is : body_of before.0 (decoded (message_spelling (act_message plan ask))) ≡ Values vs
+    body-is : body_of now (decoded (message_spelling (act_message plan asking))) ≡ Values vs
     body-is =
-        ap (body_of before.0) (decoded-message (act_message plan ask) (ask-fits plan sound kept agrees.record_is i low command at))
-        ∙ ap (λ (m : Message). body_of before.0 (Ok m)) (asks plan sound kept agrees.record_is i low command at)
-        ∙ ap values_body (values-at before.0 k.comp (set_comp plan kept (live plan sound kept agrees.record_is i low).comp) (found-in plan sound kept agrees.record_is i low before.0 shows) (record_here kept i) k.kind command (shown-in plan sound kept agrees.record_is i low before.0 shows) at)
+        ap (body_of now) (decoded-message (act_message plan asking) (ask-fits plan sound kept is i low command at))
+        ∙ ap (λ (m : Message). body_of now (Ok m)) (asks plan sound kept is i low command at)
+        ∙ ap values_body (values-at now control.comp (set_comp plan kept (live plan sound kept is i low).comp) there (record_here kept i) control.kind command (shown-here plan sound kept is i low) at)
 
-    read-back : verdict (Some (done_reply (body_of before.0 (decoded (message_spelling (act_message plan ask)))))) ≡ Ok (record { error = pos 0; body = Values vs })
+    read-back : verdict (Some (done_reply (body_of now (decoded (message_spelling (act_message plan asking)))))) ≡ Ok (record { error = pos 0; body = Values vs })
     read-back =
-        let fit = values-fit before.0 k.comp (set_comp plan kept (live plan sound kept agrees.record_is i low).comp) (found-in plan sound kept agrees.record_is i low before.0 shows) (record_here kept i) k.kind command (shown-in plan sound kept agrees.record_is i low before.0 shows) at in
+        let fit = values-fit now control.comp (set_comp plan kept (live plan sound kept is i low).comp) there (record_here kept i) control.kind command (shown-here plan sound kept is i low) at in
         ap (λ (b : Body). verdict (Some (done_reply b))) body-is ∙ values-read vs fit.0 fit.1 fit.2
 
-    pub ask-said : (reply : Reply) → result ≡ Ok reply → carried_by reply.body ≡ control_answer k.kind (record_here kept i)
-    ask-said reply is = ⊎_elim
-        (λ took. (let same : Ok reply ≡ Ok (record { error = pos 0; body = Values vs }) = sym is ∙ h'.said ∙ ap verdict took.said ∙ read-back in
+    pub ask-said : (reply : Reply) → result ≡ Ok reply → (carried_by reply.body ≡ control_answer control.kind (record_here kept i)) × HasSet means plan kept control.comp v.device
+    ask-said reply ok = ⊎_elim
+        (λ took. (let same : Ok reply ≡ Ok (record { error = pos 0; body = Values vs }) = sym ok ∙ h''.said ∙ ap verdict took.said ∙ read-back in
         let one : reply ≡ record { error = pos 0; body = Values vs } = cc same in
-        ap (λ (r : Reply). carried_by r.body) one ∙ said-values (record_here kept i) k.kind command vs at refl))
+        let end : v ≡ h''.sent = (subst (λ (r : Result Reply HostFault). PlainEnd means heap (came_to r) kept kept' h''.sent v) ok h''.ends).1 in
+        let stays = ask-stays plan sound kept is i low command at now took.next (sym (row-decoded now (act_message plan asking) (ask-fits plan sound kept is i low command at)) ∙ took.row) in (
+          ap (λ (r : Reply). carried_by r.body) one ∙ said-values (record_here kept i) control.kind command vs at refl,
+          subst (λ (x : World D). HasSet means plan kept control.comp x.device) (sym end) (left-set plan sound kept is i low means w on set h''.sent took.next took.on stays),
+        )))
         (λ rest. ⊎_elim
-        (λ it. absurd (let no : Ok reply ≡ Err (Refused (errno it.error)) = sym is ∙ h'.said ∙ ap verdict it.said ∙ verdict-number it.error it.number in cc no))
+        (λ it. absurd (let no : Ok reply ≡ Err (Refused (errno it.error)) = sym ok ∙ h''.said ∙ ap verdict it.said ∙ verdict-number it.error it.number in cc no))
         (λ rest. ⊎_elim
-        (λ it. absurd (let no : Ok reply ≡ Err (Refused (errno it.error)) = sym is ∙ h'.said ∙ ap verdict it.said ∙ verdict-number it.error it.number in cc no))
-        (λ it. absurd (let no : Ok reply ≡ Err LinkDown = sym is ∙ h'.said ∙ ap verdict it.said in cc no))
+        (λ it. absurd (let no : Ok reply ≡ Err (Refused (errno it.error)) = sym ok ∙ h''.said ∙ ap verdict it.said ∙ verdict-number it.error it.number in cc no))
+        (λ it. absurd (let no : Ok reply ≡ Err LinkDown = sym ok ∙ h''.said ∙ ap verdict it.said in cc no))
         rest) rest)
-        (came means (message_spelling (act_message plan ask)) h'.answer w h'.sent state.0 state.1 h'.exchanged).way
+        (came means (message_spelling (act_message plan asking)) h''.answer w h''.sent (state plan sound kept is i low means w on set).0 (state plan sound kept is i low means w on set).1 h''.exchanged).way
 
-  -- ---- what the firmware has
-
-  pub said-shown : (name : List ℕ) → named_control plan name ≡ Some k → Shows plan name (control_answer k.kind (record_here kept i)) (means.on w.device)
-  said-shown name named =
-      let s = state-with (means.on w.device) (record_view plan kept) (subst (λ (x : Power). Sides means plan kept w.device x) power agrees.sides) in
-      subst (λ (on : Option FwState). Shows plan name (control_answer k.kind (record_here kept i)) on) (sym s.1) (shown-by s.0 s.2)
+  -- it tells this
+  pub said-shown : (device : D) → HasSet means plan kept control.comp device → (name : List ℕ) → named_control plan name ≡ Some control → Shows plan name (control_answer control.kind (record_here kept i)) (means.on device)
+  said-shown device has name named =
+      let s = has-there plan sound kept is i low means device has in
+      subst (λ (o : Option FwState). Shows plan name (control_answer control.kind (record_here kept i)) o) (sym s.1) (shown-by s.0 s.2)
     where
-      shown-by : (f : FwState) → view_of f ≡ record_view plan kept → Shows plan name (control_answer k.kind (record_here kept i)) (Some f)
-      shown-by f shows =
-          let y = set_comp plan kept (live plan sound kept agrees.record_is i low).comp in
-          let there = found-in plan sound kept agrees.record_is i low f shows in
+      shown-by : (f : FwState) → IsThere plan sound kept is i low f → Shows plan name (control_answer control.kind (record_here kept i)) (Some f)
+      shown-by f there =
           ap (option_and_then (λ (k : ControlPlan). option_map (λ (c : Comp). setting_answer c.setting) (comp_of f.graph k.comp))) named
           ∙ ap (option_map (λ (c : Comp). setting_answer c.setting)) there
-          ∙ ap Some (set-said f k.comp y there (record_here kept i) k.kind (shown-in plan sound kept agrees.record_is i low f shows))
+          ∙ ap Some (set-said f control.comp (set_comp plan kept (live plan sound kept is i low).comp) there (record_here kept i) control.kind (shown-here plan sound kept is i low))

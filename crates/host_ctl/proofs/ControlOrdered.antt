@@ -15,10 +15,10 @@ use Rattle.host_widgets.specs.declared.kept.Record.{Record}
 use Rattle.host_widgets.specs.declared.kept.ControlRec.{ControlRec}
 use Rattle.host_widgets.specs.Kept.{changed, control_at, with_control}
 use Rattle.host_widgets.specs.HostActs.{Act, Put, Ask, with_values}
-use Rattle.host_widgets.specs.Host.{Outcome, Agrees, Sides}
+use Rattle.host_widgets.specs.Host.{Outcome, Agrees, IsRecordOf, Sides}
 use Rattle.host_widgets.specs.Orders.{Carried, quiet, sends}
 use Rattle.host_widgets.specs.ActCarried.{PlainEnd, ActCarried}
-use Rattle.host_widgets.specs.OneAct.{performed}
+use Rattle.host_widgets.specs.OneAct.{act_rules, performed}
 use Rattle.host_widgets.proofs.PlainOrders.{plain, no-acts}
 use Rattle.host_widgets.proofs.OneOrder.{one-order, answering}
 use Rattle.host_ctl.specs.ControlAsks.{named_control}
@@ -30,7 +30,7 @@ use Rattle.host_ctl.proofs.ControlsThere.{at-here, place-changed}
 use Rattle.host_ctl.proofs.ControlsTaken.{set-all}
 
 -- values that are put twice are put
-put-twice : (comp : ℕ) (values : List ℕ) (ks : List ControlPlan) (rs : List ControlRec) →
+pub put-twice : (comp : ℕ) (values : List ℕ) (ks : List ControlPlan) (rs : List ControlRec) →
     changed (λ (k : ControlPlan). k.comp) comp (with_values values) ks (changed (λ (k : ControlPlan). k.comp) comp (with_values values) ks rs) ≡ changed (λ (k : ControlPlan). k.comp) comp (with_values values) ks rs
 put-twice comp values [] rs = refl
 put-twice comp values (k ∷ ks) [] = refl
@@ -45,11 +45,16 @@ sends-answer On acts done answer = refl
 sends-answer Off acts done answer = refl
 sends-answer Unloaded acts done answer = refl
 
+pub sends-done : (power : Power) (acts : List Act) (done : Record → Record) (answer : Answer) → (sends power acts done answer).done ≡ done
+sends-done On acts done answer = refl
+sends-done Off acts done answer = refl
+sends-done Unloaded acts done answer = refl
+
 -- an order without acts, by its answer
 pub quiet-carried : {D : Type 0} (means : Meaning D) (plan : Plan) (heap : ℕ) (answer : Answer) (kept : Record) (w : World D) → Carried means plan heap (quiet answer) kept kept w w (Ok tt)
 quiet-carried means plan heap answer kept w = answering means plan heap (plain [] (λ now. now)) answer kept kept w w (Ok tt) (no-acts means plan heap (λ now. now) kept kept w refl)
 
-module _ {D : Type 0} (means : Meaning D) (plan : Plan) (sound : IsSound plan) (heap i : ℕ) (low : i < length plan.controls) (kept : Record) (w : World D) (agrees : Agrees means plan kept w.device) where
+module _ {D : Type 0} (means : Meaning D) (plan : Plan) (sound : IsSound plan) (heap i : ℕ) (low : i < length plan.controls) (kept : Record) (is : IsRecordOf plan kept) (w : World D) where
   abbrev k : ControlPlan
   k = control_here plan i
 
@@ -68,7 +73,7 @@ module _ {D : Type 0} (means : Meaning D) (plan : Plan) (sound : IsSound plan) (
       where
         twice : result ≡ Ok tt → kept' ≡ puts_all kept'
         twice passed =
-            let now : kept' ≡ puts_all kept = (subst (λ (o : Outcome). PlainEnd means heap o (performed plan (Put k.comp values) kept [] o).kept kept' x.sent v) passed x.ends).0 in
+            let now : kept' ≡ puts_all kept = (subst (λ (o : Outcome). PlainEnd means heap o (performed (act_rules plan heap) (Put k.comp values) kept [] o).kept kept' x.sent v) passed x.ends).0 in
             now ∙ ap (λ (rs : List ControlRec). record { power = kept.power; streams = kept.streams; controls = rs }) (sym (put-twice k.comp values plan.controls kept.controls)) ∙ ap puts_all (sym now)
 
     -- where it is off, the record alone changes
@@ -76,12 +81,12 @@ module _ {D : Type 0} (means : Meaning D) (plan : Plan) (sound : IsSound plan) (
       pub rest-carried : Carried means plan heap (put_order plan kept k.comp values) kept (with_values_at i values kept) w w (Ok tt)
       rest-carried =
           subst (λ (p : Power). Carried means plan heap (sends p (Put k.comp values ∷ []) puts_all Done) kept (with_values_at i values kept) w w (Ok tt)) (sym off)
-          (no-acts means plan heap puts_all kept (with_values_at i values kept) w (place-changed plan sound kept agrees.record_is i low values))
+          (no-acts means plan heap puts_all kept (with_values_at i values kept) w (place-changed plan sound kept is i low values))
 
-      pub rest-agrees : MaySet k.kind values → Agrees means plan (with_values_at i values kept) w.device
-      rest-agrees may =
-          subst (λ (now : Record). Agrees means plan now w.device) (sym (place-changed plan sound kept agrees.record_is i low values)) record {
-            record_is = put-record plan kept k.comp (with_values values) (λ c. refl) agrees.record_is (set-all plan sound kept agrees.record_is i low values may);
+      pub rest-agrees : Agrees means plan kept w.device → MaySet k.kind values → Agrees means plan (with_values_at i values kept) w.device
+      rest-agrees agrees may =
+          subst (λ (now : Record). Agrees means plan now w.device) (sym (place-changed plan sound kept is i low values)) record {
+            record_is = put-record plan kept k.comp (with_values values) (λ c. refl) is (set-all plan sound kept is i low values may);
             sides = subst (λ (p : Power). Sides means plan (puts_all kept) w.device p) (sym off) (subst (λ (p : Power). Sides means plan kept w.device p) off agrees.sides);
           }
 
@@ -104,7 +109,7 @@ module _ {D : Type 0} (means : Meaning D) (plan : Plan) (sound : IsSound plan) (
     bytes-named blob = ap (installing_order plan kept blob) (sym named)
 
     pub at-named : named_at plan kept name ≡ Some (k, r)
-    at-named = ap (option_and_then (λ (x : ControlPlan). control_at plan kept x.comp)) named ∙ at-here plan sound kept agrees.record_is i low
+    at-named = ap (option_and_then (λ (x : ControlPlan). control_at plan kept x.comp)) named ∙ at-here plan sound kept is i low
 
     pub read-named : reading_order kept (Some (k, r)) ≡ read_order plan kept name
     read-named = ap (reading_order kept) (sym at-named)

@@ -4,7 +4,7 @@ use Rattle.std.proofs.Common.{◌≡◌, ⊎_elim, pos, refl, sym, ap, subst, �
 use Rattle.std.specs.Prelude.{is_some, nat_lt, option_and_then}
 use Rattle.std.specs.List.{range_with_len}
 use Rattle.std.proofs.lemmas.Bool.{lt-ltb, le-leb}
-use Rattle.sof_base.specs.Ports.{HasRoom, Io}
+use Rattle.sof_base.specs.Ports.{HasRoom}
 use Rattle.sof_base.specs.Slots.{AreSlots, IsSlot}
 use Rattle.sof_base.specs.declared.part.Part.{Part}
 use Rattle.stream_law.specs.declared.graph.Comp.{Comp}
@@ -23,7 +23,6 @@ use Rattle.ipc3_model.proofs.Spelled.{decoded_reply-exactly}
 use Rattle.mbox_link.specs.BlobParts.{parts, blob_part}
 use Rattle.mbox_link.specs.Step as fw
 use Rattle.mbox_link.specs.Step.{row, body_of, part_body, no_device, invalid}
-use Rattle.mbox_link.specs.Exchange.{ticks}
 use Rattle.mbox_link.specs.Calls.{World, Meaning}
 use Rattle.mbox_link.proofs.Rooms.{HasRoom-now}
 use Rattle.tplg_plan.specs.declared.plans.Plan.{Plan}
@@ -41,14 +40,14 @@ use Rattle.host_widgets.specs.declared.kept.Record.{Record}
 use Rattle.host_widgets.specs.ActCalls.{came_to}
 use Rattle.host_widgets.specs.ActCarried.{Replied, Passes, PlainEnd}
 use Rattle.host_widgets.specs.ActMessages.{ask_message, get_message, act_message}
-use Rattle.host_widgets.specs.Host.{Agrees, IsRecordOf, Outcome, Sides, verdict, judged, errno}
+use Rattle.host_widgets.specs.Host.{Agrees, IsRecordOf, Outcome, verdict, judged, errno}
 use Rattle.host_widgets.specs.HostActs.{Act, Ask}
 use Rattle.host_widgets.specs.Orders.{Carried, sends}
-use Rattle.host_widgets.specs.ViewOf.{set_comp, record_setting, record_view}
-use Rattle.host_widgets.proofs.ActSteps.{state-with, done, ended}
-use Rattle.host_widgets.proofs.ActsCome.{IsAnswered, still}
+use Rattle.host_widgets.specs.ViewOf.{set_comp, record_setting}
+use Rattle.host_widgets.proofs.ActSteps.{done, ended}
+use Rattle.host_widgets.proofs.ActsCome.{IsAnswered}
 use Rattle.host_widgets.proofs.ControlLists.{takes-by}
-use Rattle.host_widgets.proofs.Effects.{decoded-message}
+use Rattle.host_widgets.proofs.Effects.{decoded-message, row-decoded}
 use Rattle.host_widgets.proofs.Exchanges.{came, verdict-number}
 use Rattle.host_widgets.proofs.OneActLaws.{IsShown, IsTaken}
 use Rattle.host_widgets.proofs.OneMessage.{passes}
@@ -57,10 +56,11 @@ use Rattle.host_widgets.proofs.OneOrder.{answering}
 use Rattle.host_widgets.proofs.PlainOrders.{CarriedBy, ends-with, goes-on, no-acts, plain}
 use Rattle.host_widgets.proofs.ReplyErrors.{done_reply, zero-fits}
 use Rattle.host_ctl.specs.ControlOrders.{ask_acts, reading_order, control_answer}
-use Rattle.host_ctl.specs.ControlAnswers.{HasBlob}
+use Rattle.host_ctl.specs.ControlAnswers.{HasBlob, HasSet, IsSetAt}
 use Rattle.host_ctl.specs.ControlPlaces.{control_here, record_here}
 use Rattle.host_ctl.proofs.ControlActs.{still-taken}
-use Rattle.host_ctl.proofs.ControlsTaken.{done-passes, found-in, id-low, shown-in}
+use Rattle.host_ctl.proofs.ControlShown.{IsThere, before, before-there, left-set, state}
+use Rattle.host_ctl.proofs.ControlsTaken.{done-passes, found-in, id-low, shown-here}
 use Rattle.host_ctl.proofs.ControlsThere.{Was, live, of-comp, was-here}
 use Rattle.host_ctl.proofs.PartsTold.{of-blob}
 use Rattle.host_ctl.proofs.PutAnswers.{used-comp}
@@ -170,10 +170,10 @@ module _ (plan : Plan) (sound : IsSound plan) (kept : Record) (is : IsRecordOf p
     pub part-shown : IsShown plan kept ask
     part-shown = record { message = part-fits; power = refl; shown = λ f f' shows so. (is, ap view_of (part-stays f f' so) ∙ shows) }
 
-    -- a firmware that shows the record has the part
-    part-had : (f : FwState) → view_of f ≡ record_view plan kept → fw.part_by (set_comp plan kept here.comp).kind (set_comp plan kept here.comp).setting j ≡ Some (blob_part r.blob j)
-    part-had f shows =
-        let shown = shown-in plan sound kept is i low f shows in
+    -- the record sets a component that has the part
+    part-had : fw.part_by (set_comp plan kept here.comp).kind (set_comp plan kept here.comp).setting j ≡ Some (blob_part r.blob j)
+    part-had =
+        let shown = shown-here plan sound kept is i low in
         let x = set_comp plan kept here.comp in
         ap (λ (s : Setting). fw.part_by x.kind s j) shown.1
         ∙ by k.kind kind shown.0
@@ -185,15 +185,15 @@ module _ (plan : Plan) (sound : IsSound plan) (kept : Record) (is : IsRecordOf p
             let eq = (subst (λ (y : ControlKind). IsControlOf y here.comp.kind) e of).0 in
             ap (λ (kd : Kind). fw.part_by kd (record_setting kd (Some (record { comp = k.comp; kind = q }, r))) j) eq
 
-    part-there : (f : FwState) → view_of f ≡ record_view plan kept → row f (GetData k.comp j) ≡ Ok f
-    part-there f shows = part-asked f k.comp j (set_comp plan kept here.comp) (blob_part r.blob j) (found-in plan sound kept is i low f shows) (part-had f shows)
+    part-there : (f : FwState) → IsThere plan sound kept is i low f → row f (GetData k.comp j) ≡ Ok f
+    part-there f there = part-asked f k.comp j (set_comp plan kept here.comp) (blob_part r.blob j) there part-had
 
-    -- its reply carries it
-    part-carried : (f : FwState) → view_of f ≡ record_view plan kept → body_of f (decoded (message_spelling (GetData k.comp j))) ≡ bodies.Part (blob_part r.blob j)
-    part-carried f shows =
+    -- the reply of a firmware that has it carries it
+    part-carried : (f : FwState) → IsThere plan sound kept is i low f → body_of f (decoded (message_spelling (GetData k.comp j))) ≡ bodies.Part (blob_part r.blob j)
+    part-carried f there =
         ap (body_of f) (decoded-message (GetData k.comp j) (subst IsMessage part-asks part-fits))
-        ∙ ap (λ (o : Option Comp). part_body (option_and_then (λ (c : Comp). fw.part_by c.kind c.setting j) o)) (found-in plan sound kept is i low f shows)
-        ∙ ap part_body (part-had f shows)
+        ∙ ap (λ (o : Option Comp). part_body (option_and_then (λ (c : Comp). fw.part_by c.kind c.setting j) o)) there
+        ∙ ap part_body part-had
 
     -- and is read as it was written
     part-read : verdict (Some (done_reply (bodies.Part (blob_part r.blob j)))) ≡ Ok (record { error = pos 0; body = bodies.Part (blob_part r.blob j) })
@@ -206,31 +206,33 @@ module _ (plan : Plan) (sound : IsSound plan) (kept : Record) (is : IsRecordOf p
         ap judged (decoded_reply-exactly (record { error = pos 0; body = bodies.Part (blob_part r.blob j) })
         (zero-fits, (omega (arith, few, most), header-long r.blob b, rw (le-leb 1 (length (blob_part r.blob j).bytes) s.0, le-leb (length (blob_part r.blob j).bytes) 260 s.1) refl, le-leb ((blob_part r.blob j).remaining + length (blob_part r.blob j).bytes) 992 (omega (arith, l, p.1)))))
 
-    -- what an exchange that passed brings is the part
-    pub part-heard : {D : Type 0} (means : Meaning D) (heap : ℕ) (m : World D) → Agrees means plan kept m.device → kept.power ≡ On → (kept' : Record) (v : World D) (result : Result Reply HostFault) → Replied means heap (message_spelling (GetData k.comp j)) kept kept' m v result → (reply : Reply) → result ≡ Ok reply → reply.body ≡ bodies.Part (blob_part r.blob j)
-    part-heard {D} means heap m agrees power kept' v result h reply ok = ⊎_elim
-        (λ took. (let same : Ok reply ≡ Ok (record { error = pos 0; body = bodies.Part (blob_part r.blob j) }) = sym ok ∙ h.said ∙ ap verdict took.said ∙ ap (λ (b : Body). verdict (Some (done_reply b))) (part-carried before.0 shows) ∙ part-read in
+    -- what an exchange that passed brings is the part, and the component stays as it is
+    pub part-heard : {D : Type 0} (means : Meaning D) (heap : ℕ) (m : World D) (on : is_some (means.on m.device) ≡ true) (set : IsSetAt means plan kept k.comp m.device) (kept' : Record) (v : World D) (result : Result Reply HostFault) →
+        Replied means heap (message_spelling (GetData k.comp j)) kept kept' m v result → (reply : Reply) → result ≡ Ok reply → (reply.body ≡ bodies.Part (blob_part r.blob j)) × HasSet means plan kept k.comp v.device
+    part-heard {D} means heap m on set kept' v result h reply ok = ⊎_elim
+        (λ took. (let same : Ok reply ≡ Ok (record { error = pos 0; body = bodies.Part (blob_part r.blob j) }) = sym ok ∙ h.said ∙ ap verdict took.said ∙ ap (λ (b : Body). verdict (Some (done_reply b))) (part-carried now there) ∙ part-read in
         let one : reply ≡ record { error = pos 0; body = bodies.Part (blob_part r.blob j) } = cc same in
-        ap (λ (y : Reply). y.body) one))
+        let end : v ≡ h.sent = (subst (λ (y : Result Reply HostFault). PlainEnd means heap (came_to y) kept kept' h.sent v) ok h.ends).1 in
+        let stays = asked-stays now took.next k.comp j (sym (row-decoded now (GetData k.comp j) (subst IsMessage part-asks part-fits)) ∙ took.row) in (
+          ap (λ (y : Reply). y.body) one,
+          subst (λ (x : World D). HasSet means plan kept k.comp x.device) (sym end) (left-set plan sound kept is i low means m on set h.sent took.next took.on stays),
+        )))
         (λ rest. ⊎_elim
         (λ it. absurd (let no : Ok reply ≡ Err (Refused (errno it.error)) = sym ok ∙ h.said ∙ ap verdict it.said ∙ verdict-number it.error it.number in cc no))
         (λ rest. ⊎_elim
         (λ it. absurd (let no : Ok reply ≡ Err (Refused (errno it.error)) = sym ok ∙ h.said ∙ ap verdict it.said ∙ verdict-number it.error it.number in cc no))
         (λ it. absurd (let no : Ok reply ≡ Err LinkDown = sym ok ∙ h.said ∙ ap verdict it.said in cc no))
         rest) rest)
-        (came means (message_spelling (GetData k.comp j)) h.answer m h.sent state.0 state.1 h.exchanged).way
+        (came means (message_spelling (GetData k.comp j)) h.answer m h.sent (state plan sound kept is i low means m on set).0 (state plan sound kept is i low means m on set).1 h.exchanged).way
       where
-        state : (f : FwState) × (means.on m.device ≡ Some f) × (view_of f ≡ record_view plan kept)
-        state = state-with (means.on m.device) (record_view plan kept) (subst (λ (x : Power). Sides means plan kept m.device x) power agrees.sides)
+        now : FwState
+        now = (before plan sound kept is i low means m on set h.sent).0
 
-        before : FwState × Io
-        before = ticks (means.pending m.device - means.pending h.sent.device) (state.0, m.io)
-
-        shows : view_of before.0 ≡ record_view plan kept
-        shows = still (means.pending m.device - means.pending h.sent.device) (state.0, m.io) ∙ state.2
+        there : IsThere plan sound kept is i low now
+        there = before-there plan sound kept is i low means m on set h.sent
 
     pub part-comes : (heap : ℕ) → IsAnswered plan heap kept ask
-    part-comes heap = record { message = part-fits; passes = part-passes; answers = λ f shows. (f, ap (row f) part-asks ∙ part-there f shows) }
+    part-comes heap = record { message = part-fits; passes = part-passes; answers = λ f shows. (f, ap (row f) part-asks ∙ part-there f (found-in plan sound kept is i low f shows)) }
 
   -- ---- over any device
 

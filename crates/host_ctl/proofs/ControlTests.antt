@@ -99,10 +99,14 @@ read-powered plan kept name k named none =
     let l = loaded kept.power (name_fault name (named_control plan name) (off_fault kept.power)) none in
     powered kept.power l.0 (ap (λ (o : Option ControlPlan). name_fault name o (off_fault kept.power)) (sym named) ∙ l.1)
 
--- what an answer says, where the record stayed
-pub answered-so : {X : Type 0} (r : Result X HostFault) (x : X) (Same : Type 0) (Q : X → Type 0) → IfOk r (λ a. a ≡ x) → IfOk r (λ a. Same) → (Same → Q x) → IfOk r Q
-answered-so (Ok a) x Same Q is same next = subst Q (sym is) (next same)
-answered-so (Err f) x Same Q is same next = tt
+-- what an answer says, with what else is so then
+pub told-alone : {X : Type 0} (r : Result X HostFault) (x : X) (Has : Type 0) → IfOk r (λ a. (a ≡ x) × Has) → IfOk r (λ a. a ≡ x)
+told-alone (Ok a) x Has is = is.0
+told-alone (Err f) x Has is = tt
+
+pub told-shown : {X : Type 0} (r : Result X HostFault) (x : X) (Has : Type 0) (Q : X → Type 0) → IfOk r (λ a. (a ≡ x) × Has) → (Has → Q x) → IfOk r Q
+told-shown (Ok a) x Has Q is next = subst Q (sym is.0) (next is.1)
+told-shown (Err f) x Has Q is next = tt
 
 -- ---- values that pass
 

@@ -132,17 +132,18 @@ module _ (plan : Plan) (sound : IsSound plan) (kept : Record) (is : IsRecordOf p
   pub id-low : k.comp < 2 ^ 32
   id-low = id-fits plan sound k.comp (component-found plan sound k.comp here.comp here.there).low
 
+  -- what the record sets there
+  pub shown-here : IsControlOf k.kind here.comp.kind × ((set_comp plan kept here.comp).setting ≡ record_setting here.comp.kind (Some (control k.comp k.kind, r))) × Was (control k.comp k.kind) r
+  shown-here = (
+    here.kind,
+    ap (λ (id : ℕ). record_setting here.comp.kind (control_at plan kept id)) (found-is (λ c. c.id) plan.graph.comps k.comp here.comp here.there) ∙ ap (record_setting here.comp.kind) (at-here plan sound kept is i low),
+    was-here plan sound kept is i low,
+  )
+
   -- what a firmware that shows the record has there
   module _ (f : FwState) (shows : view_of f ≡ record_view plan kept) where
     pub found-in : comp_of f.graph k.comp ≡ Some (set_comp plan kept here.comp)
     found-in = found plan kept f f shows k.comp [] here.comp here.there
-
-    pub shown-in : IsControlOf k.kind here.comp.kind × ((set_comp plan kept here.comp).setting ≡ record_setting here.comp.kind (Some (control k.comp k.kind, r))) × Was (control k.comp k.kind) r
-    shown-in = (
-      here.kind,
-      ap (λ (id : ℕ). record_setting here.comp.kind (control_at plan kept id)) (found-is (λ c. c.id) plan.graph.comps k.comp here.comp here.there) ∙ ap (record_setting here.comp.kind) (at-here plan sound kept is i low),
-      was-here plan sound kept is i low,
-    )
 
   -- ---- values
 
@@ -190,7 +191,7 @@ module _ (plan : Plan) (sound : IsSound plan) (kept : Record) (is : IsRecordOf p
     put-comes heap = record {
       message = fits;
       passes = put-is.passes;
-      answers = λ f shows. (let a = put-answers f k.comp (set_comp plan kept here.comp) (found-in f shows) r k.kind values (shown-in f shows) may in (a.0, ap (row f) puts ∙ a.1));
+      answers = λ f shows. (let a = put-answers f k.comp (set_comp plan kept here.comp) (found-in f shows) r k.kind values shown-here may in (a.0, ap (row f) puts ∙ a.1));
     }
 
   -- ---- one that asks
@@ -202,17 +203,17 @@ module _ (plan : Plan) (sound : IsSound plan) (kept : Record) (is : IsRecordOf p
     pub ask-fits : IsMessage (act_message plan (Ask k.comp 0))
     ask-fits = subst IsMessage (sym asks) (get-fits k.comp command id-low (few-commands k.kind command at))
 
-    stays : (f f' : FwState) → row f (act_message plan (Ask k.comp 0)) ≡ Ok f' → f' ≡ f
-    stays f f' done = asked-stays f f' k.comp command (ap (row f) (sym asks) ∙ done)
+    pub ask-stays : (f f' : FwState) → row f (act_message plan (Ask k.comp 0)) ≡ Ok f' → f' ≡ f
+    ask-stays f f' done = asked-stays f f' k.comp command (ap (row f) (sym asks) ∙ done)
 
     passes : (f : FwState) → came_to (verdict (Some (done_reply (body_of f (decoded (message_spelling (act_message plan (Ask k.comp 0)))))))) ≡ Ok tt
     passes f = done-passes (body_of f (decoded (message_spelling (act_message plan (Ask k.comp 0)))))
 
     pub ask-is : IsTaken plan kept (Ask k.comp 0)
-    ask-is = still-taken plan kept (Ask k.comp 0) is refl refl (ask-fits, decoded-message (act_message plan (Ask k.comp 0)) ask-fits) passes stays
+    ask-is = still-taken plan kept (Ask k.comp 0) is refl refl (ask-fits, decoded-message (act_message plan (Ask k.comp 0)) ask-fits) passes ask-stays
 
     pub ask-shown : IsShown plan kept (Ask k.comp 0)
-    ask-shown = record { message = ask-fits; power = refl; shown = λ f f' shows done. (is, ap view_of (stays f f' done) ∙ shows) }
+    ask-shown = record { message = ask-fits; power = refl; shown = λ f f' shows done. (is, ap view_of (ask-stays f f' done) ∙ shows) }
 
     pub ask-comes : (heap : ℕ) → IsAnswered plan heap kept (Ask k.comp 0)
     ask-comes heap = record {
@@ -220,6 +221,6 @@ module _ (plan : Plan) (sound : IsSound plan) (kept : Record) (is : IsRecordOf p
       passes = passes;
       answers = λ f shows. (
         f,
-        ap (row f) asks ∙ asked-answers f k.comp (set_comp plan kept here.comp) (found-in f shows) r command _ (values-at f k.comp (set_comp plan kept here.comp) (found-in f shows) r k.kind command (shown-in f shows) at),
+        ap (row f) asks ∙ asked-answers f k.comp (set_comp plan kept here.comp) (found-in f shows) r command _ (values-at f k.comp (set_comp plan kept here.comp) (found-in f shows) r k.kind command shown-here at),
       );
     }

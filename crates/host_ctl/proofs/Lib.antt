@@ -4,6 +4,7 @@ pub mod ControlActs
 pub mod ControlsThere
 pub mod PutAnswers
 pub mod ControlsTaken
+pub mod ControlShown
 pub mod ControlCalls
 pub mod ControlTests
 pub mod ControlOrdered
@@ -13,4 +14,5 @@ pub mod PartsSent
 pub mod BlobCalls
 pub mod BlobTests
 pub mod ControlParts
+pub mod ControlAnswered
 pub mod PartsTold

@@ -62,7 +62,7 @@ set-answers f id command vs x s there new =
     by : (b : Bool) (o : Option Setting) → b ≡ true → o ≡ Some s → cond (not b) (Err no_device) (fw.value_set f id o) ≡ Ok (put_state f (with_setting_at f id s) id (is_of f.graph is_volume id))
     by b o used is = rw (used, is) refl
 
-gains-new : (gs vs : List ℕ) → length vs ≡ length gs → AreGains vs → fw.new_setting kinds.Volume (settings.Gains gs) 0 vs ≡ Some (settings.Gains vs)
+pub gains-new : (gs vs : List ℕ) → length vs ≡ length gs → AreGains vs → fw.new_setting kinds.Volume (settings.Gains gs) 0 vs ≡ Some (settings.Gains vs)
 gains-new gs vs same are =
     ap (λ (h : Bool). cond h (Some (settings.Gains vs)) None)
     (and_from (length vs == length gs) (list_all (λ v. nat_le v 16777216) vs) (eq-eqb (length vs) (length gs) same) (gains-pass vs are))

@@ -19,6 +19,7 @@ use Rattle.host_widgets.specs.declared.answers.Answer.TheVariants as answers
 use Rattle.host_widgets.specs.declared.answers.HostFault.{HostFault}
 use Rattle.host_widgets.specs.declared.kept.Record.{Record}
 use Rattle.host_widgets.specs.ActLists.{part_acts}
+use Rattle.host_widgets.specs.ViewOf.{graph_by}
 use Rattle.host_widgets.specs.Host.{Outcome, IsControlSet}
 use Rattle.host_widgets.specs.ActCarried.{ActsSent}
 use Rattle.host_widgets.specs.ActCarried.{PlainEnd}
@@ -80,3 +81,15 @@ pub record PartsPass {D : Type 0} (means : Meaning D) (plan : Plan) (heap comp :
 abbrev pub HasBlob : ControlKind → Type 0
 HasBlob (Blob most initial) = Unit {0}
 HasBlob kind = ⊥
+
+-- a device that is on has this component as the record sets it
+abbrev pub IsSetAt : {D : Type 0} → Meaning D → Plan → Record → ℕ → D → Type 0
+IsSetAt means plan kept id device = (f : FwState) → means.on device ≡ Some f → comp_of f.graph id ≡ comp_of (graph_by plan kept) id
+
+-- it is on, and has it so
+abbrev pub HasSet : {D : Type 0} → Meaning D → Plan → Record → ℕ → D → Type 0
+HasSet means plan kept id device = (f : FwState) × (means.on device ≡ Some f) × (comp_of f.graph id ≡ comp_of (graph_by plan kept) id)
+
+-- that of the control of this name
+abbrev pub IsSetFor : {D : Type 0} → Meaning D → Plan → Record → List ℕ → D → Type 0
+IsSetFor means plan kept name device = (k : ControlPlan) → named_control plan name ≡ Some k → IsSetAt means plan kept k.comp device

@@ -1,5 +1,5 @@
 -- What is done with a control, and what is told of it.
-use Rattle.std.specs.Prelude.{ℕ, List, [], ◌∷◌, map, unwrap_or, Option, Some, None}
+use Rattle.std.specs.Prelude.{◌≡◌, ℕ, List, [], ◌∷◌, map, unwrap_or, Option, Some, None, Ok, Err}
 use Rattle.std.specs.Option.{option_and_then}
 use Rattle.tplg_plan.specs.declared.plans.Plan.{Plan}
 use Rattle.tplg_plan.specs.declared.plans.ControlPlan.{ControlPlan}
@@ -8,9 +8,11 @@ use Rattle.tplg_plan.specs.declared.plans.ControlKind.TheVariants.{Volume, Choic
 use Rattle.tplg_plan.specs.GainOf.{control_gain}
 use Rattle.host_widgets.specs.declared.answers.Answer.{Answer}
 use Rattle.host_widgets.specs.declared.answers.Answer.TheVariants as answers
+use Rattle.host_widgets.specs.declared.answers.HostFault.{HostFault}
 use Rattle.host_widgets.specs.declared.kept.Record.{Record}
 use Rattle.host_widgets.specs.declared.kept.ControlRec.{ControlRec}
 use Rattle.host_widgets.specs.Controls.{eight_masks}
+use Rattle.host_widgets.specs.Host.{Outcome}
 use Rattle.host_widgets.specs.Kept.{control_at, with_control}
 use Rattle.mbox_link.specs.BlobParts.{part_numbers}
 use Rattle.host_widgets.specs.HostActs.{Act, Put, Ask, with_values, with_blob}
@@ -84,3 +86,10 @@ read_order plan kept name = reading_order kept (named_at plan kept name)
 -- ---- values that a call may set, whatever the record says so far
 
 -- ---- bytes that a call may set: a blob that is not longer than an equaliser takes
+
+-- ---- the record alone
+
+-- where the test tells a fault, that is answered, and the record stays; else the record alone changes
+pub record KeptAlone (test : Option HostFault) (done : Record → Record) (kept kept' : Record) (result : Outcome) : Type 0 where
+  pub early : (fault : HostFault) → test ≡ Some fault → (result ≡ Err fault) × (kept' ≡ kept)
+  pub late : test ≡ None → (result ≡ Ok tt) × (kept' ≡ done kept)

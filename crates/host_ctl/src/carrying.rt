@@ -1,21 +1,23 @@
 // What each call does once its tests have passed, for the control at a place: the record changes after the reply.
-ghost use Rattle.std.specs.Prelude.{◌≡◌, ◌<◌, ◌≤◌, ◌+◌, ◌*◌, ◌++◌, [], unwrap_or, length, IfOk, Some, is_some, true};
+ghost use Rattle.std.specs.Prelude.{◌≡◌, ◌<◌, ◌≤◌, ◌+◌, ◌*◌, ◌++◌, [], ◌∷◌, unwrap_or, length, IfOk, Some, is_some, true};
 ghost use Rattle.sof_base.specs.Ports.{HasRoom};
 ghost use Rattle.mbox_link.specs.BlobParts.{parts};
 ghost use Rattle.tplg_plan.specs.Ranges.{is_initial};
 ghost use Rattle.sof_base.specs.BlobFaults.{is_blob};
 ghost use Rattle.ipc3_model.specs.declared.reply.Body.TheVariants as bodies;
 ghost use Rattle.host_widgets.specs.declared.answers.Answer.TheVariants as answers;
+ghost use Rattle.host_widgets.specs.AnsweredOrders.{ActsAnswered, OrderAnswered};
 ghost use Rattle.host_widgets.specs.Host.{Agrees};
-ghost use Rattle.host_widgets.specs.HostActs.{Put};
+ghost use Rattle.host_widgets.specs.HostActs.{Put, with_values};
 ghost use Rattle.host_widgets.specs.HostActs as acts;
+ghost use Rattle.host_widgets.specs.Kept.{with_control};
 ghost use Rattle.host_widgets.specs.Orders.{Carried};
 ghost use Rattle.host_widgets.specs.ActCarried.{ActCarried};
 ghost use Rattle.host_widgets.specs.Sides.{IsReady, SameSide, world_of};
 ghost use Rattle.host_ctl.specs.ControlAsks as asks;
 ghost use Rattle.host_ctl.specs.ControlOrders as orders;
 ghost use Rattle.host_ctl.specs.ControlAnswers as control_answers;
-ghost use Rattle.host_ctl.specs.ControlAnswers.{MaySet, MayInstall, HasBlob, PartsPass};
+ghost use Rattle.host_ctl.specs.ControlAnswers.{MaySet, MayInstall, HasBlob, HasSet, IsSetAt, PartsPass};
 ghost use Rattle.host_ctl.specs.ControlPlaces.{control_here, record_here, with_values_at, with_blob_here};
 
 use crate::asking::channels_of;
@@ -57,8 +59,8 @@ pub fn all_values(kind: &ControlKind, values: &[u32]) -> Bounded<u32, 8>
     }
 }
 
-// The control at a place has these values in the record.
-fn keep(kept: &mut Record, place: usize, values: &Bounded<u32, 8>)
+/// The control at a place has these values in the record.
+pub fn keep(kept: &mut Record, place: usize, values: &Bounded<u32, 8>)
     requires { place < length kept.old.controls }
     ensures { kept.new ≡ with_values_at place values.now kept.old }
 {
@@ -82,9 +84,11 @@ fn put<P: Dsp>(
     requires power { side.old.kept.now.power ≡ Power.On }
     requires place { place < length side.old.plan.now.controls }
     requires values { MaySet (control_here side.old.plan.now place).kind values.now }
-    ensures act { ActCarried P.means side.old.plan.now side.old.heap (Put (control_here side.old.plan.now place).comp values.now) side.old.kept.now side.new.kept.now
+    ensures answered { ActsAnswered P.means side.old.plan.now side.old.heap (with_control side.old.plan.now (control_here side.old.plan.now place).comp (with_values values.now)) (Put (control_here side.old.plan.now place).comp values.now ∷ []) side.old.kept.now side.new.kept.now
         (world_of side.old) (world_of side.new) result }
-    ensures agree { Agrees P.means side.old.plan.now side.new.kept.now side.new.dsp.now }
+    ensures agree { Agrees P.means side.old.plan.now side.old.kept.now side.old.dsp.now →
+        ActCarried P.means side.old.plan.now side.old.heap (Put (control_here side.old.plan.now place).comp values.now) side.old.kept.now side.new.kept.now (world_of side.old) (world_of side.new) result
+        × Agrees P.means side.old.plan.now side.new.kept.now side.new.dsp.now }
     ensures same { SameSide side.old side.new }
 {
     let control = &side.plan.controls.items()[place];
@@ -104,9 +108,12 @@ pub fn set<P: Dsp>(
     requires loaded { side.old.kept.now.power ≡ Power.Unloaded → ⊥ }
     requires place { place < length side.old.plan.now.controls }
     requires values { MaySet (control_here side.old.plan.now place).kind values.now }
-    ensures carried { Carried P.means side.old.plan.now side.old.heap (orders.put_order side.old.plan.now side.old.kept.now (control_here side.old.plan.now place).comp values.now) side.old.kept.now side.new.kept.now
+    ensures answered { OrderAnswered P.means side.old.plan.now side.old.heap (orders.put_order side.old.plan.now side.old.kept.now (control_here side.old.plan.now place).comp values.now) side.old.kept.now side.new.kept.now
         (world_of side.old) (world_of side.new) result }
-    ensures agree { Agrees P.means side.old.plan.now side.new.kept.now side.new.dsp.now }
+    ensures agree { Agrees P.means side.old.plan.now side.old.kept.now side.old.dsp.now →
+        Carried P.means side.old.plan.now side.old.heap (orders.put_order side.old.plan.now side.old.kept.now (control_here side.old.plan.now place).comp values.now) side.old.kept.now side.new.kept.now
+        (world_of side.old) (world_of side.new) result
+        × Agrees P.means side.old.plan.now side.new.kept.now side.new.dsp.now }
     ensures same { SameSide side.old side.new }
 {
     match side.kept.power {
@@ -118,8 +125,8 @@ pub fn set<P: Dsp>(
     }
 }
 
-// The control at a place has this blob in the record.
-fn keep_blob(kept: &mut Record, place: usize, blob: &[u8])
+/// The control at a place has this blob in the record.
+pub fn keep_blob(kept: &mut Record, place: usize, blob: &[u8])
     requires place { place < length kept.old.controls }
     requires few { length blob.now ≤ 1024 }
     ensures { kept.new ≡ with_blob_here place blob.now kept.old }
@@ -155,9 +162,12 @@ fn install<P: Dsp>(side: &mut Side<'_, P>, place: usize, blob: &[u8]) -> Result<
     requires power { side.old.kept.now.power ≡ Power.On }
     requires place { place < length side.old.plan.now.controls }
     requires blob { MayInstall (control_here side.old.plan.now place).kind blob.now }
-    ensures carried { Carried P.means side.old.plan.now side.old.heap (orders.bytes_order_at side.old.plan.now side.old.kept.now (control_here side.old.plan.now place).comp blob.now) side.old.kept.now side.new.kept.now
+    ensures answered { OrderAnswered P.means side.old.plan.now side.old.heap (orders.bytes_order_at side.old.plan.now side.old.kept.now (control_here side.old.plan.now place).comp blob.now) side.old.kept.now side.new.kept.now
         (world_of side.old) (world_of side.new) result }
-    ensures agree { Agrees P.means side.old.plan.now side.new.kept.now side.new.dsp.now }
+    ensures agree { Agrees P.means side.old.plan.now side.old.kept.now side.old.dsp.now →
+        Carried P.means side.old.plan.now side.old.heap (orders.bytes_order_at side.old.plan.now side.old.kept.now (control_here side.old.plan.now place).comp blob.now) side.old.kept.now side.new.kept.now
+        (world_of side.old) (world_of side.new) result
+        × Agrees P.means side.old.plan.now side.new.kept.now side.new.dsp.now }
     ensures same { SameSide side.old side.new }
 {
     let comp = side.plan.controls.items()[place].comp;
@@ -172,9 +182,12 @@ pub fn set_bytes<P: Dsp>(side: &mut Side<'_, P>, place: usize, blob: &[u8]) -> R
     requires loaded { side.old.kept.now.power ≡ Power.Unloaded → ⊥ }
     requires place { place < length side.old.plan.now.controls }
     requires blob { MayInstall (control_here side.old.plan.now place).kind blob.now }
-    ensures carried { Carried P.means side.old.plan.now side.old.heap (orders.bytes_order_at side.old.plan.now side.old.kept.now (control_here side.old.plan.now place).comp blob.now) side.old.kept.now side.new.kept.now
+    ensures answered { OrderAnswered P.means side.old.plan.now side.old.heap (orders.bytes_order_at side.old.plan.now side.old.kept.now (control_here side.old.plan.now place).comp blob.now) side.old.kept.now side.new.kept.now
         (world_of side.old) (world_of side.new) result }
-    ensures agree { Agrees P.means side.old.plan.now side.new.kept.now side.new.dsp.now }
+    ensures agree { Agrees P.means side.old.plan.now side.old.kept.now side.old.dsp.now →
+        Carried P.means side.old.plan.now side.old.heap (orders.bytes_order_at side.old.plan.now side.old.kept.now (control_here side.old.plan.now place).comp blob.now) side.old.kept.now side.new.kept.now
+        (world_of side.old) (world_of side.new) result
+        × Agrees P.means side.old.plan.now side.new.kept.now side.new.dsp.now }
     ensures same { SameSide side.old side.new }
 {
     match side.kept.power {
@@ -203,11 +216,14 @@ fn ask<P: Dsp>(side: &mut Side<'_, P>, place: usize, command: u32) -> Result<Ans
     requires power { side.old.kept.now.power ≡ Power.On }
     requires place { place < length side.old.plan.now.controls }
     requires command { control_answers.value_command (control_here side.old.plan.now place).kind ≡ Some command }
-    ensures act { ActCarried P.means side.old.plan.now side.old.heap (acts.Ask (control_here side.old.plan.now place).comp 0) side.old.kept.now side.new.kept.now
+    ensures answered { ActsAnswered P.means side.old.plan.now side.old.heap (λ now. now) (acts.Ask (control_here side.old.plan.now place).comp 0 ∷ []) side.old.kept.now side.new.kept.now
         (world_of side.old) (world_of side.new) (control_answers.outcome_of result) }
-    ensures answered { IfOk result (λ a. a ≡ orders.control_answer (control_here side.old.plan.now place).kind (record_here side.old.kept.now place)) }
+    ensures told { IsSetAt P.means side.old.plan.now side.old.kept.now (control_here side.old.plan.now place).comp side.old.dsp.now → IfOk result (λ a. (a ≡ orders.control_answer (control_here side.old.plan.now place).kind (record_here side.old.kept.now place))
+        × HasSet P.means side.old.plan.now side.old.kept.now (control_here side.old.plan.now place).comp side.new.dsp.now) }
     ensures still { IfOk result (λ a. side.new.kept.now ≡ side.old.kept.now) }
-    ensures agree { Agrees P.means side.old.plan.now side.new.kept.now side.new.dsp.now }
+    ensures agree { Agrees P.means side.old.plan.now side.old.kept.now side.old.dsp.now →
+        ActCarried P.means side.old.plan.now side.old.heap (acts.Ask (control_here side.old.plan.now place).comp 0) side.old.kept.now side.new.kept.now (world_of side.old) (world_of side.new) (control_answers.outcome_of result)
+        × Agrees P.means side.old.plan.now side.new.kept.now side.new.dsp.now }
     ensures same { SameSide side.old side.new }
 {
     let message = Message::GetValue {
@@ -274,11 +290,15 @@ fn ask_all<P: Dsp>(
     requires kind { HasBlob (control_here side.old.plan.now place).kind }
     requires count { count ≡ parts (record_here side.old.kept.now place).blob }
     requires empty { told.old.items ≡ [] }
-    ensures carried { Carried P.means side.old.plan.now side.old.heap (orders.reading_order side.old.kept.now (Some (control_here side.old.plan.now place, record_here side.old.kept.now place))) side.old.kept.now side.new.kept.now
+    ensures answered { OrderAnswered P.means side.old.plan.now side.old.heap (orders.reading_order side.old.kept.now (Some (control_here side.old.plan.now place, record_here side.old.kept.now place))) side.old.kept.now side.new.kept.now
         (world_of side.old) (world_of side.new) result }
-    ensures told { IfOk result (λ done. told.new.items ≡ (record_here side.old.kept.now place).blob) }
+    ensures told { IsSetAt P.means side.old.plan.now side.old.kept.now (control_here side.old.plan.now place).comp side.old.dsp.now → IfOk result (λ done. (told.new.items ≡ (record_here side.old.kept.now place).blob)
+        × HasSet P.means side.old.plan.now side.old.kept.now (control_here side.old.plan.now place).comp side.new.dsp.now) }
     ensures still { IfOk result (λ done. side.new.kept.now ≡ side.old.kept.now) }
-    ensures agree { Agrees P.means side.old.plan.now side.new.kept.now side.new.dsp.now }
+    ensures agree { Agrees P.means side.old.plan.now side.old.kept.now side.old.dsp.now →
+        Carried P.means side.old.plan.now side.old.heap (orders.reading_order side.old.kept.now (Some (control_here side.old.plan.now place, record_here side.old.kept.now place))) side.old.kept.now side.new.kept.now
+        (world_of side.old) (world_of side.new) result
+        × Agrees P.means side.old.plan.now side.new.kept.now side.new.dsp.now }
     ensures same { SameSide side.old side.new }
 {
     for index in 0..count {
@@ -309,11 +329,15 @@ fn ask_parts<P: Dsp>(side: &mut Side<'_, P>, place: usize) -> Result<Answer, Hos
     requires power { side.old.kept.now.power ≡ Power.On }
     requires place { place < length side.old.plan.now.controls }
     requires kind { HasBlob (control_here side.old.plan.now place).kind }
-    ensures carried { Carried P.means side.old.plan.now side.old.heap (orders.reading_order side.old.kept.now (Some (control_here side.old.plan.now place, record_here side.old.kept.now place))) side.old.kept.now side.new.kept.now
+    ensures answered { OrderAnswered P.means side.old.plan.now side.old.heap (orders.reading_order side.old.kept.now (Some (control_here side.old.plan.now place, record_here side.old.kept.now place))) side.old.kept.now side.new.kept.now
         (world_of side.old) (world_of side.new) (control_answers.outcome_of result) }
-    ensures answered { IfOk result (λ a. a ≡ orders.control_answer (control_here side.old.plan.now place).kind (record_here side.old.kept.now place)) }
+    ensures told { IsSetAt P.means side.old.plan.now side.old.kept.now (control_here side.old.plan.now place).comp side.old.dsp.now → IfOk result (λ a. (a ≡ orders.control_answer (control_here side.old.plan.now place).kind (record_here side.old.kept.now place))
+        × HasSet P.means side.old.plan.now side.old.kept.now (control_here side.old.plan.now place).comp side.new.dsp.now) }
     ensures still { IfOk result (λ a. side.new.kept.now ≡ side.old.kept.now) }
-    ensures agree { Agrees P.means side.old.plan.now side.new.kept.now side.new.dsp.now }
+    ensures agree { Agrees P.means side.old.plan.now side.old.kept.now side.old.dsp.now →
+        Carried P.means side.old.plan.now side.old.heap (orders.reading_order side.old.kept.now (Some (control_here side.old.plan.now place, record_here side.old.kept.now place))) side.old.kept.now side.new.kept.now
+        (world_of side.old) (world_of side.new) (control_answers.outcome_of result)
+        × Agrees P.means side.old.plan.now side.new.kept.now side.new.dsp.now }
     ensures same { SameSide side.old side.new }
 {
     let count = parts_of(side.kept.controls.items()[place].blob.items());
@@ -327,11 +351,15 @@ pub fn read<P: Dsp>(side: &mut Side<'_, P>, place: usize) -> Result<Answer, Host
     requires ready { IsReady P.means side.old }
     requires power { side.old.kept.now.power ≡ Power.On }
     requires place { place < length side.old.plan.now.controls }
-    ensures carried { Carried P.means side.old.plan.now side.old.heap (orders.reading_order side.old.kept.now (Some (control_here side.old.plan.now place, record_here side.old.kept.now place))) side.old.kept.now side.new.kept.now
+    ensures answered { OrderAnswered P.means side.old.plan.now side.old.heap (orders.reading_order side.old.kept.now (Some (control_here side.old.plan.now place, record_here side.old.kept.now place))) side.old.kept.now side.new.kept.now
         (world_of side.old) (world_of side.new) (control_answers.outcome_of result) }
-    ensures answered { IfOk result (λ a. a ≡ orders.control_answer (control_here side.old.plan.now place).kind (record_here side.old.kept.now place)) }
+    ensures told { IsSetAt P.means side.old.plan.now side.old.kept.now (control_here side.old.plan.now place).comp side.old.dsp.now → IfOk result (λ a. (a ≡ orders.control_answer (control_here side.old.plan.now place).kind (record_here side.old.kept.now place))
+        × HasSet P.means side.old.plan.now side.old.kept.now (control_here side.old.plan.now place).comp side.new.dsp.now) }
     ensures still { IfOk result (λ a. side.new.kept.now ≡ side.old.kept.now) }
-    ensures agree { Agrees P.means side.old.plan.now side.new.kept.now side.new.dsp.now }
+    ensures agree { Agrees P.means side.old.plan.now side.old.kept.now side.old.dsp.now →
+        Carried P.means side.old.plan.now side.old.heap (orders.reading_order side.old.kept.now (Some (control_here side.old.plan.now place, record_here side.old.kept.now place))) side.old.kept.now side.new.kept.now
+        (world_of side.old) (world_of side.new) (control_answers.outcome_of result)
+        × Agrees P.means side.old.plan.now side.new.kept.now side.new.dsp.now }
     ensures same { SameSide side.old side.new }
 {
     match side.plan.controls.items()[place].kind {

@@ -4,15 +4,17 @@
 // that send may answer `Refused(e)`: the message was answered with the negative error e, and the record stays; and `LinkDown`:
 // the exchange failed, so the device is cut, the record says that the power is off, and streams that ran or were paused are
 // prepared.
-ghost use Rattle.std.specs.Prelude.{◌≡◌, ◌<◌, ◌^◌, ◌*◌, IfOk, length};
+ghost use Rattle.std.specs.Prelude.{◌≡◌, ◌<◌, ◌^◌, ◌*◌, IfOk, is_some, length, true};
 ghost use Rattle.sof_base.specs.Ports.{HasRoom};
 ghost use Rattle.mbox_link.specs.Calls.{world};
 ghost use Rattle.tplg_plan.specs.Sound.{IsSound};
-ghost use Rattle.host_widgets.specs.Host.{Agrees};
+ghost use Rattle.host_widgets.specs.declared.kept.Power.TheVariants.{On};
+ghost use Rattle.host_widgets.specs.AnsweredOrders.{TestedAnswered};
+ghost use Rattle.host_widgets.specs.Host.{Agrees, IsRecordOf};
 ghost use Rattle.host_widgets.specs.TestedOrders.{Tested};
 ghost use Rattle.host_ctl.specs.ControlAsks.{set_fault, bytes_fault, get_fault, read_fault};
-ghost use Rattle.host_ctl.specs.ControlOrders.{set_order, bytes_order, get_order, read_order, told_by};
-ghost use Rattle.host_ctl.specs.ControlAnswers.{outcome_of, Shows};
+ghost use Rattle.host_ctl.specs.ControlOrders.{set_order, bytes_order, get_order, read_order, told_by, KeptAlone};
+ghost use Rattle.host_ctl.specs.ControlAnswers.{outcome_of, IsSetFor, Shows};
 
 use crate::asking::{installable_place, named_place, readable_place, settable_place};
 use crate::carrying;
@@ -40,12 +42,15 @@ pub fn set<P: Dsp>(
     values: &[u32],
 ) -> Result<(), HostFault>
     requires plan { IsSound plan.now }
-    requires agree { Agrees P.means plan.now kept.old dsp.old }
+    requires kept { IsRecordOf plan.now kept.old }
+    requires on { kept.old.power ≡ On → is_some (P.means.on dsp.old) ≡ true }
     requires room { HasRoom (61440 * P.means.pending dsp.old) out.old }
     requires few { length values.now < 2 ^ 32 }
-    ensures asked { Tested P.means plan.now heap (set_fault plan.now kept.old name.now values.now) (set_order plan.now kept.old name.now values.now) kept.old kept.new
+    ensures answered { TestedAnswered P.means plan.now heap (set_fault plan.now kept.old name.now values.now) (set_order plan.now kept.old name.now values.now) kept.old kept.new
         (world dsp.old io.old out.old) (world dsp.new io.new out.new) result }
-    ensures agree { Agrees P.means plan.now kept.new dsp.new }
+    ensures asked { Agrees P.means plan.now kept.old dsp.old → Tested P.means plan.now heap (set_fault plan.now kept.old name.now values.now) (set_order plan.now kept.old name.now values.now) kept.old kept.new
+        (world dsp.old io.old out.old) (world dsp.new io.new out.new) result }
+    ensures agree { Agrees P.means plan.now kept.old dsp.old → Agrees P.means plan.now kept.new dsp.new }
 {
     let place = settable_place(plan, kept, name, values)?;
     let all = all_values(&plan.controls.items()[place].kind, values);
@@ -80,12 +85,15 @@ pub fn set_bytes<P: Dsp>(
     blob: &[u8],
 ) -> Result<(), HostFault>
     requires plan { IsSound plan.now }
-    requires agree { Agrees P.means plan.now kept.old dsp.old }
+    requires kept { IsRecordOf plan.now kept.old }
+    requires on { kept.old.power ≡ On → is_some (P.means.on dsp.old) ≡ true }
     requires room { HasRoom (61440 * P.means.pending dsp.old) out.old }
     requires few { length blob.now < 2 ^ 32 }
-    ensures asked { Tested P.means plan.now heap (bytes_fault plan.now kept.old name.now blob.now) (bytes_order plan.now kept.old name.now blob.now) kept.old kept.new
+    ensures answered { TestedAnswered P.means plan.now heap (bytes_fault plan.now kept.old name.now blob.now) (bytes_order plan.now kept.old name.now blob.now) kept.old kept.new
         (world dsp.old io.old out.old) (world dsp.new io.new out.new) result }
-    ensures agree { Agrees P.means plan.now kept.new dsp.new }
+    ensures asked { Agrees P.means plan.now kept.old dsp.old → Tested P.means plan.now heap (bytes_fault plan.now kept.old name.now blob.now) (bytes_order plan.now kept.old name.now blob.now) kept.old kept.new
+        (world dsp.old io.old out.old) (world dsp.new io.new out.new) result }
+    ensures agree { Agrees P.means plan.now kept.old dsp.old → Agrees P.means plan.now kept.new dsp.new }
 {
     let place = installable_place(plan, kept, name, blob)?;
     carrying::set_bytes(
@@ -100,6 +108,47 @@ pub fn set_bytes<P: Dsp>(
         place,
         blob,
     )
+}
+
+/// A volume, a mux or a demux has these values in the record, as where the power is off. Nothing is sent, whatever the power.
+///
+/// `Range(n)` and `NoSuch(name)` as of [`set`].
+pub fn keep_values(
+    plan: &Plan,
+    kept: &mut Record,
+    name: &Name44,
+    values: &[u32],
+) -> Result<(), HostFault>
+    requires plan { IsSound plan.now }
+    requires kept { IsRecordOf plan.now kept.old }
+    requires few { length values.now < 2 ^ 32 }
+    ensures kept { KeptAlone (set_fault plan.now kept.old name.now values.now) (set_order plan.now kept.old name.now values.now).done kept.old kept.new result }
+    ensures record_is { IsRecordOf plan.now kept.new }
+{
+    let place = settable_place(plan, kept, name, values)?;
+    let all = all_values(&plan.controls.items()[place].kind, values);
+    carrying::keep(kept, place, &all);
+    Ok(())
+}
+
+/// An equaliser has this blob in the record, as where the power is off. Nothing is sent, whatever the power.
+///
+/// `Range(n)`, `Blob(n)` and `NoSuch(name)` as of [`set_bytes`].
+pub fn keep_bytes(
+    plan: &Plan,
+    kept: &mut Record,
+    name: &Name44,
+    blob: &[u8],
+) -> Result<(), HostFault>
+    requires plan { IsSound plan.now }
+    requires kept { IsRecordOf plan.now kept.old }
+    requires few { length blob.now < 2 ^ 32 }
+    ensures kept { KeptAlone (bytes_fault plan.now kept.old name.now blob.now) (bytes_order plan.now kept.old name.now blob.now).done kept.old kept.new result }
+    ensures record_is { IsRecordOf plan.now kept.new }
+{
+    let place = installable_place(plan, kept, name, blob)?;
+    carrying::keep_blob(kept, place, blob);
+    Ok(())
 }
 
 // What the record says of a control.
@@ -123,11 +172,11 @@ pub fn get<P: Dsp>(
     name: &Name44,
 ) -> Result<Answer, HostFault>
     requires plan { IsSound plan.now }
-    requires agree { Agrees P.means plan.now kept.old dsp.old }
+    requires kept { IsRecordOf plan.now kept.old }
     ensures asked { Tested P.means plan.now heap (get_fault plan.now kept.old name.now) (get_order plan.now kept.old name.now) kept.old kept.new
         (world dsp.old io.old out.old) (world dsp.new io.new out.new) (outcome_of result) }
     ensures answered { IfOk result (λ a. a ≡ (get_order plan.now kept.old name.now).answer) }
-    ensures agree { Agrees P.means plan.now kept.new dsp.new }
+    ensures agree { Agrees P.means plan.now kept.old dsp.old → Agrees P.means plan.now kept.new dsp.new }
 {
     let place = named_place(plan, kept, name)?;
     Ok(told(&plan.controls.items()[place], &kept.controls.items()[place]))
@@ -146,14 +195,17 @@ pub fn read<P: Dsp>(
     name: &Name44,
 ) -> Result<Answer, HostFault>
     requires plan { IsSound plan.now }
-    requires agree { Agrees P.means plan.now kept.old dsp.old }
+    requires kept { IsRecordOf plan.now kept.old }
+    requires on { kept.old.power ≡ On → is_some (P.means.on dsp.old) ≡ true }
     requires room { HasRoom (61440 * P.means.pending dsp.old) out.old }
-    ensures asked { Tested P.means plan.now heap (read_fault plan.now kept.old name.now) (read_order plan.now kept.old name.now) kept.old kept.new
+    ensures answered { TestedAnswered P.means plan.now heap (read_fault plan.now kept.old name.now) (read_order plan.now kept.old name.now) kept.old kept.new
+        (world dsp.old io.old out.old) (world dsp.new io.new out.new) (outcome_of result) }
+    ensures asked { Agrees P.means plan.now kept.old dsp.old → Tested P.means plan.now heap (read_fault plan.now kept.old name.now) (read_order plan.now kept.old name.now) kept.old kept.new
         (world dsp.old io.old out.old) (world dsp.new io.new out.new) (outcome_of result) }
     // By the record, and by the firmware's own state.
-    ensures answered { IfOk result (λ a. a ≡ (read_order plan.now kept.old name.now).answer) }
-    ensures shown { IfOk result (λ a. Shows plan.now name.now a (P.means.on dsp.new)) }
-    ensures agree { Agrees P.means plan.now kept.new dsp.new }
+    ensures told { IsSetFor P.means plan.now kept.old name.now dsp.old → IfOk result (λ a. a ≡ (read_order plan.now kept.old name.now).answer) }
+    ensures shown { IsSetFor P.means plan.now kept.old name.now dsp.old → IfOk result (λ a. Shows plan.now name.now a (P.means.on dsp.new)) }
+    ensures agree { Agrees P.means plan.now kept.old dsp.old → Agrees P.means plan.now kept.new dsp.new }
 {
     let place = readable_place(plan, kept, name)?;
     carrying::read(

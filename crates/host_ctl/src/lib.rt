@@ -6,4 +6,4 @@ mod asking;
 mod carrying;
 mod commands;
 
-pub use commands::{get, read, set, set_bytes};
+pub use commands::{get, keep_bytes, keep_values, read, set, set_bytes};

@@ -95,7 +95,7 @@ module _ (host : ℕ) (c : StreamRec) (idle : IsIdle c) where
       by true was = ap is_live_phase idle.0
       by false was = was
 
-anywhere : (So : StreamRec → Type 0) → ((r : StreamRec) → So r) → (host : ℕ) (ss : List StreamPlan) (rs : List StreamRec) → AllAt So host ss rs
+pub anywhere : (So : StreamRec → Type 0) → ((r : StreamRec) → So r) → (host : ℕ) (ss : List StreamPlan) (rs : List StreamRec) → AllAt So host ss rs
 anywhere So so host [] rs = tt
 anywhere So so host (s ∷ ss) [] = tt
 anywhere So so host (s ∷ ss) (r ∷ rs) = (λ here. so r, anywhere So so host ss rs)
@@ -113,13 +113,20 @@ sends-none On done = refl
 sends-none Off done = refl
 sends-none Unloaded done = refl
 
-close-none : (host : ℕ) (found : Found) → is_idle found ≡ true → close_by host found ≡ []
+pub close-none : (host : ℕ) (found : Found) → is_idle found ≡ true → close_by host found ≡ []
 close-none host Closed is = refl
 close-none host Open is = refl
 close-none host Prepared is = absurd (cc is)
 close-none host Running is = absurd (cc is)
 close-none host Paused is = absurd (cc is)
 close-none host Found_On is = refl
+
+-- an opening sends nothing
+pub open-carried : {D : Type 0} (means : Meaning D) (plan : Plan) (sound : IsSound plan) (heap k : ℕ) (within : k < length plan.streams) (kept : Record) (w : World D) → length kept.streams ≡ length plan.streams →
+    Carried means plan heap (place_order plan kept k Opening) kept (with_stream_at k (opened_stream closed) kept) w w (Ok tt)
+open-carried means plan sound heap k within kept w long =
+    subst (λ (o : Order). Carried means plan heap o kept (with_stream_at k (opened_stream closed) kept) w w (Ok tt)) (sym (sends-none kept.power (with_stream plan (host_at plan k) opened_stream)))
+    (no-acts means plan heap (with_stream plan (host_at plan k) opened_stream) kept (with_stream_at k (opened_stream closed) kept) w (place-changed plan sound k within opened_stream kept long))
 
 module _ {D : Type 0} (means : Meaning D) (plan : Plan) (sound : IsSound plan) (heap k : ℕ) (within : k < length plan.streams) (kept : Record) (w : World D) (agrees : Agrees means plan kept w.device)
     (up : kept.power ≡ Unloaded → ⊥) where
@@ -151,11 +158,6 @@ module _ {D : Type 0} (means : Meaning D) (plan : Plan) (sound : IsSound plan) (
 
   abbrev CarriedSo : Order → Record → Type 0
   CarriedSo order kept' = Carried means plan heap order kept kept' w w (Ok tt)
-
-  -- an opening sends nothing
-  pub open-carried : CarriedSo (place_order plan kept k Opening) (with_stream_at k (opened_stream closed) kept)
-  open-carried = subst (λ (o : Order). CarriedSo o (with_stream_at k (opened_stream closed) kept)) (sym (sends-none kept.power (with_stream plan (host_at plan k) opened_stream)))
-      (no-acts means plan heap (with_stream plan (host_at plan k) opened_stream) kept (with_stream_at k (opened_stream closed) kept) w (place-changed plan sound k within opened_stream kept agrees.record_is.streams))
 
   -- nor does a closing of a stream without parameters, or while the power is off
   close-order : (kept.power ≡ On → is_idle (stream_at kept k).found ≡ true) → place_order plan kept k Closing ≡ plain [] (with_stream plan (host_at plan k) shut)

@@ -2,6 +2,7 @@ pub mod Places
 pub mod StreamCalls
 pub mod OneOrders
 pub mod AtRest
+pub mod AnsweredCalls
 pub mod HostTests
 pub mod AsksCarried
 pub mod OrdersTaken

@@ -25,6 +25,7 @@ use Rattle.host_pcm.specs.StreamCalls.{with_stream_at}
 use Rattle.host_pcm.specs.StreamCalls.{host_at, place_order, shut}
 use Rattle.host_widgets.specs.ActCarried.{ActCarried}
 use Rattle.host_widgets.proofs.PlainOrders.{plain, ends-with, goes-on, passes-alone}
+use Rattle.host_widgets.proofs.RecordsStay.{same-length}
 use Rattle.host_pcm.proofs.Places.{place-changed, once}
 
 module _ {D : Type 0} (means : Meaning D) (plan : Plan) (heap : ℕ) where
@@ -39,7 +40,7 @@ module _ {D : Type 0} (means : Meaning D) (plan : Plan) (heap : ℕ) where
     freed-shut kept' is =
         is ∙ ap (λ (rs : List StreamRec). record { power = kept.power; streams = rs; controls = kept.controls }) (sym (once (host_at plan k) closed plan.streams kept.streams)) ∙ ap shuts (sym is)
 
-    by-found : (found : Found) (acts : List Act) → (stream_at kept k).found ≡ found → close_by (host_at plan k) found ≡ acts → plain acts shuts ≡ place_order plan kept k Closing
+    pub by-found : (found : Found) (acts : List Act) → (stream_at kept k).found ≡ found → close_by (host_at plan k) found ≡ acts → plain acts shuts ≡ place_order plan kept k Closing
     by-found found acts is are =
         ap (λ (xs : List Act). plain xs shuts) (sym are) ∙ ap (λ (f : Found). plain (close_by (host_at plan k) f) shuts) (sym is)
         ∙ ap (λ (p : Power). sends p (close_by (host_at plan k) (stream_at kept k).found) shuts Done) (sym on)
@@ -66,7 +67,7 @@ module _ {D : Type 0} (means : Meaning D) (plan : Plan) (heap : ℕ) where
       stops Paused is = refl
       stops Found_On is = absurd (cc is)
 
-      order-is : plain both shuts ≡ place_order plan kept k Closing
+      pub order-is : plain both shuts ≡ place_order plan kept k Closing
       order-is = by-found (stream_at kept k).found both refl (stops (stream_at kept k).found moves)
 
       pub stop-failed : (k1 : Record) (w m : World D) (fault : HostFault) → ActCarried means plan heap (Trig (host_at plan k) Stop) kept k1 w m (Err fault) → Carried means plan heap (place_order plan kept k Closing) kept k1 w m (Err fault)
@@ -79,16 +80,20 @@ module _ {D : Type 0} (means : Meaning D) (plan : Plan) (heap : ℕ) where
       put-there (x ∷ rs) zero r low = refl
       put-there (x ∷ rs) (suc i) r low = put-there rs i r (omega (arith, low))
 
-      module _ (k1 : Record) (w m : World D) (first : ActCarried means plan heap (Trig (host_at plan k) Stop) kept k1 w m (Ok tt)) where
+      module _ (k1 : Record) (left : k1 ≡ after plan (Trig (host_at plan k) Stop) kept) where
         stopped : k1 ≡ with_stream_at k (triggered_stream Stop (stream_at kept k)) kept
-        stopped = first.ends.0 ∙ sym (place-changed plan sound k within (triggered_stream Stop) kept long)
+        stopped = left ∙ sym (place-changed plan sound k within (triggered_stream Stop) kept long)
 
         pub stopped-power : k1.power ≡ On
         stopped-power = ap (λ (r : Record). r.power) stopped ∙ on
 
+        pub stopped-long : length k1.streams ≡ length plan.streams
+        stopped-long = ap (λ (r : Record). length r.streams) left ∙ same-length (host_at plan k) (triggered_stream Stop) plan.streams kept.streams ∙ long
+
         pub stopped-found : (stream_at k1 k).found ≡ Prepared
         stopped-found = ap (λ (r : Record). (stream_at r k).found) stopped ∙ ap (λ (r : StreamRec). r.found) (put-there kept.streams k (triggered_stream Stop (stream_at kept k)) (omega (arith, within, long)))
 
+      module _ (k1 : Record) (w m : World D) (first : ActCarried means plan heap (Trig (host_at plan k) Stop) kept k1 w m (Ok tt)) where
         pub stop-then : (k2 : Record) (v : World D) (result : Outcome) → ActCarried means plan heap (Free (host_at plan k)) k1 k2 m v result → Carried means plan heap (place_order plan kept k Closing) kept k2 w v result
         stop-then k2 v result x =
             subst (λ (o : Order). Carried means plan heap o kept k2 w v result) order-is

@@ -4,12 +4,16 @@
 // stream stands so. Those that send may answer `Refused(e)`: a message was answered with the negative error e, and what
 // passed before it stands; and `LinkDown`: an exchange failed, so the device is cut, the record says that the power is off,
 // and streams that ran or were paused are prepared.
-ghost use Rattle.std.specs.Prelude.{◌≡◌, ◌*◌};
+ghost use Rattle.std.specs.Prelude.{◌≡◌, ◌*◌, is_some, true};
 ghost use Rattle.sof_base.specs.Ports.{HasRoom};
 ghost use Rattle.mbox_link.specs.Calls.{world};
 ghost use Rattle.tplg_plan.specs.Sound.{IsSound};
-ghost use Rattle.host_widgets.specs.Host.{Agrees};
+ghost use Rattle.host_widgets.specs.declared.kept.Power.TheVariants.{On};
+ghost use Rattle.host_widgets.specs.AnsweredOrders.{TestedAnswered};
+ghost use Rattle.host_widgets.specs.Host.{Agrees, IsRecordOf};
+ghost use Rattle.host_pcm.specs.Asks.{early_fault};
 ghost use Rattle.host_pcm.specs.StreamCalls.{Asked};
+ghost use Rattle.host_pcm.specs.StreamOrders.{stream_order};
 
 use crate::asking::{Ask, tested};
 use crate::carrying;
@@ -35,11 +39,14 @@ pub fn ask<P: Dsp>(
     ask: Ask,
 ) -> Result<(), HostFault>
     requires plan { IsSound plan.now }
-    requires agree { Agrees P.means plan.now kept.old dsp.old }
+    requires kept { IsRecordOf plan.now kept.old }
+    requires on { kept.old.power ≡ On → is_some (P.means.on dsp.old) ≡ true }
     requires room { HasRoom (61440 * P.means.pending dsp.old) out.old }
-    ensures asked { Asked P.means plan.now heap name.now ask kept.old kept.new
+    ensures answered { TestedAnswered P.means plan.now heap (early_fault plan.now kept.old name.now ask) (stream_order plan.now kept.old name.now ask) kept.old kept.new
         (world dsp.old io.old out.old) (world dsp.new io.new out.new) result }
-    ensures agree { Agrees P.means plan.now kept.new dsp.new }
+    ensures asked { Agrees P.means plan.now kept.old dsp.old → Asked P.means plan.now heap name.now ask kept.old kept.new
+        (world dsp.old io.old out.old) (world dsp.new io.new out.new) result }
+    ensures agree { Agrees P.means plan.now kept.old dsp.old → Agrees P.means plan.now kept.new dsp.new }
 {
     let place = tested(plan, kept, name, ask)?;
     let mut side = Side {
@@ -72,10 +79,10 @@ pub fn open<P: Dsp>(
     name: &Name44,
 ) -> Result<(), HostFault>
     requires plan { IsSound plan.now }
-    requires agree { Agrees P.means plan.now kept.old dsp.old }
+    requires kept { IsRecordOf plan.now kept.old }
     ensures asked { Asked P.means plan.now heap name.now Ask.Opening kept.old kept.new
         (world dsp.old io.old out.old) (world dsp.new io.new out.new) result }
-    ensures agree { Agrees P.means plan.now kept.new dsp.new }
+    ensures agree { Agrees P.means plan.now kept.old dsp.old → Agrees P.means plan.now kept.new dsp.new }
 {
     let place = tested(plan, kept, name, Ask::Opening)?;
     carrying::open(kept, place);
@@ -97,11 +104,14 @@ pub fn params<P: Dsp>(
     p: Params,
 ) -> Result<(), HostFault>
     requires plan { IsSound plan.now }
-    requires agree { Agrees P.means plan.now kept.old dsp.old }
+    requires kept { IsRecordOf plan.now kept.old }
+    requires on { kept.old.power ≡ On → is_some (P.means.on dsp.old) ≡ true }
     requires room { HasRoom (61440 * P.means.pending dsp.old) out.old }
-    ensures asked { Asked P.means plan.now heap name.now (Ask.Preparing p) kept.old kept.new
+    ensures answered { TestedAnswered P.means plan.now heap (early_fault plan.now kept.old name.now (Ask.Preparing p)) (stream_order plan.now kept.old name.now (Ask.Preparing p)) kept.old kept.new
         (world dsp.old io.old out.old) (world dsp.new io.new out.new) result }
-    ensures agree { Agrees P.means plan.now kept.new dsp.new }
+    ensures asked { Agrees P.means plan.now kept.old dsp.old → Asked P.means plan.now heap name.now (Ask.Preparing p) kept.old kept.new
+        (world dsp.old io.old out.old) (world dsp.new io.new out.new) result }
+    ensures agree { Agrees P.means plan.now kept.old dsp.old → Agrees P.means plan.now kept.new dsp.new }
 {
     ask(plan, kept, heap, dsp, io, out, name, Ask::Preparing(p))
 }
@@ -117,11 +127,14 @@ pub fn start<P: Dsp>(
     name: &Name44,
 ) -> Result<(), HostFault>
     requires plan { IsSound plan.now }
-    requires agree { Agrees P.means plan.now kept.old dsp.old }
+    requires kept { IsRecordOf plan.now kept.old }
+    requires on { kept.old.power ≡ On → is_some (P.means.on dsp.old) ≡ true }
     requires room { HasRoom (61440 * P.means.pending dsp.old) out.old }
-    ensures asked { Asked P.means plan.now heap name.now (Ask.Triggering Trigger.Start) kept.old kept.new
+    ensures answered { TestedAnswered P.means plan.now heap (early_fault plan.now kept.old name.now (Ask.Triggering Trigger.Start)) (stream_order plan.now kept.old name.now (Ask.Triggering Trigger.Start)) kept.old kept.new
         (world dsp.old io.old out.old) (world dsp.new io.new out.new) result }
-    ensures agree { Agrees P.means plan.now kept.new dsp.new }
+    ensures asked { Agrees P.means plan.now kept.old dsp.old → Asked P.means plan.now heap name.now (Ask.Triggering Trigger.Start) kept.old kept.new
+        (world dsp.old io.old out.old) (world dsp.new io.new out.new) result }
+    ensures agree { Agrees P.means plan.now kept.old dsp.old → Agrees P.means plan.now kept.new dsp.new }
 {
     ask(
         plan,
@@ -146,11 +159,14 @@ pub fn stop<P: Dsp>(
     name: &Name44,
 ) -> Result<(), HostFault>
     requires plan { IsSound plan.now }
-    requires agree { Agrees P.means plan.now kept.old dsp.old }
+    requires kept { IsRecordOf plan.now kept.old }
+    requires on { kept.old.power ≡ On → is_some (P.means.on dsp.old) ≡ true }
     requires room { HasRoom (61440 * P.means.pending dsp.old) out.old }
-    ensures asked { Asked P.means plan.now heap name.now (Ask.Triggering Trigger.Stop) kept.old kept.new
+    ensures answered { TestedAnswered P.means plan.now heap (early_fault plan.now kept.old name.now (Ask.Triggering Trigger.Stop)) (stream_order plan.now kept.old name.now (Ask.Triggering Trigger.Stop)) kept.old kept.new
         (world dsp.old io.old out.old) (world dsp.new io.new out.new) result }
-    ensures agree { Agrees P.means plan.now kept.new dsp.new }
+    ensures asked { Agrees P.means plan.now kept.old dsp.old → Asked P.means plan.now heap name.now (Ask.Triggering Trigger.Stop) kept.old kept.new
+        (world dsp.old io.old out.old) (world dsp.new io.new out.new) result }
+    ensures agree { Agrees P.means plan.now kept.old dsp.old → Agrees P.means plan.now kept.new dsp.new }
 {
     ask(
         plan,
@@ -175,11 +191,14 @@ pub fn pause<P: Dsp>(
     name: &Name44,
 ) -> Result<(), HostFault>
     requires plan { IsSound plan.now }
-    requires agree { Agrees P.means plan.now kept.old dsp.old }
+    requires kept { IsRecordOf plan.now kept.old }
+    requires on { kept.old.power ≡ On → is_some (P.means.on dsp.old) ≡ true }
     requires room { HasRoom (61440 * P.means.pending dsp.old) out.old }
-    ensures asked { Asked P.means plan.now heap name.now (Ask.Triggering Trigger.Pause) kept.old kept.new
+    ensures answered { TestedAnswered P.means plan.now heap (early_fault plan.now kept.old name.now (Ask.Triggering Trigger.Pause)) (stream_order plan.now kept.old name.now (Ask.Triggering Trigger.Pause)) kept.old kept.new
         (world dsp.old io.old out.old) (world dsp.new io.new out.new) result }
-    ensures agree { Agrees P.means plan.now kept.new dsp.new }
+    ensures asked { Agrees P.means plan.now kept.old dsp.old → Asked P.means plan.now heap name.now (Ask.Triggering Trigger.Pause) kept.old kept.new
+        (world dsp.old io.old out.old) (world dsp.new io.new out.new) result }
+    ensures agree { Agrees P.means plan.now kept.old dsp.old → Agrees P.means plan.now kept.new dsp.new }
 {
     ask(
         plan,
@@ -204,11 +223,14 @@ pub fn release<P: Dsp>(
     name: &Name44,
 ) -> Result<(), HostFault>
     requires plan { IsSound plan.now }
-    requires agree { Agrees P.means plan.now kept.old dsp.old }
+    requires kept { IsRecordOf plan.now kept.old }
+    requires on { kept.old.power ≡ On → is_some (P.means.on dsp.old) ≡ true }
     requires room { HasRoom (61440 * P.means.pending dsp.old) out.old }
-    ensures asked { Asked P.means plan.now heap name.now (Ask.Triggering Trigger.Release) kept.old kept.new
+    ensures answered { TestedAnswered P.means plan.now heap (early_fault plan.now kept.old name.now (Ask.Triggering Trigger.Release)) (stream_order plan.now kept.old name.now (Ask.Triggering Trigger.Release)) kept.old kept.new
         (world dsp.old io.old out.old) (world dsp.new io.new out.new) result }
-    ensures agree { Agrees P.means plan.now kept.new dsp.new }
+    ensures asked { Agrees P.means plan.now kept.old dsp.old → Asked P.means plan.now heap name.now (Ask.Triggering Trigger.Release) kept.old kept.new
+        (world dsp.old io.old out.old) (world dsp.new io.new out.new) result }
+    ensures agree { Agrees P.means plan.now kept.old dsp.old → Agrees P.means plan.now kept.new dsp.new }
 {
     ask(
         plan,
@@ -234,11 +256,14 @@ pub fn close<P: Dsp>(
     name: &Name44,
 ) -> Result<(), HostFault>
     requires plan { IsSound plan.now }
-    requires agree { Agrees P.means plan.now kept.old dsp.old }
+    requires kept { IsRecordOf plan.now kept.old }
+    requires on { kept.old.power ≡ On → is_some (P.means.on dsp.old) ≡ true }
     requires room { HasRoom (61440 * P.means.pending dsp.old) out.old }
-    ensures asked { Asked P.means plan.now heap name.now Ask.Closing kept.old kept.new
+    ensures answered { TestedAnswered P.means plan.now heap (early_fault plan.now kept.old name.now Ask.Closing) (stream_order plan.now kept.old name.now Ask.Closing) kept.old kept.new
         (world dsp.old io.old out.old) (world dsp.new io.new out.new) result }
-    ensures agree { Agrees P.means plan.now kept.new dsp.new }
+    ensures asked { Agrees P.means plan.now kept.old dsp.old → Asked P.means plan.now heap name.now Ask.Closing kept.old kept.new
+        (world dsp.old io.old out.old) (world dsp.new io.new out.new) result }
+    ensures agree { Agrees P.means plan.now kept.old dsp.old → Agrees P.means plan.now kept.new dsp.new }
 {
     ask(plan, kept, heap, dsp, io, out, name, Ask::Closing)
 }

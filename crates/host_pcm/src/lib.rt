@@ -7,5 +7,6 @@ mod carrying;
 mod commands;
 mod ranges;
 
-pub use asking::Ask;
+pub use asking::{Ask, tested};
+pub use carrying::{close as close_at, open as open_at};
 pub use commands::{ask, close, open, params, pause, release, start, stop};

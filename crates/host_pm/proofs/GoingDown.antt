@@ -31,7 +31,7 @@ use Rattle.host_widgets.specs.Host.{Outcome, IsRecordOf}
 use Rattle.host_widgets.specs.HostActs.{Act, Trig, Save, after, triggered_stream}
 use Rattle.host_widgets.specs.ActLists.{stop_by, stop_acts, go_down}
 use Rattle.host_widgets.specs.ActMessages.{act_message}
-use Rattle.host_widgets.specs.OneAct.{own, outcome_by, lag_of, performed}
+use Rattle.host_widgets.specs.OneAct.{act_rules, own, outcome_by, lag_of, performed}
 use Rattle.host_widgets.specs.ViewOf.{record_view}
 use Rattle.host_widgets.specs.Walk.{walk, followed_by, goes_past}
 use Rattle.host_widgets.specs.ActCalls.{next_of}
@@ -105,16 +105,16 @@ module _ (plan : Plan) (heap : ℕ) where
   are-met (act ∷ acts) now are = (record_view plan (after plan act now), are.0.met, are-met acts (after plan act now) are.1, λ goes. are-met acts now are.2)
 
   -- whatever their messages met
-  pub walk-down : (acts : List Act) (ms : List Meeting) (now : Record) → AreDown now acts → went_down (walk plan heap true next_of now ms acts).kept ≡ went_down now
+  pub walk-down : (acts : List Act) (ms : List Meeting) (now : Record) → AreDown now acts → went_down (walk (act_rules plan heap) true next_of now ms acts).kept ≡ went_down now
   walk-down [] ms now are = refl
   walk-down (act ∷ acts) ms now are = by (outcome_by (next_of ms).0.fate (own plan heap now act)) (walk-down acts (next_of ms).1 (after plan act now) are.1) (walk-down acts (next_of ms).1 now are.2)
     where
       left : Outcome → Record
       left o =
-          let a = performed plan act now (lag_of (next_of ms).0) o in
-          (followed_by act a (next_of ms).1 (goes_past true a.outcome) (walk plan heap true next_of a.kept (next_of ms).1 acts)).kept
+          let a = performed (act_rules plan heap) act now (lag_of (next_of ms).0) o in
+          (followed_by act a (next_of ms).1 (goes_past true a.outcome) (walk (act_rules plan heap) true next_of a.kept (next_of ms).1 acts)).kept
 
-      by : (o : Outcome) → went_down (walk plan heap true next_of (after plan act now) (next_of ms).1 acts).kept ≡ went_down (after plan act now) → went_down (walk plan heap true next_of now (next_of ms).1 acts).kept ≡ went_down now → went_down (left o) ≡ went_down now
+      by : (o : Outcome) → went_down (walk (act_rules plan heap) true next_of (after plan act now) (next_of ms).1 acts).kept ≡ went_down (after plan act now) → went_down (walk (act_rules plan heap) true next_of now (next_of ms).1 acts).kept ≡ went_down now → went_down (left o) ≡ went_down now
       by (Ok done) passed refused = passed ∙ are.0.halts
       by (Err (Refused e)) passed refused = refused
       by (Err LinkDown) passed refused = refl

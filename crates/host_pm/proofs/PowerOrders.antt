@@ -20,7 +20,7 @@ use Rattle.host_widgets.specs.Host.{Outcome, Agrees, IsRecordOf, Sides}
 use Rattle.host_widgets.specs.Bringing.{ticks_put}
 use Rattle.host_widgets.specs.HostActs.{Act, after}
 use Rattle.host_widgets.specs.ActLists.{go_down, bring_up, bring_back, prepare_acts}
-use Rattle.host_widgets.specs.OneAct.{own, outcome_by, lag_of, performed}
+use Rattle.host_widgets.specs.OneAct.{act_rules, own, outcome_by, lag_of, performed}
 use Rattle.host_widgets.specs.Walk.{Walked, walk, followed_by, goes_past}
 use Rattle.host_widgets.specs.ActCalls.{ActsDid, Onwards, next_of, calls_of}
 use Rattle.host_widgets.specs.Orders.{Carried, suspending, resuming, brought_end}
@@ -39,11 +39,11 @@ use Rattle.host_pm.proofs.StillTurns.{IsRested, Rests, rests, all-prepare, broug
 -- ---- walks that end at the first failure
 
 module _ {D : Type 0} (means : Meaning D) (plan : Plan) (heap : ℕ) where
-  abbrev walked : Record → List Meeting → List Act → Walked (List Meeting)
-  walked kept ms acts = walk plan heap false next_of kept ms acts
+  abbrev walked : Record → List Meeting → List Act → Walked Record Act (List Meeting)
+  walked kept ms acts = walk (act_rules plan heap) false next_of kept ms acts
 
   abbrev did_acts : Record → List Act → List Meeting → World D → World D → Type 0
-  did_acts kept acts ms w v = ActsDid means plan heap false kept acts ms w v
+  did_acts kept acts ms w v = ActsDid means (act_rules plan heap) false kept acts ms w v
 
   -- acts behind acts that passed
   pub record Joined (kept : Record) (xs ys : List Act) (ms ns : List Meeting) (w v : World D) : Type 0 where
@@ -60,14 +60,14 @@ module _ {D : Type 0} (means : Meaning D) (plan : Plan) (heap : ℕ) where
     where
       Left : Outcome → Type 0
       Left o =
-          let a = performed plan x kept (lag_of one) o in
+          let a = performed (act_rules plan heap) x kept (lag_of one) o in
           Onwards (goes_past false a.outcome) (ms ++ ns) mid v (did_acts a.kept (xs ++ ys) (ms ++ ns) mid v)
           × ((followed_by x a (ms ++ ns) (goes_past false a.outcome) (walked a.kept (ms ++ ns) (xs ++ ys))).outcome
           ≡ (walked (followed_by x a ms (goes_past false a.outcome) (walked a.kept ms xs)).kept ns ys).outcome)
 
-      by : (o : Outcome) → (let a = performed plan x kept (lag_of one) o in Onwards (goes_past false a.outcome) ms mid m (did_acts a.kept xs ms mid m)) →
-          (let a = performed plan x kept (lag_of one) o in (followed_by x a ms (goes_past false a.outcome) (walked a.kept ms xs)).outcome ≡ Ok tt) →
-          (let a = performed plan x kept (lag_of one) o in did_acts (followed_by x a ms (goes_past false a.outcome) (walked a.kept ms xs)).kept ys ns m v) →
+      by : (o : Outcome) → (let a = performed (act_rules plan heap) x kept (lag_of one) o in Onwards (goes_past false a.outcome) ms mid m (did_acts a.kept xs ms mid m)) →
+          (let a = performed (act_rules plan heap) x kept (lag_of one) o in (followed_by x a ms (goes_past false a.outcome) (walked a.kept ms xs)).outcome ≡ Ok tt) →
+          (let a = performed (act_rules plan heap) x kept (lag_of one) o in did_acts (followed_by x a ms (goes_past false a.outcome) (walked a.kept ms xs)).kept ys ns m v) →
           (did_acts (after plan x kept) xs ms mid m → (walked (after plan x kept) ms xs).outcome ≡ Ok tt → did_acts (walked (after plan x kept) ms xs).kept ys ns m v → Joined (after plan x kept) xs ys ms ns mid v) → Left o
       by (Ok done) on ok more go = let r = go on ok more in (r.did, r.outcome)
       by (Err (Refused e)) on ok more go = absurd (cc ok)
@@ -94,12 +94,12 @@ module _ {D : Type 0} (means : Meaning D) (plan : Plan) (heap : ℕ) where
     where
       Left : Outcome → Type 0
       Left o =
-          let a = performed plan x kept (lag_of one) o in
+          let a = performed (act_rules plan heap) x kept (lag_of one) o in
           Onwards (goes_past false a.outcome) ms mid v (did_acts a.kept (xs ++ ys) ms mid v)
           × ((followed_by x a ms (goes_past false a.outcome) (walked a.kept ms (xs ++ ys))).outcome ≡ (followed_by x a ms (goes_past false a.outcome) (walked a.kept ms xs)).outcome)
 
-      by : (o : Outcome) → (let a = performed plan x kept (lag_of one) o in Onwards (goes_past false a.outcome) ms mid v (did_acts a.kept xs ms mid v)) →
-          (let a = performed plan x kept (lag_of one) o in (followed_by x a ms (goes_past false a.outcome) (walked a.kept ms xs)).outcome ≡ Err fault) →
+      by : (o : Outcome) → (let a = performed (act_rules plan heap) x kept (lag_of one) o in Onwards (goes_past false a.outcome) ms mid v (did_acts a.kept xs ms mid v)) →
+          (let a = performed (act_rules plan heap) x kept (lag_of one) o in (followed_by x a ms (goes_past false a.outcome) (walked a.kept ms xs)).outcome ≡ Err fault) →
           (did_acts (after plan x kept) xs ms mid v → (walked (after plan x kept) ms xs).outcome ≡ Err fault → Ended (after plan x kept) xs ys ms mid v) → Left o
       by (Ok done) on is go = let r = go on is in (r.did, r.outcome)
       by (Err (Refused e)) on is go = (on, refl)
@@ -117,7 +117,7 @@ module _ {D : Type 0} (means : Meaning D) (plan : Plan) (heap : ℕ) where
   acts-fewer [] ms kept w v did = let same : means.pending v.device ≡ means.pending w.device = ap (λ (x : World D). means.pending x.device) did.1 in omega (arith, same)
   acts-fewer (act ∷ acts) [] kept w v did = absurd did
   acts-fewer (act ∷ acts) (one ∷ ms) kept w v (mid, did, onwards) =
-      let a = performed plan act kept (lag_of one) (outcome_by one.fate (own plan heap kept act)) in
+      let a = performed (act_rules plan heap) act kept (lag_of one) (outcome_by one.fate (own plan heap kept act)) in
       let first = did.exchanged.steady.pending in
       let rest = by (goes_past false a.outcome) (did_acts a.kept acts ms mid v) onwards (λ more. acts-fewer acts ms a.kept mid v more) in omega (arith, first, rest)
     where
@@ -134,7 +134,7 @@ module _ {D : Type 0} (means : Meaning D) (plan : Plan) (heap : ℕ) where
       ended o true rest = rest
       ended o false rest = refl
 
-      by : (o : Outcome) → (walked kept (next_of ms).1 acts).kept ≡ kept → (let a = performed plan act kept (lag_of (next_of ms).0) o in (followed_by act a (next_of ms).1 (goes_past false a.outcome) (walked a.kept (next_of ms).1 acts)).kept ≡ kept)
+      by : (o : Outcome) → (walked kept (next_of ms).1 acts).kept ≡ kept → (let a = performed (act_rules plan heap) act kept (lag_of (next_of ms).0) o in (followed_by act a (next_of ms).1 (goes_past false a.outcome) (walked a.kept (next_of ms).1 acts)).kept ≡ kept)
       by (Ok done) rest = ap (λ (now : Record). (walked now (next_of ms).1 acts).kept) all.0 ∙ rest
       by (Err fault) rest = ended (Err fault) (goes_past false (Err fault)) rest
 

@@ -35,7 +35,7 @@ use Rattle.host_widgets.specs.HostActs.{Act, Make, Join, Put, Part, Finish, Prep
 use Rattle.host_widgets.specs.ActLists.{prepare_acts, prepare_by}
 use Rattle.host_widgets.specs.ActMessages.{act_message}
 use Rattle.host_widgets.specs.Host.{Outcome, verdict, errno}
-use Rattle.host_widgets.specs.OneAct.{own, outcome_by, lag_of, performed}
+use Rattle.host_widgets.specs.OneAct.{act_rules, own, outcome_by, lag_of, performed}
 use Rattle.host_widgets.specs.Walk.{goes_past, followed_by, walk}
 use Rattle.host_widgets.specs.ActCalls.{ActsDid, Onwards, came_to, next_of}
 use Rattle.host_widgets.proofs.BuildingActs.{ends-at}
@@ -162,8 +162,8 @@ module _ (plan : Plan) (heap : ℕ) where
       pub fewer : means.pending v.device ≤ means.pending w.device
       pub on : o ≡ Ok tt → (g : FwState) × (means.on v.device ≡ Some g) × IsRested (t + (means.pending w.device - means.pending v.device)) g
 
-    pub rests : (acts : List Act) (ms : List Meeting) (now : Record) (shown : View) (w v : World D) → AreMet plan heap false End So now shown acts → AllByRecursion IsPrepare acts → ActsDid means plan heap false now acts ms w v →
-        AreInputs w.io.inputs → (t : ℕ) (f : FwState) → means.on w.device ≡ Some f → IsRested t f → Rests w v t (walk plan heap false next_of now ms acts).outcome
+    pub rests : (acts : List Act) (ms : List Meeting) (now : Record) (shown : View) (w v : World D) → AreMet plan heap false End So now shown acts → AllByRecursion IsPrepare acts → ActsDid means (act_rules plan heap) false now acts ms w v →
+        AreInputs w.io.inputs → (t : ℕ) (f : FwState) → means.on w.device ≡ Some f → IsRested t f → Rests w v t (walk (act_rules plan heap) false next_of now ms acts).outcome
     rests [] ms now shown w v met all did are t f on rested =
         let pending : means.pending v.device ≡ means.pending w.device = ap (λ (x : World D). means.pending x.device) did.1 in
         record {
@@ -202,13 +202,13 @@ module _ (plan : Plan) (heap : ℕ) where
             (exchange-came means (message_spelling (act_message plan act)) one.answer w mid f on one.exchanged).way
 
         Behind : Outcome → Type 0
-        Behind o = let a = performed plan act now (lag_of m) o in Onwards (goes_past false a.outcome) ms mid v (ActsDid means plan heap false a.kept acts ms mid v)
+        Behind o = let a = performed (act_rules plan heap) act now (lag_of m) o in Onwards (goes_past false a.outcome) ms mid v (ActsDid means (act_rules plan heap) false a.kept acts ms mid v)
 
         left : Outcome → Outcome
-        left o = let a = performed plan act now (lag_of m) o in (followed_by act a ms (goes_past false a.outcome) (walk plan heap false next_of a.kept ms acts)).outcome
+        left o = let a = performed (act_rules plan heap) act now (lag_of m) o in (followed_by act a ms (goes_past false a.outcome) (walk (act_rules plan heap) false next_of a.kept ms acts)).outcome
 
         by : (o : Outcome) → outcome_by m.fate (own plan heap now act) ≡ o → Behind o →
-            (ActsDid means plan heap false (after plan act now) acts ms mid v → (g : FwState) → means.on mid.device ≡ Some g → IsRested (t + n) g → Rests mid v (t + n) (walk plan heap false next_of (after plan act now) ms acts).outcome) →
+            (ActsDid means (act_rules plan heap) false (after plan act now) acts ms mid v → (g : FwState) → means.on mid.device ≡ Some g → IsRested (t + n) g → Rests mid v (t + n) (walk (act_rules plan heap) false next_of (after plan act now) ms acts).outcome) →
             Rests w v t (left o)
         by (Ok done) is more go =
             let p = passed is in
@@ -221,10 +221,10 @@ module _ (plan : Plan) (heap : ℕ) where
               on = λ ok. (let e = r.on ok in (e.0, e.1, subst (λ (k : ℕ). IsRested k e.0) clock e.2));
             }
         by (Err fault) is end go =
-            let stop = subst (λ (b : Bool). Onwards b ms mid v (ActsDid means plan heap false now acts ms mid v)) (ends-at fault) end in
+            let stop = subst (λ (b : Bool). Onwards b ms mid v (ActsDid means (act_rules plan heap) false now acts ms mid v)) (ends-at fault) end in
             let first = one.exchanged.steady.pending in
             record {
               io = ap (λ (x : World D). x.io) stop.1 ∙ io-stays;
               fewer = omega (arith, first, ap (λ (x : World D). means.pending x.device) stop.1);
-              on = λ ok. absurd (let no : Err fault ≡ Ok tt = sym (ap (λ (b : Bool). (followed_by act (performed plan act now (lag_of m) (Err fault)) ms b (walk plan heap false next_of now ms acts)).outcome) (ends-at fault)) ∙ ok in cc no);
+              on = λ ok. absurd (let no : Err fault ≡ Ok tt = sym (ap (λ (b : Bool). (followed_by act (performed (act_rules plan heap) act now (lag_of m) (Err fault)) ms b (walk (act_rules plan heap) false next_of now ms acts)).outcome) (ends-at fault)) ∙ ok in cc no);
             }

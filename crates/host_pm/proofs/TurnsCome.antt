@@ -16,7 +16,7 @@ use Rattle.host_widgets.specs.declared.kept.Record.{Record}
 use Rattle.host_widgets.specs.HostActs.{Act, after}
 use Rattle.host_widgets.specs.ActMessages.{act_message}
 use Rattle.host_widgets.specs.Host.{Outcome, verdict}
-use Rattle.host_widgets.specs.OneAct.{own, outcome_by, lag_of, performed}
+use Rattle.host_widgets.specs.OneAct.{act_rules, own, outcome_by, lag_of, performed}
 use Rattle.host_widgets.specs.Walk.{goes_past, first_of, followed_by, walk}
 use Rattle.host_widgets.specs.ActCalls.{ActsDid, Onwards, came_to, next_of}
 use Rattle.host_widgets.proofs.ReplyErrors.{done_reply}
@@ -64,8 +64,8 @@ module _ (plan : Plan) (heap : ℕ) (goes_on : Bool) (End : View → Type 0) (So
     -- what the messages met, what the walk makes of it, and what the device shows where all passed
     pub record Came (kept : Record) (acts : List Act) (w v : World D) (result : Outcome) : Type 0 where
       pub meetings : List Meeting
-      pub did : ActsDid means plan heap goes_on kept acts meetings w v
-      pub is : result ≡ (walk plan heap goes_on next_of kept meetings acts).outcome
+      pub did : ActsDid means (act_rules plan heap) goes_on kept acts meetings w v
+      pub is : result ≡ (walk (act_rules plan heap) goes_on next_of kept meetings acts).outcome
       pub ends : result ≡ Ok tt → Ending v
 
     pub turns-come : (acts : List Act) (kept : Record) (shown : View) (w v : World D) (result : Outcome) → Shows w shown → AreMet kept shown acts → InTurn means plan goes_on acts w v result → Came kept acts w v result
@@ -123,9 +123,9 @@ module _ (plan : Plan) (heap : ℕ) (goes_on : Bool) (End : View → Type 0) (So
         -- what is left to say, by what the act came to and whether acts go on behind it
         Left : Outcome → Bool → Type 0
         Left p b =
-            let a = performed plan act kept (lag_of met.0) p in
-            (ms : List Meeting) × Onwards b ms mid v (ActsDid means plan heap goes_on a.kept acts ms mid v)
-            × (result ≡ (followed_by act a ms b (walk plan heap goes_on next_of a.kept ms acts)).outcome) × (result ≡ Ok tt → Ending v)
+            let a = performed (act_rules plan heap) act kept (lag_of met.0) p in
+            (ms : List Meeting) × Onwards b ms mid v (ActsDid means (act_rules plan heap) goes_on a.kept acts ms mid v)
+            × (result ≡ (followed_by act a ms b (walk (act_rules plan heap) goes_on next_of a.kept ms acts)).outcome) × (result ≡ Ok tt → Ending v)
 
         OnPassed : Type 0
         OnPassed = Shows mid later → (rest : Outcome) → More rest → Came (after plan act kept) acts mid v rest
@@ -142,7 +142,7 @@ module _ (plan : Plan) (heap : ℕ) (goes_on : Bool) (End : View → Type 0) (So
         stopped : (fault : HostFault) → (v ≡ mid) × (result ≡ Err fault) → Left (Err fault) false
         stopped fault (none, is) = ([], (refl, none), is, λ ok. absurd (let no : Err fault ≡ Ok tt = sym is ∙ ok in cc no))
 
-        by : (p : Outcome) → After p → Behind (goes_past goes_on p) p More (v ≡ mid) result → OnPassed → OnRefused → Left p (goes_past goes_on (performed plan act kept (lag_of met.0) p).outcome)
+        by : (p : Outcome) → After p → Behind (goes_past goes_on p) p More (v ≡ mid) result → OnPassed → OnRefused → Left p (goes_past goes_on (performed (act_rules plan heap) act kept (lag_of met.0) p).outcome)
         by (Ok done) there (rest, more, is) on_passed on_refused =
             let r = on_passed there rest more in
             (r.meetings, r.did, is ∙ r.is, λ ok. r.ends (sym is ∙ ok))

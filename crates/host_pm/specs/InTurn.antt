@@ -1,13 +1,17 @@
 -- Acts that are sent one after another, over any device: what each exchange came to, and what all came to.
 use Rattle.std.specs.Prelude.{◌≡◌, ℕ, List, [], ◌∷◌, Bool, true, false, Option, Result, Ok}
+use Rattle.stream_law.specs.Past.{Cut}
 use Rattle.ipc3_model.specs.declared.reply.Reply.{Reply}
 use Rattle.ipc3_model.specs.Messages.{message_spelling}
-use Rattle.mbox_link.specs.Calls.{World, Meaning, Exchanged}
+use Rattle.mbox_link.specs.Calls.{World, Meaning, Exchanged, Led}
 use Rattle.tplg_plan.specs.declared.plans.Plan.{Plan}
 use Rattle.host_widgets.specs.declared.answers.HostFault.{HostFault}
+use Rattle.host_widgets.specs.declared.kept.Record.{Record}
 use Rattle.host_widgets.specs.HostActs.{Act}
+use Rattle.host_widgets.specs.ActLists.{go_down}
 use Rattle.host_widgets.specs.ActMessages.{act_message}
-use Rattle.host_widgets.specs.ActCalls.{came_to}
+use Rattle.host_widgets.specs.ActCalls.{came_to, calls_of}
+use Rattle.host_widgets.specs.Kept.{went_down}
 use Rattle.host_widgets.specs.Host.{Outcome, verdict}
 use Rattle.host_widgets.specs.Bringing.{Sent}
 use Rattle.host_widgets.specs.Walk.{goes_past, first_of}
@@ -29,3 +33,10 @@ InTurn means plan goes_on [] w v result = (v ≡ w) × (result ≡ Ok tt)
 InTurn {D} means plan goes_on (act ∷ acts) w v result =
     (answer : Option (List ℕ)) × (mid : World D) × Exchanged means (message_spelling (act_message plan act)) answer w mid
     × Behind (goes_past goes_on (came_to (verdict answer))) (came_to (verdict answer)) (λ rest. InTurn means plan goes_on acts mid v rest) (v ≡ mid) result
+
+-- the messages before a cut were sent, and then the device was cut, whatever they came to
+pub record WentDown {D : Type 0} (means : Meaning D) (plan : Plan) (heap : ℕ) (kept kept' : Record) (w v : World D) (result : Outcome) : Type 0 where
+  pub sent : World D
+  pub told : InTurn means plan true (go_down plan kept) w sent result
+  pub record_is : kept' ≡ went_down kept
+  pub cut : Led means sent (calls_of heap (Cut ∷ [])) v

@@ -8,5 +8,5 @@ mod suspending;
 mod telling;
 
 pub use laws::incremental_equals_from_scratch;
-pub use resuming::resume;
+pub use resuming::{prepare_all, resume};
 pub use suspending::suspend;

@@ -12,7 +12,7 @@ ghost use Rattle.host_widgets.specs.Acts.{direction_of};
 ghost use Rattle.tplg_plan.specs.Sound.{IsSound};
 ghost use Rattle.host_widgets.specs.Expected.{phase_of};
 ghost use Rattle.host_widgets.specs.Host.{Agrees, IsRecordOf};
-ghost use Rattle.host_widgets.specs.Sides.{IsReady, SameSide, world_of};
+ghost use Rattle.host_widgets.specs.Sides.{SameSide, world_of};
 ghost use Rattle.host_widgets.specs.Orders.{Carried, resuming};
 ghost use Rattle.host_widgets.specs.TestedOrders.{ActsCame, Tested};
 ghost use Rattle.host_widgets.specs.ViewOf.{record_view};
@@ -52,8 +52,8 @@ fn prepare<P: Dsp>(
     tell(&message, dsp, io, out)
 }
 
-// Each stream that is prepared has its parameters again, up to the first message that does not pass.
-fn prepare_all<P: Dsp>(
+/// Each stream that is prepared has its parameters again, up to the first message that does not pass. Nothing is cut.
+pub fn prepare_all<P: Dsp>(
     plan: &Plan,
     kept: &Record,
     dsp: &mut P,
@@ -97,7 +97,9 @@ fn bring_back<P: Dsp>(side: &mut Side<'_, P>) -> Result<(), HostFault>
 
 // Boots the device, brings it up and prepares its streams. A failure cuts it, and the record stays.
 fn power_up<P: Dsp>(side: &mut Side<'_, P>) -> Result<(), HostFault>
-    requires ready { IsReady P.means side.old }
+    requires plan { IsSound side.old.plan.now }
+    requires agree { Agrees P.means side.old.plan.now side.old.kept.now side.old.dsp.now }
+    requires room { HasRoom (61440 * P.means.pending side.old.dsp.now) side.old.out.now }
     requires heap { side.old.heap ≤ P.means.most side.old.dsp.now }
     requires power { side.old.kept.now.power ≡ Power.Off }
     ensures carried { Carried P.means side.old.plan.now side.old.heap (resuming side.old.plan.now side.old.kept.now) side.old.kept.now side.new.kept.now (world_of side.old) (world_of side.new) result }

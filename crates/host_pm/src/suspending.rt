@@ -1,16 +1,16 @@
 // The device goes down.
-ghost use Rattle.std.specs.Prelude.{◌≡◌, ◌*◌, [], ◌∷◌, is_some, true, length};
+ghost use Rattle.std.specs.Prelude.{◌≡◌, ◌*◌, [], ◌∷◌, Some, None, Err, is_some, true, length};
 ghost use Rattle.sof_base.specs.Ports.{HasRoom};
 ghost use Rattle.mbox_link.specs.Calls.{world};
 ghost use Rattle.tplg_plan.specs.Sound.{IsSound};
 ghost use Rattle.host_widgets.specs.ActLists.{stop_by, go_down};
-ghost use Rattle.host_widgets.specs.Host.{Agrees};
+ghost use Rattle.host_widgets.specs.Host.{Agrees, IsRecordOf};
 ghost use Rattle.host_widgets.specs.HostActs.{Save};
 ghost use Rattle.host_widgets.specs.Sides.{IsReady, SameSide, world_of};
 ghost use Rattle.host_widgets.specs.Orders.{Carried, suspending};
 ghost use Rattle.host_widgets.specs.TestedOrders.{Tested};
 ghost use Rattle.host_widgets.specs.Walk.{first_of, goes_past};
-ghost use Rattle.host_pm.specs.InTurn.{InTurn};
+ghost use Rattle.host_pm.specs.InTurn.{InTurn, WentDown};
 ghost use Rattle.host_pm.specs.PowerTests.{suspend_fault};
 
 use crate::telling::tell;
@@ -105,7 +105,9 @@ fn send_down<P: Dsp>(
 fn go_down<P: Dsp>(side: &mut Side<'_, P>) -> Result<(), HostFault>
     requires ready { IsReady P.means side.old }
     requires power { side.old.kept.now.power ≡ Power.On }
-    ensures carried { Carried P.means side.old.plan.now side.old.heap (suspending side.old.plan.now side.old.kept.now) side.old.kept.now side.new.kept.now (world_of side.old) (world_of side.new) result }
+    ensures down { WentDown P.means side.old.plan.now side.old.heap side.old.kept.now side.new.kept.now (world_of side.old) (world_of side.new) result }
+    ensures carried { Agrees P.means side.old.plan.now side.old.kept.now side.old.dsp.now →
+        Carried P.means side.old.plan.now side.old.heap (suspending side.old.plan.now side.old.kept.now) side.old.kept.now side.new.kept.now (world_of side.old) (world_of side.new) result }
     ensures agree { Agrees P.means side.old.plan.now side.new.kept.now side.new.dsp.now }
     ensures same { SameSide side.old side.new }
 {
@@ -130,10 +132,13 @@ pub fn suspend<P: Dsp>(
     out: &mut Outputs,
 ) -> Result<(), HostFault>
     requires plan { IsSound plan.now }
-    requires agree { Agrees P.means plan.now kept.old dsp.old }
+    requires kept { IsRecordOf plan.now kept.old }
+    requires on { kept.old.power ≡ Power.On → is_some (P.means.on dsp.old) ≡ true }
     requires room { HasRoom (61440 * P.means.pending dsp.old) out.old }
-    ensures carried { Tested P.means plan.now heap (suspend_fault kept.old.power) (suspending plan.now kept.old) kept.old kept.new (world dsp.old io.old out.old) (world dsp.new io.new out.new) result }
-    ensures agree { Agrees P.means plan.now kept.new dsp.new }
+    ensures early { (fault : HostFault) → suspend_fault kept.old.power ≡ Some fault → (result ≡ Err fault) × (world dsp.new io.new out.new ≡ world dsp.old io.old out.old) × (kept.new ≡ kept.old) }
+    ensures down { suspend_fault kept.old.power ≡ None → WentDown P.means plan.now heap kept.old kept.new (world dsp.old io.old out.old) (world dsp.new io.new out.new) result }
+    ensures carried { Agrees P.means plan.now kept.old dsp.old → Tested P.means plan.now heap (suspend_fault kept.old.power) (suspending plan.now kept.old) kept.old kept.new (world dsp.old io.old out.old) (world dsp.new io.new out.new) result }
+    ensures agree { Agrees P.means plan.now kept.old dsp.old → Agrees P.means plan.now kept.new dsp.new }
 {
     match kept.power {
         Power::Unloaded => Err(HostFault::NotLoaded),

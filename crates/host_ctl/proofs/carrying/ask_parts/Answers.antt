@@ -6,6 +6,7 @@ use Rattle.tplg_plan.specs.declared.plans.ControlKind.{ControlKind}
 use Rattle.host_widgets.specs.declared.answers.Answer.TheVariants.{Bytes}
 use Rattle.host_widgets.specs.declared.kept.ControlRec.{ControlRec}
 use Rattle.host_widgets.specs.Host.{Outcome}
+use Rattle.host_ctl.specs.ControlAnswers.{HasSet}
 use Rattle.host_ctl.specs.ControlOrders.{control_answer}
 use Rattle.host_ctl.specs.ControlPlaces.{control_here, record_here}
 use Rattle.host_ctl.proofs.ControlCalls.{place-record}
@@ -15,13 +16,13 @@ use Rattle.host_ctl.proofs.carrying.ask_parts.Goals as goal
 
 pub bounds-items-place : goal.bounds-items-place
 bounds-items-place g c =
-    subst (λ (rs : List ControlRec). c.args.place < length rs) (sym c.items.ensures) (within c.args.side.now.plan.now c.requires.ready.plan c.args.side.now.kept.now c.requires.ready.agree.record_is c.args.place c.requires.place)
+    subst (λ (rs : List ControlRec). c.args.place < length rs) (sym c.items.ensures) (within c.args.side.now.plan.now c.requires.ready.plan c.args.side.now.kept.now c.requires.ready.record_is c.args.place c.requires.place)
 
 pub parts_of-count-requires : goal.parts_of-count-requires
 parts_of-count-requires g c =
     let plan = c.args.side.now.plan.now in
     let kept = c.args.side.now.kept.now in
-    let is = c.requires.ready.agree.record_is in
+    let is = c.requires.ready.record_is in
     let i = c.args.place in
     let kind = blob-kind (control_here plan i).kind c.requires.kind in
     let there = within plan c.requires.ready.plan kept is i c.requires.place in
@@ -33,15 +34,15 @@ ask_all-requires-clause-count g c =
     let plan = c.args.side.now.plan.now in
     let kept = c.args.side.now.kept.now in
     let i = c.args.place in
-    let there = within plan c.requires.ready.plan kept c.requires.ready.agree.record_is i c.requires.place in
+    let there = within plan c.requires.ready.plan kept c.requires.ready.record_is i c.requires.place in
     let same = ap (λ (r : ControlRec). r.blob) (place-record kept.controls i there c.items.result.now _ c.items.ensures) in
     c.parts_of-count.ensures ∙ ap parts (c.items-2.ensures.value ∙ same)
 
-pub returns-clause-answered : goal.returns-clause-answered
-returns-clause-answered g c =
+pub returns-clause-told : goal.returns-clause-told
+returns-clause-told g c set =
     let plan = c.args.side.now.plan.now in
     let kept = c.args.side.now.kept.now in
     let i = c.args.place in
     let kind = blob-kind (control_here plan i).kind c.requires.kind in
-    let same : c.ask_all.new.told.items ≡ (record_here kept i).blob = subst (λ (o : Outcome). IfOk o (λ done. c.ask_all.new.told.items ≡ (record_here kept i).blob)) c.in_ok-ask_all.was c.ask_all.ensures.told in
-    c.bytes_answer.ensures ∙ ap Bytes same ∙ ap (λ (q : ControlKind). control_answer q (record_here kept i)) (sym kind.2)
+    let told = subst (λ (o : Outcome). IfOk o (λ done. (c.ask_all.new.told.items ≡ (record_here kept i).blob) × HasSet g.P.Dsp.means plan kept (control_here plan i).comp c.ask_all.new.side.dsp.now)) c.in_ok-ask_all.was (c.ask_all.ensures.told set) in
+    (c.bytes_answer.ensures ∙ ap Bytes told.0 ∙ ap (λ (q : ControlKind). control_answer q (record_here kept i)) (sym kind.2), told.1)

@@ -1,27 +1,38 @@
-use Rattle.std.proofs.Common.{◌<◌, length, subst, sym, ◌∙◌}
+use Rattle.std.proofs.Common.{◌<◌, [], ◌∷◌, length, subst, sym, ◌∙◌}
 use Rattle.host_widgets.specs.Sides.{world_of}
 use Rattle.host_widgets.specs.declared.kept.Record.{Record}
+use Rattle.host_widgets.specs.AnsweredOrders.{ActsAnswered}
 use Rattle.host_widgets.specs.Host.{Outcome}
-use Rattle.host_widgets.specs.HostActs.{Put}
+use Rattle.host_widgets.specs.HostActs.{Put, with_values}
+use Rattle.host_widgets.specs.Kept.{with_control}
 use Rattle.host_widgets.specs.ActCarried.{ActCarried}
 use Rattle.host_widgets.proofs.Walks.{handed_on}
 use Rattle.host_ctl.specs.ControlPlaces.{control_here}
+use Rattle.host_ctl.proofs.ControlAnswered.{put-failed, put-passed, put-stays}
 use Rattle.host_ctl.proofs.ControlsThere.{within}
-use Rattle.host_ctl.proofs.ControlCalls.{place-control, put-still, put-done, put-ended}
+use Rattle.host_ctl.proofs.ControlCalls.{place-control, put-done, put-ended}
 use Rattle.host_ctl.proofs.carrying.put.Goals as goal
 
 pub returns-in_err-pass : goal.returns-in_err-pass
 returns-in_err-pass g c =
     let means = g.P.Dsp.means in
     let plan = c.args.side.now.plan.now in
+    let heap = c.args.side.now.heap in
+    let i = c.args.place in
     let kept = c.args.side.now.kept.now in
+    let sound = c.requires.ready.plan in
+    let is = c.requires.ready.record_is in
+    let low = c.requires.place in
     let w = world_of c.args.side.now in
     let v = world_of c.pass.new.side in
-    let comp = c.index-items-place.is ∙ place-control plan c.args.place c.requires.place c.items.result.now c.index-items-place.result c.items.ensures in
-    let both = put-ended means plan c.requires.ready.plan c.args.side.now.heap c.args.place c.requires.place kept w c.requires.ready.agree c.requires.power c.args.values.now c.requires.values c.set_message-message.result c.index-items-place.result c.set_message-message.ensures comp c.pass.new.side.kept.now v c.pass.result c.pass.ensures.passes c.in_err-pass.field-0.0 c.in_err-pass.was in
+    let comp = c.index-items-place.is ∙ place-control plan i low c.items.result.now c.index-items-place.result c.items.ensures in
+    let ends = handed_on c.from_residual.result c.in_err-pass.field-0.0 c.from_residual.ensures in
     record {
-      act = subst (λ (o : Outcome). ActCarried means plan c.args.side.now.heap (Put (control_here plan c.args.place).comp c.args.values.now) kept c.pass.new.side.kept.now w v o) (sym (handed_on c.from_residual.result c.in_err-pass.field-0.0 c.from_residual.ensures)) both.0;
-      agree = both.1;
+      answered = subst (λ (o : Outcome). ActsAnswered means plan heap (with_control plan (control_here plan i).comp (with_values c.args.values.now)) (Put (control_here plan i).comp c.args.values.now ∷ []) kept c.pass.new.side.kept.now w v o) (sym ends)
+          (put-failed plan sound kept is i low means heap w c.args.values.now c.requires.values c.set_message-message.result c.index-items-place.result c.set_message-message.ensures comp c.pass.new.side.kept.now v c.pass.result c.pass.ensures.passes c.in_err-pass.field-0.0 c.in_err-pass.was);
+      agree = λ agrees.
+          let both = put-ended means plan sound heap i low kept w agrees c.requires.power c.args.values.now c.requires.values c.set_message-message.result c.index-items-place.result c.set_message-message.ensures comp c.pass.new.side.kept.now v c.pass.result c.pass.ensures.passes c.in_err-pass.field-0.0 c.in_err-pass.was in
+          (subst (λ (o : Outcome). ActCarried means plan heap (Put (control_here plan i).comp c.args.values.now) kept c.pass.new.side.kept.now w v o) (sym ends) both.0, both.1);
       same = c.pass.ensures.same;
     }
 
@@ -29,24 +40,33 @@ pub keep-requires : goal.keep-requires
 keep-requires g c =
     let means = g.P.Dsp.means in
     let plan = c.args.side.now.plan.now in
+    let heap = c.args.side.now.heap in
+    let i = c.args.place in
     let kept = c.args.side.now.kept.now in
+    let sound = c.requires.ready.plan in
+    let is = c.requires.ready.record_is in
+    let low = c.requires.place in
     let w = world_of c.args.side.now in
     let v = world_of c.pass.new.side in
-    let comp = c.index-items-place.is ∙ place-control plan c.args.place c.requires.place c.items.result.now c.index-items-place.result c.items.ensures in
-    subst (λ (now : Record). c.args.place < length now.controls) (sym (put-still means plan c.requires.ready.plan c.args.side.now.heap c.args.place c.requires.place kept w c.requires.ready.agree c.requires.power c.args.values.now c.requires.values c.set_message-message.result c.index-items-place.result c.set_message-message.ensures comp c.pass.new.side.kept.now v c.pass.result c.pass.ensures.passes c.in_ok-pass.was)) (within plan c.requires.ready.plan kept c.requires.ready.agree.record_is c.args.place c.requires.place)
+    let comp = c.index-items-place.is ∙ place-control plan i low c.items.result.now c.index-items-place.result c.items.ensures in
+    subst (λ (now : Record). i < length now.controls) (sym (put-stays plan sound kept is i low means heap w c.args.values.now c.requires.values c.set_message-message.result c.index-items-place.result c.set_message-message.ensures comp c.pass.new.side.kept.now v c.pass.result c.pass.ensures.passes c.in_ok-pass.was)) (within plan sound kept is i low)
 
 pub returns : goal.returns
 returns g c =
     let means = g.P.Dsp.means in
     let plan = c.args.side.now.plan.now in
+    let heap = c.args.side.now.heap in
+    let i = c.args.place in
     let kept = c.args.side.now.kept.now in
+    let sound = c.requires.ready.plan in
+    let is = c.requires.ready.record_is in
+    let low = c.requires.place in
     let w = world_of c.args.side.now in
     let v = world_of c.pass.new.side in
-    let comp = c.index-items-place.is ∙ place-control plan c.args.place c.requires.place c.items.result.now c.index-items-place.result c.items.ensures in
-    let both = put-done means plan c.requires.ready.plan c.args.side.now.heap c.args.place c.requires.place kept w c.requires.ready.agree c.requires.power c.args.values.now c.requires.values c.set_message-message.result c.index-items-place.result c.set_message-message.ensures comp c.pass.new.side.kept.now v c.pass.result c.pass.ensures.passes c.in_ok-pass.was c.keep.new.kept c.keep.ensures in
+    let comp = c.index-items-place.is ∙ place-control plan i low c.items.result.now c.index-items-place.result c.items.ensures in
     let same = c.pass.ensures.same in
     record {
-      act = both.0;
-      agree = both.1;
+      answered = put-passed plan sound kept is i low means heap w c.args.values.now c.requires.values c.set_message-message.result c.index-items-place.result c.set_message-message.ensures comp c.pass.new.side.kept.now v c.pass.result c.pass.ensures.passes c.in_ok-pass.was c.keep.new.kept c.keep.ensures;
+      agree = λ agrees. put-done means plan sound heap i low kept w agrees c.requires.power c.args.values.now c.requires.values c.set_message-message.result c.index-items-place.result c.set_message-message.ensures comp c.pass.new.side.kept.now v c.pass.result c.pass.ensures.passes c.in_ok-pass.was c.keep.new.kept c.keep.ensures;
       same = record { plan = same.plan; heap = same.heap; kept = same.kept; dsp = same.dsp; io = same.io; out = same.out };
     }

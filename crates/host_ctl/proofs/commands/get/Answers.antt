@@ -13,7 +13,7 @@ pub bounds-items-place-2 : goal.bounds-items-place-2
 bounds-items-place-2 g c =
     let i = c.in_ok-place.place in
     subst (λ (rs : List ControlRec). i < length rs) (sym c.items-2.ensures)
-    (within c.args.plan.now c.requires.plan c.args.kept.now c.requires.agree.record_is i (place-low c.args.plan.now c.args.name.now i c.in_ok-place.ensures.place))
+    (within c.args.plan.now c.requires.plan c.args.kept.now c.requires.kept i (place-low c.args.plan.now c.args.name.now i c.in_ok-place.ensures.place))
 
 pub returns-clause-asked : goal.returns-clause-asked
 returns-clause-asked g c =
@@ -25,7 +25,7 @@ returns-clause-asked g c =
     let i = c.in_ok-place.place in
     let at = c.in_ok-place.ensures.place in
     let low = place-low plan name i at in
-    let named = named-here plan c.requires.plan kept c.requires.agree.record_is i low name at in
+    let named = named-here plan c.requires.plan kept c.requires.kept i low name at in
     tested-late means plan c.args.heap (get_fault plan kept name) (get_order plan kept name) kept w kept w (Ok tt) c.in_ok-place.ensures.none (quiet-carried means plan c.args.heap (control_told (named_at plan kept name)) kept w)
 
 pub returns-clause-answered : goal.returns-clause-answered
@@ -38,8 +38,8 @@ returns-clause-answered g c =
     let i = c.in_ok-place.place in
     let at = c.in_ok-place.ensures.place in
     let low = place-low plan name i at in
-    let named = named-here plan c.requires.plan kept c.requires.agree.record_is i low name at in
-    let there = within plan c.requires.plan kept c.requires.agree.record_is i low in
+    let named = named-here plan c.requires.plan kept c.requires.kept i low name at in
+    let there = within plan c.requires.plan kept c.requires.kept i low in
     let here = c.index-items-place.is ∙ place-control plan i low c.items.result.now c.index-items-place.result c.items.ensures in
     let kept_here = c.index-items-place-2.is ∙ place-record kept.controls i there c.items-2.result.now c.index-items-place-2.result c.items-2.ensures in
-    c.told.ensures ∙ (λ j. told_by (here j).kind (kept_here j)) ∙ ap control_told (sym (at-named means plan c.requires.plan c.args.heap i low kept w c.requires.agree name named))
+    c.told.ensures ∙ (λ j. told_by (here j).kind (kept_here j)) ∙ ap control_told (sym (at-named means plan c.requires.plan c.args.heap i low kept c.requires.kept w name named))

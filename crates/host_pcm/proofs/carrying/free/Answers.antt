@@ -1,13 +1,19 @@
-use Rattle.std.proofs.Common.{Ok, refl, ap, subst, sym}
+use Rattle.std.proofs.Common.{Ok, [], ◌∷◌, refl, ap, subst, sym}
 use Rattle.host_widgets.specs.Sides.{world_of}
 use Rattle.tplg_plan.specs.declared.plans.StreamPlan.{StreamPlan}
 use Rattle.host_widgets.specs.declared.kept.Record.{Record}
+use Rattle.ipc3_model.specs.declared.message.Message.TheVariants.{PcmFree}
+use Rattle.host_widgets.specs.AnsweredOrders.{ActsAnswered}
 use Rattle.host_widgets.specs.HostActs.{Free}
+use Rattle.host_widgets.specs.HostRecord.{closed}
+use Rattle.host_widgets.specs.Kept.{with_stream}
 use Rattle.host_widgets.specs.Host.{Outcome, Agrees}
 use Rattle.host_widgets.proofs.Walks.{handed_on}
-use Rattle.host_pcm.specs.StreamCalls.{host_at}
+use Rattle.host_pcm.specs.StreamCalls.{host_at, shut}
 use Rattle.host_widgets.specs.ActCarried.{ActCarried}
 use Rattle.host_widgets.proofs.PlannedStreams.{place-stream}
+use Rattle.host_pcm.proofs.AnsweredCalls.{passed-at, failed-at, shut-again}
+use Rattle.host_pcm.proofs.Places.{place-changed}
 use Rattle.host_pcm.proofs.StreamCalls.{free-done, free-ended}
 use Rattle.host_pcm.proofs.carrying.free.Goals as goal
 
@@ -15,14 +21,20 @@ pub returns-in_err-pass : goal.returns-in_err-pass
 returns-in_err-pass g c =
     let means = g.P.Dsp.means in
     let plan = c.args.side.now.plan.now in
+    let heap = c.args.side.now.heap in
+    let k = c.args.place in
     let kept = c.args.side.now.kept.now in
     let w = world_of c.args.side.now in
     let v = world_of c.pass.new.side in
-    let host = ap (λ (s : StreamPlan). s.host) (place-stream plan c.args.place c.requires.place c.items.result.now _ c.items.ensures) in
-    let both = free-ended means plan c.requires.ready.plan c.args.side.now.heap c.args.place c.requires.place kept w c.requires.ready.agree c.requires.power c.requires.found _ _ refl host c.pass.new.side.kept.now v c.pass.result c.pass.ensures.passes c.in_err-pass.field-0.0 c.in_err-pass.was in
+    let host = ap (λ (s : StreamPlan). s.host) (place-stream plan k c.requires.place c.items.result.now _ c.items.ensures) in
+    let ends = handed_on c.from_residual.result c.in_err-pass.field-0.0 c.from_residual.ensures in
     record {
-      act = subst (λ (o : Outcome). ActCarried means plan c.args.side.now.heap (Free (host_at plan c.args.place)) kept c.pass.new.side.kept.now w v o) (sym (handed_on c.from_residual.result c.in_err-pass.field-0.0 c.from_residual.ensures)) both.0;
-      agree = both.1;
+      answered = subst (λ (o : Outcome). ActsAnswered means plan heap (with_stream plan (host_at plan k) shut) (Free (host_at plan k) ∷ []) kept c.pass.new.side.kept.now w v o) (sym ends)
+          (failed-at means plan heap k kept w (Free (host_at plan k)) (with_stream plan (host_at plan k) shut) closed (place-changed plan c.requires.plan k c.requires.place shut kept c.requires.streams) (shut-again means plan heap k kept w) _ (ap PcmFree host)
+          c.pass.new.side.kept.now v c.pass.result c.pass.ensures.passes c.in_err-pass.field-0.0 c.in_err-pass.was);
+      agree = λ agrees.
+          let both = free-ended means plan c.requires.plan heap k c.requires.place kept w agrees c.requires.power c.requires.found _ _ refl host c.pass.new.side.kept.now v c.pass.result c.pass.ensures.passes c.in_err-pass.field-0.0 c.in_err-pass.was in
+          (subst (λ (o : Outcome). ActCarried means plan heap (Free (host_at plan k)) kept c.pass.new.side.kept.now w v o) (sym ends) both.0, both.1);
       same = c.pass.ensures.same;
     }
 
@@ -30,15 +42,19 @@ pub returns : goal.returns
 returns g c =
     let means = g.P.Dsp.means in
     let plan = c.args.side.now.plan.now in
+    let heap = c.args.side.now.heap in
+    let k = c.args.place in
     let kept = c.args.side.now.kept.now in
     let w = world_of c.args.side.now in
     let v = world_of c.pass.new.side in
-    let host = ap (λ (s : StreamPlan). s.host) (place-stream plan c.args.place c.requires.place c.items.result.now _ c.items.ensures) in
-    let both = free-done means plan c.requires.ready.plan c.args.side.now.heap c.args.place c.requires.place kept w c.requires.ready.agree c.requires.power c.requires.found _ _ refl host c.pass.new.side.kept.now v c.pass.result c.pass.ensures.passes c.in_ok-pass.was _
-    refl _ refl in
+    let host = ap (λ (s : StreamPlan). s.host) (place-stream plan k c.requires.place c.items.result.now _ c.items.ensures) in
     let same = c.pass.ensures.same in
     record {
-      act = subst (λ (new : Record). ActCarried means plan c.args.side.now.heap (Free (host_at plan c.args.place)) kept new w v (Ok tt)) (sym c.shut.ensures) both.0;
-      agree = subst (λ (new : Record). Agrees means plan new v.device) (sym c.shut.ensures) both.1;
+      answered = subst (λ (new : Record). ActsAnswered means plan heap (with_stream plan (host_at plan k) shut) (Free (host_at plan k) ∷ []) kept new w v (Ok tt)) (sym c.shut.ensures)
+          (passed-at means plan heap k kept w (Free (host_at plan k)) (with_stream plan (host_at plan k) shut) closed (place-changed plan c.requires.plan k c.requires.place shut kept c.requires.streams) (shut-again means plan heap k kept w) _ (ap PcmFree host)
+          c.pass.new.side.kept.now v c.pass.result c.pass.ensures.passes c.in_ok-pass.was _ refl _ refl);
+      agree = λ agrees.
+          let both = free-done means plan c.requires.plan heap k c.requires.place kept w agrees c.requires.power c.requires.found _ _ refl host c.pass.new.side.kept.now v c.pass.result c.pass.ensures.passes c.in_ok-pass.was _ refl _ refl in
+          (subst (λ (new : Record). ActCarried means plan heap (Free (host_at plan k)) kept new w v (Ok tt)) (sym c.shut.ensures) both.0, subst (λ (new : Record). Agrees means plan new v.device) (sym c.shut.ensures) both.1);
       same = record { plan = same.plan; heap = same.heap; kept = same.kept; dsp = same.dsp; io = same.io; out = same.out };
     }

@@ -1,14 +1,19 @@
-use Rattle.std.proofs.Common.{List, get_or, ap, subst, sym}
+use Rattle.std.proofs.Common.{ℕ, List, [], ◌∷◌, get_or, refl, ap, subst, sym, ◌∙◌}
 use Rattle.host_widgets.specs.Sides.{world_of}
 use Rattle.tplg_plan.specs.declared.plans.StreamPlan.{StreamPlan}
 use Rattle.host_widgets.specs.declared.kept.StreamRec.{StreamRec}
 use Rattle.host_widgets.specs.HostRecord.{closed}
-use Rattle.host_widgets.specs.HostActs.{Trig}
+use Rattle.host_widgets.specs.Acts.{trigger_message}
+use Rattle.host_widgets.specs.AnsweredOrders.{ActsAnswered}
+use Rattle.host_widgets.specs.HostActs.{Trig, triggered_stream}
 use Rattle.host_widgets.specs.Host.{Outcome}
 use Rattle.host_widgets.proofs.Walks.{handed_on}
+use Rattle.host_pcm.specs.Asks.{stream_at}
 use Rattle.host_pcm.specs.StreamCalls.{host_at}
 use Rattle.host_widgets.specs.ActCarried.{ActCarried}
 use Rattle.host_widgets.proofs.PlannedStreams.{place-stream}
+use Rattle.host_pcm.proofs.AnsweredCalls.{passed-at, failed-at}
+use Rattle.host_pcm.proofs.Places.{place-changed}
 use Rattle.host_pcm.proofs.StreamCalls.{trigger-done, trigger-ended}
 use Rattle.host_pcm.proofs.carrying.trigger.Goals as goal
 
@@ -20,10 +25,15 @@ returns-in_err-pass g c =
     let w = world_of c.args.side.now in
     let v = world_of c.pass.new.side in
     let host = ap (λ (s : StreamPlan). s.host) (place-stream plan c.args.place c.requires.place c.items.result.now _ c.items.ensures) in
-    let both = trigger-ended means plan c.requires.ready.plan c.args.side.now.heap c.args.place c.requires.place kept w c.requires.ready.agree c.requires.power c.args.what c.requires.found c.message.result _ c.message.ensures host c.pass.new.side.kept.now v c.pass.result c.pass.ensures.passes c.in_err-pass.field-0.0 c.in_err-pass.was in
+    let ends = handed_on c.from_residual.result c.in_err-pass.field-0.0 c.from_residual.ensures in
     record {
-      act = subst (λ (o : Outcome). ActCarried means plan c.args.side.now.heap (Trig (host_at plan c.args.place) c.args.what) kept c.pass.new.side.kept.now w v o) (sym (handed_on c.from_residual.result c.in_err-pass.field-0.0 c.from_residual.ensures)) both.0;
-      agree = both.1;
+      answered = subst (λ (o : Outcome). ActsAnswered means plan c.args.side.now.heap (λ now. now) (Trig (host_at plan c.args.place) c.args.what ∷ []) kept c.pass.new.side.kept.now w v o) (sym ends)
+          (failed-at means plan c.args.side.now.heap c.args.place kept w (Trig (host_at plan c.args.place) c.args.what) (λ now. now) (triggered_stream c.args.what (stream_at kept c.args.place))
+          (place-changed plan c.requires.ready.plan c.args.place c.requires.place (triggered_stream c.args.what) kept c.requires.ready.record_is.streams) refl c.message.result (c.message.ensures ∙ ap (λ (n : ℕ). trigger_message n c.args.what) host)
+          c.pass.new.side.kept.now v c.pass.result c.pass.ensures.passes c.in_err-pass.field-0.0 c.in_err-pass.was);
+      agree = λ agrees.
+          let both = trigger-ended means plan c.requires.ready.plan c.args.side.now.heap c.args.place c.requires.place kept w agrees c.requires.power c.args.what c.requires.found c.message.result _ c.message.ensures host c.pass.new.side.kept.now v c.pass.result c.pass.ensures.passes c.in_err-pass.field-0.0 c.in_err-pass.was in
+          (subst (λ (o : Outcome). ActCarried means plan c.args.side.now.heap (Trig (host_at plan c.args.place) c.args.what) kept c.pass.new.side.kept.now w v o) (sym ends) both.0, both.1);
       same = c.pass.ensures.same;
     }
 
@@ -35,11 +45,13 @@ returns g c =
     let w = world_of c.args.side.now in
     let v = world_of c.pass.new.side in
     let host = ap (λ (s : StreamPlan). s.host) (place-stream plan c.args.place c.requires.place c.items.result.now _ c.items.ensures) in
-    let both = trigger-done means plan c.requires.ready.plan c.args.side.now.heap c.args.place c.requires.place kept w c.requires.ready.agree c.requires.power c.args.what c.requires.found c.message.result _ c.message.ensures host c.pass.new.side.kept.now v c.pass.result c.pass.ensures.passes c.in_ok-pass.was _
-    (λ i. record { found = c.triggered.ensures i; params = (ap (λ (rs : List StreamRec). (get_or rs c.args.place closed).params) c.items-2.ensures) i }) c.put.new.self c.put.ensures in
     let same = c.pass.ensures.same in
     record {
-      act = both.0;
-      agree = both.1;
+      answered = passed-at means plan c.args.side.now.heap c.args.place kept w (Trig (host_at plan c.args.place) c.args.what) (λ now. now) (triggered_stream c.args.what (stream_at kept c.args.place))
+          (place-changed plan c.requires.ready.plan c.args.place c.requires.place (triggered_stream c.args.what) kept c.requires.ready.record_is.streams) refl c.message.result (c.message.ensures ∙ ap (λ (n : ℕ). trigger_message n c.args.what) host)
+          c.pass.new.side.kept.now v c.pass.result c.pass.ensures.passes c.in_ok-pass.was _ (λ i. record { found = c.triggered.ensures i; params = (ap (λ (rs : List StreamRec). (get_or rs c.args.place closed).params) c.items-2.ensures) i }) c.put.new.self c.put.ensures;
+      agree = λ agrees.
+          trigger-done means plan c.requires.ready.plan c.args.side.now.heap c.args.place c.requires.place kept w agrees c.requires.power c.args.what c.requires.found c.message.result _ c.message.ensures host c.pass.new.side.kept.now v c.pass.result c.pass.ensures.passes c.in_ok-pass.was _
+          (λ i. record { found = c.triggered.ensures i; params = (ap (λ (rs : List StreamRec). (get_or rs c.args.place closed).params) c.items-2.ensures) i }) c.put.new.self c.put.ensures;
       same = record { plan = same.plan; heap = same.heap; kept = same.kept; dsp = same.dsp; io = same.io; out = same.out };
     }

@@ -1,58 +1,139 @@
 use Rattle.std.proofs.Common.{subst, rules}
 use Rattle.mbox_link.specs.Calls.{World, world}
+use Rattle.host_widgets.specs.AnsweredOrders.{TestedAnswered}
+use Rattle.host_widgets.specs.Host.{Agrees}
 use Rattle.host_widgets.specs.Sides.{world_of}
 use Rattle.host_widgets.specs.declared.kept.Record.{Record}
 use Rattle.host_pcm.specs.declared.asking.Ask.TheVariants.{Closing}
+use Rattle.host_pcm.specs.Asks.{early_fault}
 use Rattle.host_pcm.specs.StreamCalls.{Asked}
+use Rattle.host_pcm.specs.StreamOrders.{stream_order}
 use Rattle.host_pcm.proofs.HostTests.{found_place}
-use Rattle.host_pcm.proofs.AsksCarried.{carried-asked, prepared-asked, triggered-asked, opened-asked, opened-agrees}
+use Rattle.host_pcm.proofs.AsksCarried.{answered-asked, carried-asked, opened-agrees, opened-answered, opened-asked, prepared-answered, prepared-asked, triggered-answered, triggered-asked}
 use Rattle.host_pcm.proofs.commands.ask.Goals as goal
 
-pub returns-in-Opening-clause-asked : goal.returns-in-Opening-clause-asked
-returns-in-Opening-clause-asked g c =
+pub returns-in-Opening-clause-answered : goal.returns-in-Opening-clause-answered
+returns-in-Opening-clause-answered g c =
+    let means = g.P.Dsp.means in
     let plan = c.args.plan.now in
     let kept = c.args.kept.now in
+    let name = c.args.name.now in
+    let heap = c.args.heap in
+    let w = world c.args.dsp.now c.args.io.now c.args.out.now in
     let k = c.in_ok-place.place in
-    let at = found_place plan kept c.args.name.now c.args.ask c.tested.result k c.tested.ensures.place c.tested.ensures.none c.in_ok-place.was in
-    opened-asked plan kept c.args.name.now c.args.ask k at g.P.Dsp.means c.args.heap (world c.args.dsp.now c.args.io.now c.args.out.now) c.requires.plan c.requires.agree c.open.new.kept c.open.ensures c.in-Opening.is
+    let at = found_place plan kept name c.args.ask c.tested.result k c.tested.ensures.place c.tested.ensures.none c.in_ok-place.was in
+    opened-answered plan kept name c.args.ask k at means heap w c.requires.plan c.requires.kept.streams c.in-Opening.is c.open.new.kept c.open.ensures
+
+pub returns-in-Opening-clause-asked : goal.returns-in-Opening-clause-asked
+returns-in-Opening-clause-asked g c agrees =
+    let means = g.P.Dsp.means in
+    let plan = c.args.plan.now in
+    let kept = c.args.kept.now in
+    let name = c.args.name.now in
+    let heap = c.args.heap in
+    let w = world c.args.dsp.now c.args.io.now c.args.out.now in
+    let k = c.in_ok-place.place in
+    let at = found_place plan kept name c.args.ask c.tested.result k c.tested.ensures.place c.tested.ensures.none c.in_ok-place.was in
+    opened-asked plan kept name c.args.ask k at means heap w c.requires.plan c.requires.kept.streams c.open.new.kept c.open.ensures c.in-Opening.is
 
 pub returns-in-Opening-clause-agree : goal.returns-in-Opening-clause-agree
-returns-in-Opening-clause-agree g c =
+returns-in-Opening-clause-agree g c agrees =
+    let means = g.P.Dsp.means in
     let plan = c.args.plan.now in
     let kept = c.args.kept.now in
+    let name = c.args.name.now in
+    let heap = c.args.heap in
+    let w = world c.args.dsp.now c.args.io.now c.args.out.now in
     let k = c.in_ok-place.place in
-    let at = found_place plan kept c.args.name.now c.args.ask c.tested.result k c.tested.ensures.place c.tested.ensures.none c.in_ok-place.was in
-    opened-agrees plan kept c.args.name.now c.args.ask k at g.P.Dsp.means c.args.heap (world c.args.dsp.now c.args.io.now c.args.out.now) c.requires.plan c.requires.agree c.open.new.kept c.open.ensures c.in-Opening.is
+    let at = found_place plan kept name c.args.ask c.tested.result k c.tested.ensures.place c.tested.ensures.none c.in_ok-place.was in
+    opened-agrees plan kept name c.args.ask k at means heap w c.requires.plan c.requires.kept.streams c.open.new.kept c.open.ensures c.in-Opening.is agrees
+
+pub returns-in-Preparing-clause-answered : goal.returns-in-Preparing-clause-answered
+returns-in-Preparing-clause-answered g c =
+    let means = g.P.Dsp.means in
+    let plan = c.args.plan.now in
+    let kept = c.args.kept.now in
+    let name = c.args.name.now in
+    let heap = c.args.heap in
+    let w = world c.args.dsp.now c.args.io.now c.args.out.now in
+    let k = c.in_ok-place.place in
+    let at = found_place plan kept name c.args.ask c.tested.result k c.tested.ensures.place c.tested.ensures.none c.in_ok-place.was in
+    subst (λ (e : Record × World g.row.P.Denot). TestedAnswered means plan heap (early_fault plan kept name c.args.ask) (stream_order plan kept name c.args.ask) kept e.0 w e.1 c.prepare.result) (search rules)
+    (prepared-answered plan kept name c.args.ask k at means heap w c.in-Preparing.p c.in-Preparing.is c.prepare.new.side.kept.now (world_of c.prepare.new.side) c.prepare.result c.prepare.ensures.answered)
 
 pub returns-in-Preparing-clause-asked : goal.returns-in-Preparing-clause-asked
-returns-in-Preparing-clause-asked g c =
+returns-in-Preparing-clause-asked g c agrees =
     let means = g.P.Dsp.means in
     let plan = c.args.plan.now in
     let kept = c.args.kept.now in
+    let name = c.args.name.now in
+    let heap = c.args.heap in
     let w = world c.args.dsp.now c.args.io.now c.args.out.now in
     let k = c.in_ok-place.place in
-    let at = found_place plan kept c.args.name.now c.args.ask c.tested.result k c.tested.ensures.place c.tested.ensures.none c.in_ok-place.was in
-    subst (λ (e : Record × World g.row.P.Denot). Asked means plan c.args.heap c.args.name.now c.args.ask kept e.0 w e.1 c.prepare.result) (search rules)
-    (prepared-asked plan kept c.args.name.now c.args.ask k at means c.args.heap w c.in-Preparing.p c.in-Preparing.is c.prepare.new.side.kept.now (world_of c.prepare.new.side) c.prepare.result c.prepare.ensures.act)
+    let at = found_place plan kept name c.args.ask c.tested.result k c.tested.ensures.place c.tested.ensures.none c.in_ok-place.was in
+    subst (λ (e : Record × World g.row.P.Denot). Asked means plan heap name c.args.ask kept e.0 w e.1 c.prepare.result) (search rules)
+    (prepared-asked plan kept name c.args.ask k at means heap w c.in-Preparing.p c.in-Preparing.is c.prepare.new.side.kept.now (world_of c.prepare.new.side) c.prepare.result (c.prepare.ensures.agree agrees).0)
+
+pub returns-in-Preparing-clause-agree : goal.returns-in-Preparing-clause-agree
+returns-in-Preparing-clause-agree g c agrees =
+    subst (λ (e : Record × g.row.P.Denot). Agrees g.P.Dsp.means c.args.plan.now e.0 e.1) (search rules) (c.prepare.ensures.agree agrees).1
+
+pub returns-in-Triggering-clause-answered : goal.returns-in-Triggering-clause-answered
+returns-in-Triggering-clause-answered g c =
+    let means = g.P.Dsp.means in
+    let plan = c.args.plan.now in
+    let kept = c.args.kept.now in
+    let name = c.args.name.now in
+    let heap = c.args.heap in
+    let w = world c.args.dsp.now c.args.io.now c.args.out.now in
+    let k = c.in_ok-place.place in
+    let at = found_place plan kept name c.args.ask c.tested.result k c.tested.ensures.place c.tested.ensures.none c.in_ok-place.was in
+    subst (λ (e : Record × World g.row.P.Denot). TestedAnswered means plan heap (early_fault plan kept name c.args.ask) (stream_order plan kept name c.args.ask) kept e.0 w e.1 c.trigger.result) (search rules)
+    (triggered-answered plan kept name c.args.ask k at means heap w c.in-Triggering.what c.in-Triggering.is c.trigger.new.side.kept.now (world_of c.trigger.new.side) c.trigger.result c.trigger.ensures.answered)
 
 pub returns-in-Triggering-clause-asked : goal.returns-in-Triggering-clause-asked
-returns-in-Triggering-clause-asked g c =
+returns-in-Triggering-clause-asked g c agrees =
     let means = g.P.Dsp.means in
     let plan = c.args.plan.now in
     let kept = c.args.kept.now in
+    let name = c.args.name.now in
+    let heap = c.args.heap in
     let w = world c.args.dsp.now c.args.io.now c.args.out.now in
     let k = c.in_ok-place.place in
-    let at = found_place plan kept c.args.name.now c.args.ask c.tested.result k c.tested.ensures.place c.tested.ensures.none c.in_ok-place.was in
-    subst (λ (e : Record × World g.row.P.Denot). Asked means plan c.args.heap c.args.name.now c.args.ask kept e.0 w e.1 c.trigger.result) (search rules)
-    (triggered-asked plan kept c.args.name.now c.args.ask k at means c.args.heap w c.in-Triggering.what c.in-Triggering.is c.trigger.new.side.kept.now (world_of c.trigger.new.side) c.trigger.result c.trigger.ensures.act)
+    let at = found_place plan kept name c.args.ask c.tested.result k c.tested.ensures.place c.tested.ensures.none c.in_ok-place.was in
+    subst (λ (e : Record × World g.row.P.Denot). Asked means plan heap name c.args.ask kept e.0 w e.1 c.trigger.result) (search rules)
+    (triggered-asked plan kept name c.args.ask k at means heap w c.in-Triggering.what c.in-Triggering.is c.trigger.new.side.kept.now (world_of c.trigger.new.side) c.trigger.result (c.trigger.ensures.agree agrees).0)
+
+pub returns-in-Triggering-clause-agree : goal.returns-in-Triggering-clause-agree
+returns-in-Triggering-clause-agree g c agrees =
+    subst (λ (e : Record × g.row.P.Denot). Agrees g.P.Dsp.means c.args.plan.now e.0 e.1) (search rules) (c.trigger.ensures.agree agrees).1
+
+pub returns-in-Closing-clause-answered : goal.returns-in-Closing-clause-answered
+returns-in-Closing-clause-answered g c =
+    let means = g.P.Dsp.means in
+    let plan = c.args.plan.now in
+    let kept = c.args.kept.now in
+    let name = c.args.name.now in
+    let heap = c.args.heap in
+    let w = world c.args.dsp.now c.args.io.now c.args.out.now in
+    let k = c.in_ok-place.place in
+    let at = found_place plan kept name c.args.ask c.tested.result k c.tested.ensures.place c.tested.ensures.none c.in_ok-place.was in
+    subst (λ (e : Record × World g.row.P.Denot). TestedAnswered means plan heap (early_fault plan kept name c.args.ask) (stream_order plan kept name c.args.ask) kept e.0 w e.1 c.close.result) (search rules)
+    (answered-asked plan kept name c.args.ask k at means heap w Closing c.in-Closing.is c.close.new.side.kept.now (world_of c.close.new.side) c.close.result c.close.ensures.answered)
 
 pub returns-in-Closing-clause-asked : goal.returns-in-Closing-clause-asked
-returns-in-Closing-clause-asked g c =
+returns-in-Closing-clause-asked g c agrees =
     let means = g.P.Dsp.means in
     let plan = c.args.plan.now in
     let kept = c.args.kept.now in
+    let name = c.args.name.now in
+    let heap = c.args.heap in
     let w = world c.args.dsp.now c.args.io.now c.args.out.now in
     let k = c.in_ok-place.place in
-    let at = found_place plan kept c.args.name.now c.args.ask c.tested.result k c.tested.ensures.place c.tested.ensures.none c.in_ok-place.was in
-    subst (λ (e : Record × World g.row.P.Denot). Asked means plan c.args.heap c.args.name.now c.args.ask kept e.0 w e.1 c.close.result) (search rules)
-    (carried-asked plan kept c.args.name.now c.args.ask k at means c.args.heap w Closing c.in-Closing.is c.close.new.side.kept.now (world_of c.close.new.side) c.close.result c.close.ensures.carried)
+    let at = found_place plan kept name c.args.ask c.tested.result k c.tested.ensures.place c.tested.ensures.none c.in_ok-place.was in
+    subst (λ (e : Record × World g.row.P.Denot). Asked means plan heap name c.args.ask kept e.0 w e.1 c.close.result) (search rules)
+    (carried-asked plan kept name c.args.ask k at means heap w Closing c.in-Closing.is c.close.new.side.kept.now (world_of c.close.new.side) c.close.result (c.close.ensures.agree agrees).0)
+
+pub returns-in-Closing-clause-agree : goal.returns-in-Closing-clause-agree
+returns-in-Closing-clause-agree g c agrees =
+    subst (λ (e : Record × g.row.P.Denot). Agrees g.P.Dsp.means c.args.plan.now e.0 e.1) (search rules) (c.close.ensures.agree agrees).1

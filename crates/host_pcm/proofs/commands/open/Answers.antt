@@ -11,12 +11,12 @@ returns-clause-asked g c =
     let kept = c.args.kept.now in
     let k = c.in_ok-place.place in
     let at = found_place plan kept c.args.name.now Opening c.tested.result k c.tested.ensures.place c.tested.ensures.none c.in_ok-place.was in
-    opened-asked plan kept c.args.name.now Opening k at g.P.Dsp.means c.args.heap (world c.args.dsp.now c.args.io.now c.args.out.now) c.requires.plan c.requires.agree c.open.new.kept c.open.ensures refl
+    opened-asked plan kept c.args.name.now Opening k at g.P.Dsp.means c.args.heap (world c.args.dsp.now c.args.io.now c.args.out.now) c.requires.plan c.requires.kept.streams c.open.new.kept c.open.ensures refl
 
 pub returns-clause-agree : goal.returns-clause-agree
-returns-clause-agree g c =
+returns-clause-agree g c agrees =
     let plan = c.args.plan.now in
     let kept = c.args.kept.now in
     let k = c.in_ok-place.place in
     let at = found_place plan kept c.args.name.now Opening c.tested.result k c.tested.ensures.place c.tested.ensures.none c.in_ok-place.was in
-    opened-agrees plan kept c.args.name.now Opening k at g.P.Dsp.means c.args.heap (world c.args.dsp.now c.args.io.now c.args.out.now) c.requires.plan c.requires.agree c.open.new.kept c.open.ensures refl
+    opened-agrees plan kept c.args.name.now Opening k at g.P.Dsp.means c.args.heap (world c.args.dsp.now c.args.io.now c.args.out.now) c.requires.plan c.requires.kept.streams c.open.new.kept c.open.ensures refl agrees

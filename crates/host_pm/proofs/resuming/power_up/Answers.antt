@@ -7,7 +7,7 @@ use Rattle.host_pm.proofs.PowerOrders.{resume-passed, resume-failed, resumed-agr
 use Rattle.host_pm.proofs.resuming.power_up.Goals as goal
 
 pub bring_back-requires-clause-rests : goal.bring_back-requires-clause-rests
-bring_back-requires-clause-rests g c = rests-off g.P.Dsp.means c.args.side.now.plan.now c.args.side.now.heap c.args.side.now.kept.now c.args.side.now.dsp.now c.requires.ready.agree c.requires.power
+bring_back-requires-clause-rests g c = rests-off g.P.Dsp.means c.args.side.now.plan.now c.args.side.now.heap c.args.side.now.kept.now c.args.side.now.dsp.now c.requires.agree c.requires.power
 
 pub returns-in-Err-clause-carried : goal.returns-in-Err-clause-carried
 returns-in-Err-clause-carried g c =
@@ -19,7 +19,7 @@ returns-in-Err-clause-carried g c =
 
 pub returns-in-Err-clause-agree : goal.returns-in-Err-clause-agree
 returns-in-Err-clause-agree g c =
-    off-agrees g.P.Dsp.means c.args.side.now.plan.now c.args.side.now.heap c.args.side.now.kept.now c.bring_back.new.side.kept.now c.args.side.now.dsp.now c.cut.new.self c.requires.ready.agree c.requires.power c.in-Err.ensures.kept c.cut.ensures.on
+    off-agrees g.P.Dsp.means c.args.side.now.plan.now c.args.side.now.heap c.args.side.now.kept.now c.bring_back.new.side.kept.now c.args.side.now.dsp.now c.cut.new.self c.requires.agree c.requires.power c.in-Err.ensures.kept c.cut.ensures.on
 
 pub returns-clause-carried : goal.returns-clause-carried
 returns-clause-carried g c =
@@ -30,7 +30,7 @@ returns-clause-carried g c =
 
 pub returns-clause-agree : goal.returns-clause-agree
 returns-clause-agree g c =
-    resumed-agrees g.P.Dsp.means c.args.side.now.plan.now c.args.side.now.heap c.args.side.now.kept.now c.bring_back.new.side.kept.now c.requires.ready.agree.record_is c.in_default.ensures.kept c.bring_back.new.side.dsp.now (c.in_default.ensures.shows refl)
+    resumed-agrees g.P.Dsp.means c.args.side.now.plan.now c.args.side.now.heap c.args.side.now.kept.now c.bring_back.new.side.kept.now c.requires.agree.record_is c.in_default.ensures.kept c.bring_back.new.side.dsp.now (c.in_default.ensures.shows refl)
 
 -- a boot puts no tick
 pub returns-clause-left : goal.returns-clause-left

@@ -1,0 +1,76 @@
+-- A device that has the component of a control as the record sets it: right before a message, and behind one that leaves it.
+use Rattle.std.proofs.Common.{◌≡◌, refl, sym, ap, ◌∙◌, ℕ, ◌<◌, ◌-◌, List, length, true, Option, Some, None}
+use Rattle.std.specs.Prelude.{is_some}
+use Rattle.std.specs.Option.{option_map}
+use Rattle.sof_base.specs.Ports.{Io}
+use Rattle.stream_law.specs.declared.graph.Comp.{Comp}
+use Rattle.stream_law.specs.State.{FwState, View, view_of}
+use Rattle.stream_law.specs.Ways.{comp_of}
+use Rattle.mbox_link.specs.Calls.{World, Meaning}
+use Rattle.mbox_link.specs.Exchange.{ticks}
+use Rattle.tplg_plan.specs.declared.plans.Plan.{Plan}
+use Rattle.tplg_plan.specs.declared.plans.ControlPlan.{ControlPlan}
+use Rattle.tplg_plan.specs.Sound.{IsLive, IsSound}
+use Rattle.host_widgets.specs.declared.kept.Power.{Power}
+use Rattle.host_widgets.specs.declared.kept.Power.TheVariants.{Unloaded, On, Off}
+use Rattle.host_widgets.specs.declared.kept.Record.{Record}
+use Rattle.host_widgets.specs.Host.{Agrees, IsRecordOf, Sides}
+use Rattle.host_widgets.specs.ViewOf.{graph_by, record_view, set_comp}
+use Rattle.host_widgets.proofs.ActsCome.{still}
+use Rattle.host_widgets.proofs.Exchanges.{state_of}
+use Rattle.host_ctl.specs.ControlAnswers.{HasSet, IsSetAt, IsSetFor}
+use Rattle.host_ctl.specs.ControlPlaces.{control_here}
+use Rattle.host_ctl.proofs.ControlsThere.{live}
+use Rattle.host_ctl.proofs.PutShows.{found-set}
+
+-- a device that agrees with a record has each component as it sets it
+module _ {D : Type 0} (means : Meaning D) (plan : Plan) (kept : Record) (device : D) (agrees : Agrees means plan kept device) where
+  pub agrees-set : (id : ℕ) → IsSetAt means plan kept id device
+  agrees-set id f on = by kept.power agrees.sides
+    where
+      by : (power : Power) → Sides means plan kept device power → comp_of f.graph id ≡ comp_of (graph_by plan kept) id
+      by On side = let same : view_of f ≡ record_view plan kept = cc (sym (ap (option_map view_of) on) ∙ side) in ap (λ (v : View). comp_of v.graph id) same
+      by Off side = absurd (cc (sym on ∙ side.1))
+      by Unloaded side = absurd (cc (sym on ∙ side.1))
+
+  pub set-for : (name : List ℕ) → IsSetFor means plan kept name device
+  set-for name k named = agrees-set k.comp
+
+module _ (plan : Plan) (sound : IsSound plan) (kept : Record) (is : IsRecordOf plan kept) (i : ℕ) (low : i < length plan.controls) where
+  abbrev k : ControlPlan
+  k = control_here plan i
+
+  abbrev here : IsLive plan.graph k
+  here = live plan sound kept is i low
+
+  -- a state that has it so
+  abbrev pub IsThere : FwState → Type 0
+  IsThere f = comp_of f.graph k.comp ≡ Some (set_comp plan kept here.comp)
+
+  set-there : comp_of (graph_by plan kept) k.comp ≡ Some (set_comp plan kept here.comp)
+  set-there = found-set plan kept k.comp plan.graph.comps ∙ ap (option_map (set_comp plan kept)) here.there
+
+  pub has-there : {D : Type 0} (means : Meaning D) (device : D) → HasSet means plan kept k.comp device → (f : FwState) × (means.on device ≡ Some f) × IsThere f
+  has-there means device has = (has.0, has.1, has.2 ∙ set-there)
+
+  module _ {D : Type 0} (means : Meaning D) (w : World D) (on : is_some (means.on w.device) ≡ true) (set : IsSetAt means plan kept k.comp w.device) where
+    pub state : (f : FwState) × (means.on w.device ≡ Some f)
+    state = state_of (means.on w.device) on
+
+    -- the state and the endpoints right before a message
+    abbrev pub before : World D → FwState × Io
+    before v = ticks (means.pending w.device - means.pending v.device) (state.0, w.io)
+
+    pub before-there : (v : World D) → IsThere (before v).0
+    before-there v = ap (λ (x : View). comp_of x.graph k.comp) (still (means.pending w.device - means.pending v.device) (state.0, w.io)) ∙ set state.0 state.1 ∙ set-there
+
+    -- one that is left so has it still
+    pub left-set : (v : World D) (next : FwState) → means.on v.device ≡ Some next → next ≡ (before v).0 → HasSet means plan kept k.comp v.device
+    left-set v next on_next same = ((before v).0, on_next ∙ ap (λ (f : FwState). Some f) same, before-there v ∙ sym set-there)
+
+-- what it has, it has in each of its states
+pub has-set : {D : Type 0} (means : Meaning D) (plan : Plan) (kept : Record) (id : ℕ) (device : D) → HasSet means plan kept id device → IsSetAt means plan kept id device
+has-set means plan kept id device has f on = let same : has.0 ≡ f = cc (sym has.1 ∙ on) in ap (λ (g : FwState). comp_of g.graph id) (sym same) ∙ has.2
+
+pub set-has : {D : Type 0} (means : Meaning D) (plan : Plan) (kept : Record) (id : ℕ) (device : D) → is_some (means.on device) ≡ true → IsSetAt means plan kept id device → HasSet means plan kept id device
+set-has means plan kept id device on set = let s = state_of (means.on device) on in (s.0, s.1, set s.0 s.1)

@@ -1,0 +1,66 @@
+-- What is so of every plan lets what a stream needs be found.
+use Rattle.std.proofs.Common.{◌≡◌, subst, ℕ, ◌<◌, List, [], ◌∷◌, map, length, true, inl, inr, ◌⊎◌, ◌==◌, ◌&&◌, Some, arith}
+use Rattle.std.specs.List.{AllByRecursion, list_any}
+use Rattle.std.proofs.lemmas.Bool.{eqb-true, and_parts}
+use Rattle.stream_law.specs.declared.graph.Comp.{Comp}
+use Rattle.stream_law.specs.declared.graph.Edge.{Edge}
+use Rattle.stream_law.specs.declared.graph.Pipe.{Pipe}
+use Rattle.stream_law.specs.declared.graph.Join.{Join}
+use Rattle.stream_law.specs.declared.graph.Graph.{Graph}
+use Rattle.stream_law.specs.Ways.{comp_of, edge_of, components, is_complete}
+use Rattle.stream_law.specs.Order.{is_among}
+use Rattle.stream_law.proofs.Members.{IsIn, in-all, in-each, any-in, find-in}
+use Rattle.tplg_plan.specs.declared.plans.Plan.{Plan}
+use Rattle.tplg_plan.specs.Sound.{IsSound, IsSideOf, FillsBuffer, DrainsBuffer}
+use Rattle.host_widgets.proofs.NamedIds.{few-widgets}
+use Rattle.host_widgets.proofs.ReadyWays.{has_host, host-there}
+use Rattle.host_dynamic.specs.Need.{pipe_indices}
+use Rattle.host_dynamic.specs.Noting.{IsLowJoin, IsSearchable}
+use Rattle.host_dynamic.proofs.Needs.{in-map, among-in, in-among}
+
+complete-among : (ps : List Pipe) (i : ℕ) → list_any (λ p. p.index == i && p.complete) ps ≡ true → is_among (map (λ (p : Pipe). p.index) ps) i ≡ true
+complete-among ps i is =
+    let r = any-in (λ (p : Pipe). p.index == i && p.complete) ps is in
+    in-among (map (λ (p : Pipe). p.index) ps) i (subst (λ y. IsIn y (map (λ (p : Pipe). p.index) ps)) (eqb-true r.0.index i (and_parts (r.0.index == i) r.0.complete r.2).0) (in-map (λ (p : Pipe). p.index) ps r.0 r.1))
+
+module _ (plan : Plan) (sound : IsSound plan) where
+  abbrev g : Graph
+  g = plan.graph
+
+  comp-low : (x : ℕ) (c : Comp) → comp_of g x ≡ Some c → x < 288
+  comp-low x c at =
+      let r = find-in (λ (k : Comp). k.id == x) g.comps c at in
+      omega (arith, in-all (λ (k : Comp). k.id < length plan.widgets) g.comps c sound.comps_below r.0, few-widgets plan sound, eqb-true c.id x r.1)
+
+  edge-low : (x : ℕ) (e : Edge) → edge_of g x ≡ Some e → x < 288
+  edge-low x e at =
+      let r = find-in (λ (k : Edge). k.buffer == x) g.edges e at in
+      omega (arith, in-all (λ (k : Edge). k.buffer < length plan.widgets) g.edges e sound.edges_below r.0, few-widgets plan sound, eqb-true e.buffer x r.1)
+
+  side-low : (j : Join) → FillsBuffer g j ⊎ DrainsBuffer g j → IsLowJoin j
+  side-low j (inl (c, e, from, to, is)) = (comp-low j.source c from, edge-low j.sink e to)
+  side-low j (inr (e, c, from, to, is)) = (edge-low j.source e from, comp-low j.sink c to)
+
+  pub searchable : (host : ℕ) → has_host plan.streams host ≡ true → IsSearchable g host
+  searchable host some =
+      let at = host-there plan sound host some in
+      let found = find-in (λ (k : Comp). k.id == host) g.comps at.comp at.there in
+      record {
+        pipes = sound.pipes;
+        comps = in-each (λ (c : Comp). c.id < 288) g.comps (λ c here. omega (arith, in-all (λ (k : Comp). k.id < length plan.widgets) g.comps c sound.comps_below here, few-widgets plan sound));
+        joins = in-each IsLowJoin g.joins (λ j here. side-low j (in-all (IsSideOf g) g.joins j sound.joins here).between);
+        piped = record {
+          there = in-among (components g) host (subst (λ y. IsIn y (components g)) (eqb-true at.comp.id host found.1) (in-map (λ (k : Comp). k.id) g.comps at.comp found.0));
+          comps = in-each (λ (c : Comp). is_among (pipe_indices g) c.pipe ≡ true) g.comps (λ c here. complete-among g.pipes c.pipe (in-all (λ (c : Comp). is_complete g c.pipe ≡ true) g.comps c sound.comps_piped here));
+          edges = in-each (λ (e : Edge). is_among (pipe_indices g) e.pipe ≡ true) g.edges (λ e here. complete-among g.pipes e.pipe (in-all (λ (e : Edge). is_complete g e.pipe ≡ true) g.edges e sound.edges_piped here));
+        };
+      }
+
+-- a host that is there has a low id
+pub host-low : (g : Graph) (host : ℕ) → IsSearchable g host → host < 288
+host-low g host s = by g.comps s.comps (among-in (components g) host s.piped.there)
+  where
+    by : (cs : List Comp) → AllByRecursion (λ (c : Comp). c.id < 288) cs → IsIn host (map (λ (c : Comp). c.id) cs) → host < 288
+    by [] low here = absurd here
+    by (c ∷ cs) low (inl same) = omega (arith, low.0, same)
+    by (c ∷ cs) low (inr more) = by cs low.1 more

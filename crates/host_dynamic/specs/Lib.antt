@@ -1,0 +1,12 @@
+pub mod Need
+pub mod Up
+pub mod DynamicActs
+pub mod There
+pub mod Dynamic
+pub mod Parts
+pub mod UpStates
+pub mod JoinEnds
+pub mod ListCalls
+pub mod UpDevices
+pub mod Noting
+pub mod UpCalls

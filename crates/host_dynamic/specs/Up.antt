@@ -1,0 +1,61 @@
+-- The part of a graph whose pipelines are up, and what the firmware shows of it.
+use Rattle.std.specs.Prelude.{ℕ, List, map, filter, Bool, false, ◌==◌, Option, Some, None}
+use Rattle.std.specs.List.{zip, flat_map}
+use Rattle.std.specs.Option.{option_map_or}
+use Rattle.stream_law.specs.declared.graph.Edge.{Edge}
+use Rattle.stream_law.specs.declared.graph.Join.{Join}
+use Rattle.stream_law.specs.declared.graph.Graph.{Graph}
+use Rattle.stream_law.specs.State.{View}
+use Rattle.stream_law.specs.Order.{is_among}
+use Rattle.stream_law.specs.Ways.{edge_of}
+use Rattle.tplg_plan.specs.declared.plans.Plan.{Plan}
+use Rattle.tplg_plan.specs.declared.plans.StreamPlan.{StreamPlan}
+use Rattle.host_widgets.specs.declared.kept.Record.{Record}
+use Rattle.host_widgets.specs.declared.kept.StreamRec.{StreamRec}
+use Rattle.host_widgets.specs.Expected.{stream_view}
+use Rattle.host_widgets.specs.ViewOf.{graph_by}
+use Rattle.host_dynamic.specs.Need.{index_at}
+
+-- what a component or a buffer of this id stands in is up
+abbrev pub is_up : Graph → List ℕ → ℕ → Bool
+is_up g up id = option_map_or (is_among up) (index_at g id) false
+
+-- ---- joins, by the buffers that they are at
+
+abbrev pub buffer_index : Option Edge → Option Edge → Option ℕ
+buffer_index (Some e) other = Some e.pipe
+buffer_index None (Some e) = Some e.pipe
+buffer_index None None = None
+
+abbrev pub join_index : Graph → Join → Option ℕ
+join_index g j = buffer_index (edge_of g j.source) (edge_of g j.sink)
+
+-- a join is at a buffer of this index
+abbrev pub is_join_at : Graph → ℕ → Join → Bool
+is_join_at g i j = option_map_or (λ k. k == i) (join_index g j) false
+
+-- the joins of the buffers of an index, in the graph's order
+abbrev pub buffer_joins : Graph → ℕ → List Join
+buffer_joins g i = filter (is_join_at g i) g.joins
+
+-- ---- what is up
+
+-- the components, buffers and pipelines of these indices, and the joins of their buffers, by the indices in their order
+abbrev pub graph_of_up : Graph → List ℕ → Graph
+graph_of_up g up = record {
+  comps = filter (λ c. is_among up c.pipe) g.comps;
+  edges = filter (λ e. is_among up e.pipe) g.edges;
+  pipes = filter (λ p. is_among up p.index) g.pipes;
+  joins = flat_map (buffer_joins g) up;
+}
+
+-- the host of a stream is up
+abbrev pub is_host_up : Plan → List ℕ → StreamPlan × StreamRec → Bool
+is_host_up plan up (s, r) = is_up plan.graph up s.host
+
+-- with what the record sets, and the streams whose hosts are up
+abbrev pub up_view : Plan → Record → List ℕ → View
+up_view plan kept up = record {
+  graph = graph_of_up (graph_by plan kept) up;
+  streams = map stream_view (filter (is_host_up plan up) (zip plan.streams kept.streams));
+}

@@ -8,10 +8,7 @@ use Rattle.mbox_link.specs.Calls.{World, Meaning, Call, Exchange, Led, Exchanged
 use Rattle.mbox_link.specs.Link.{link}
 use Rattle.mbox_link.specs.Meetings.{Meeting}
 use Rattle.mbox_link.specs.Wire.{Wire}
-use Rattle.tplg_plan.specs.declared.plans.Plan.{Plan}
-use Rattle.host_widgets.specs.declared.kept.Record.{Record}
-use Rattle.host_widgets.specs.HostActs.{Act}
-use Rattle.host_widgets.specs.ActMessages.{act_message}
+use Rattle.host_widgets.specs.ActRules.{ActRules}
 use Rattle.host_widgets.specs.OneAct.{one_act}
 use Rattle.host_widgets.specs.Walk.{goes_past}
 use Rattle.host_widgets.specs.ActCalls.{ActsDid, Onwards}
@@ -19,20 +16,20 @@ use Rattle.host_widgets.proofs.Exchanges as exchanges
 use Rattle.sof_session.proofs.LinkFates.{exchange_sent, more-few}
 use Rattle.sof_session.proofs.Writings.{bound_ends, ticks-ends}
 
-module _ {D : Type 0} (means : Meaning D) (plan : Plan) (heap : ℕ) (on_refusal : Bool) where
-  abbrev Did : Record → List Act → List Meeting → World D → World D → Type 0
-  Did kept acts ms w v = ActsDid means plan heap on_refusal kept acts ms w v
+module _ {D S A : Type 0} (means : Meaning D) (rules : ActRules S A) (on_refusal : Bool) where
+  abbrev Did : S → List A → List Meeting → World D → World D → Type 0
+  Did kept acts ms w v = ActsDid means rules on_refusal kept acts ms w v
 
   -- one exchange each
-  pub acts-led : (acts : List Act) (ms : List Meeting) (kept : Record) (w v : World D) → Did kept acts ms w v → (calls : List Call) × Led means w calls v
+  pub acts-led : (acts : List A) (ms : List Meeting) (kept : S) (w v : World D) → Did kept acts ms w v → (calls : List Call) × Led means w calls v
   acts-led [] ms kept w v did = ([], did.1)
   acts-led (act ∷ acts) [] kept w v did = absurd did
   acts-led (act ∷ acts) (m ∷ ms) kept w v did =
-      let a = one_act plan heap kept act m in
-      let rest = by (goes_past on_refusal (one_act plan heap kept act m).outcome) (acts-led acts ms a.kept did.0 v) did.2 in
-      (Exchange (message_spelling (act_message plan act)) did.1.answer ∷ rest.0, (did.0, did.1.exchanged, rest.1))
+      let a = one_act rules kept act m in
+      let rest = by (goes_past on_refusal (one_act rules kept act m).outcome) (acts-led acts ms a.kept did.0 v) did.2 in
+      (Exchange (message_spelling (rules.message act)) did.1.answer ∷ rest.0, (did.0, did.1.exchanged, rest.1))
     where
-      by : (b : Bool) → (Did (one_act plan heap kept act m).kept acts ms did.0 v → (calls : List Call) × Led means did.0 calls v) → Onwards b ms did.0 v (Did (one_act plan heap kept act m).kept acts ms did.0 v) → (calls : List Call) × Led means did.0 calls v
+      by : (b : Bool) → (Did (one_act rules kept act m).kept acts ms did.0 v → (calls : List Call) × Led means did.0 calls v) → Onwards b ms did.0 v (Did (one_act rules kept act m).kept acts ms did.0 v) → (calls : List Call) × Led means did.0 calls v
       by true rest on = rest on
       by false rest on = ([], on.1)
 
@@ -45,16 +42,16 @@ module _ {D : Type 0} (means : Meaning D) (plan : Plan) (heap : ℕ) (on_refusal
       (c.endpoints ∙ ap (λ (p : FwState × Io). p.1) before, exchanges.state_of (means.on v.device) (exchanges.Came-on means request answer w v (ticks (means.pending w.device - means.pending v.device) (s, w.io)) c))
 
   -- so the endpoints stay where no tick is pending
-  pub acts-io : (acts : List Act) (ms : List Meeting) (kept : Record) (w v : World D) → Did kept acts ms w v → means.pending w.device ≡ 0 → (s : FwState) → means.on w.device ≡ Some s → v.io ≡ w.io
+  pub acts-io : (acts : List A) (ms : List Meeting) (kept : S) (w v : World D) → Did kept acts ms w v → means.pending w.device ≡ 0 → (s : FwState) → means.on w.device ≡ Some s → v.io ≡ w.io
   acts-io [] ms kept w v did none s on = ap (λ (x : World D). x.io) did.1
   acts-io (act ∷ acts) [] kept w v did none s on = absurd did
   acts-io (act ∷ acts) (m ∷ ms) kept w v did none s on =
-      let a = one_act plan heap kept act m in
-      let here = stays (message_spelling (act_message plan act)) did.1.answer w did.0 did.1.exchanged none s on in
+      let a = one_act rules kept act m in
+      let here = stays (message_spelling (rules.message act)) did.1.answer w did.0 did.1.exchanged none s on in
       let still : means.pending did.0.device ≡ 0 = omega (arith, none, did.1.exchanged.steady.pending) in
       by (goes_past on_refusal a.outcome) (λ more. acts-io acts ms a.kept did.0 v more still here.1.0 here.1.1) did.2 ∙ here.0
     where
-      by : (b : Bool) → (Did (one_act plan heap kept act m).kept acts ms did.0 v → v.io ≡ did.0.io) → Onwards b ms did.0 v (Did (one_act plan heap kept act m).kept acts ms did.0 v) → v.io ≡ did.0.io
+      by : (b : Bool) → (Did (one_act rules kept act m).kept acts ms did.0 v → v.io ≡ did.0.io) → Onwards b ms did.0 v (Did (one_act rules kept act m).kept acts ms did.0 v) → v.io ≡ did.0.io
       by true rest on = rest on
       by false rest on = ap (λ (x : World D). x.io) on.1
 
@@ -65,32 +62,32 @@ module _ {D : Type 0} (means : Meaning D) (plan : Plan) (heap : ℕ) (on_refusal
       let n = means.pending w.device - means.pending v.device in
       (ap bound_ends c.endpoints ∙ ticks-ends n s w.io, exchanges.state_of (means.on v.device) (exchanges.Came-on means request answer w v (ticks n (s, w.io)) c))
 
-  pub acts-ends : (acts : List Act) (ms : List Meeting) (kept : Record) (w v : World D) → Did kept acts ms w v → (s : FwState) → means.on w.device ≡ Some s → bound_ends v.io ≡ bound_ends w.io
+  pub acts-ends : (acts : List A) (ms : List Meeting) (kept : S) (w v : World D) → Did kept acts ms w v → (s : FwState) → means.on w.device ≡ Some s → bound_ends v.io ≡ bound_ends w.io
   acts-ends [] ms kept w v did s on = ap (λ (x : World D). bound_ends x.io) did.1
   acts-ends (act ∷ acts) [] kept w v did s on = absurd did
   acts-ends (act ∷ acts) (m ∷ ms) kept w v did s on =
-      let a = one_act plan heap kept act m in
-      let here = keeps-ends (message_spelling (act_message plan act)) did.1.answer w did.0 did.1.exchanged s on in
+      let a = one_act rules kept act m in
+      let here = keeps-ends (message_spelling (rules.message act)) did.1.answer w did.0 did.1.exchanged s on in
       by (goes_past on_refusal a.outcome) (λ more. acts-ends acts ms a.kept did.0 v more here.1.0 here.1.1) did.2 ∙ here.0
     where
-      by : (b : Bool) → (Did (one_act plan heap kept act m).kept acts ms did.0 v → bound_ends v.io ≡ bound_ends did.0.io) → Onwards b ms did.0 v (Did (one_act plan heap kept act m).kept acts ms did.0 v) → bound_ends v.io ≡ bound_ends did.0.io
+      by : (b : Bool) → (Did (one_act rules kept act m).kept acts ms did.0 v → bound_ends v.io ≡ bound_ends did.0.io) → Onwards b ms did.0 v (Did (one_act rules kept act m).kept acts ms did.0 v) → bound_ends v.io ≡ bound_ends did.0.io
       by true rest on = rest on
       by false rest on = ap (λ (x : World D). bound_ends x.io) on.1
 
 -- ---- over a link
 
-module _ {P : Type 0} (means : Meaning P) (plan : Plan) (heap : ℕ) where
+module _ {P S A : Type 0} (means : Meaning P) (rules : ActRules S A) where
   -- at most one message for each act
-  pub acts-sent : (on_refusal : Bool) (acts : List Act) (ms : List Meeting) (kept : Record) (w v : World (Wire P)) → ActsDid (link means) plan heap on_refusal kept acts ms w v → v.device.sent ≤ w.device.sent + length acts
+  pub acts-sent : (on_refusal : Bool) (acts : List A) (ms : List Meeting) (kept : S) (w v : World (Wire P)) → ActsDid (link means) rules on_refusal kept acts ms w v → v.device.sent ≤ w.device.sent + length acts
   acts-sent on_refusal [] ms kept w v did = let same : v.device.sent ≡ w.device.sent = ap (λ (x : World (Wire P)). x.device.sent) did.1 in omega (arith, same)
   acts-sent on_refusal (act ∷ acts) [] kept w v did = absurd did
   acts-sent on_refusal (act ∷ acts) (m ∷ ms) kept w v did =
-      let a = one_act plan heap kept act m in
-      let one = exchange_sent means (message_spelling (act_message plan act)) did.1.answer w did.0 did.1.exchanged in
+      let a = one_act rules kept act m in
+      let one = exchange_sent means (message_spelling (rules.message act)) did.1.answer w did.0 did.1.exchanged in
       let rest = by (goes_past on_refusal a.outcome) (acts-sent on_refusal acts ms a.kept did.0 v) did.2 in
       omega (arith, one, more-few w.device.sent, rest)
     where
-      by : (b : Bool) → (ActsDid (link means) plan heap on_refusal (one_act plan heap kept act m).kept acts ms did.0 v → v.device.sent ≤ did.0.device.sent + length acts) →
-          Onwards b ms did.0 v (ActsDid (link means) plan heap on_refusal (one_act plan heap kept act m).kept acts ms did.0 v) → v.device.sent ≤ did.0.device.sent + length acts
+      by : (b : Bool) → (ActsDid (link means) rules on_refusal (one_act rules kept act m).kept acts ms did.0 v → v.device.sent ≤ did.0.device.sent + length acts) →
+          Onwards b ms did.0 v (ActsDid (link means) rules on_refusal (one_act rules kept act m).kept acts ms did.0 v) → v.device.sent ≤ did.0.device.sent + length acts
       by true rest on = rest on
       by false rest on = let same : v.device.sent ≡ did.0.device.sent = ap (λ (x : World (Wire P)). x.device.sent) on.1 in omega (arith, same)

@@ -22,15 +22,15 @@ use Rattle.host_widgets.proofs.LoadOrders.{unloading_at}
 use Rattle.host_widgets.proofs.WalksHold.{AreTaken}
 use Rattle.host_pm.specs.PowerTests.{suspend_fault, resume_fault}
 use Rattle.host_pm.specs.Resumed.{ResumeLeft}
-use Rattle.sof_session.specs.Agreement.{AreAgreed, Powered}
+use Rattle.sof_session.specs.Agreement.{Powered}
 use Rattle.sof_session.specs.Seat.{Seat}
-use Rattle.sof_session.proofs.Agreement.{at, seat_with, Kept, kept-by, Shows, Here, not-off, kept-here, still-here, agreed-again}
+use Rattle.sof_session.proofs.Agreement.{at, AgreeAtLoad, seat_with, Kept, kept-by, Shows, Here, not-off, kept-here, still-here, agreed-again}
 use Rattle.sof_session.proofs.Keeping.{Keeps-loaded}
 use Rattle.sof_session.proofs.OrderCalls.{carried-led}
 use Rattle.sof_session.proofs.OrderStands.{sending, cut-off, met, sent-left}
 use Rattle.sof_session.proofs.SentOrders.{IsSent, IsSentCall}
 
-module _ {P : Type 0} (means : Meaning P) (old : Seat P) (wire : Wire P) (io io' : Io) (agreed : AreAgreed means old) (kept : Record) (agree : Agrees (link means) old.plan kept wire) (result : Outcome) where
+module _ {P : Type 0} (means : Meaning P) (old : Seat P) (wire : Wire P) (io io' : Io) (agreed : AgreeAtLoad means old) (kept : Record) (agree : Agrees (link means) old.plan kept wire) (result : Outcome) where
   abbrev new : Seat P
   new = seat_with means old wire io io' agreed kept
 
@@ -56,10 +56,10 @@ module _ {P : Type 0} (means : Meaning P) (old : Seat P) (wire : Wire P) (io io'
   order-kept o c = let led = carried-led means old.plan old.heap o old.kept kept (at old.link io) (at wire io') result c in kept-by means old wire io io' agreed led.0 led.1
 
   -- by a test, and an order where none fails
-  by-test : (test : Option HostFault) (o : Order) → Tested (link means) old.plan old.heap test o old.kept kept (at old.link io) (at wire io') result → (test ≡ None → CarriedSo o → Found) → AreAgreed means new
+  by-test : (test : Option HostFault) (o : Order) → Tested (link means) old.plan old.heap test o old.kept kept (at old.link io) (at wire io') result → (test ≡ None → CarriedSo o → Found) → AgreeAtLoad means new
   by-test test o tested found = by test refl
     where
-      by : (t : Option HostFault) → test ≡ t → AreAgreed means new
+      by : (t : Option HostFault) → test ≡ t → AgreeAtLoad means new
       by (Some fault) is = let e = tested.early fault is in agreed-again means old wire io io' agreed kept agree (still-kept e.1) (still-found e.1)
       by None is = let c = tested.late is in agreed-again means old wire io io' agreed kept agree (order-kept o c) (found is c)
 
@@ -72,8 +72,8 @@ module _ {P : Type 0} (means : Meaning P) (old : Seat P) (wire : Wire P) (io io'
   left-found c (Err fault) is left shows =
       off-found (failed-off (link means) old.plan old.heap old.kept agreed.sound agreed.agree.record_is.controls kept (at old.link io) (at wire io') result c fault is) shows
 
-  pub AreAgreed-loaded : Tested (link means) old.plan old.heap (fault_of_load old.kept.power) (loading old.plan old.kept) old.kept kept (at old.link io) (at wire io') result → BroughtUp (link means) old.plan old.heap (first_record old.plan) old.link result wire → AreAgreed means new
-  AreAgreed-loaded tested left = by-test (fault_of_load old.kept.power) (loading old.plan old.kept) tested (λ none c. left-found c result refl left)
+  pub AgreeAtLoad-loaded : Tested (link means) old.plan old.heap (fault_of_load old.kept.power) (loading old.plan old.kept) old.kept kept (at old.link io) (at wire io') result → BroughtUp (link means) old.plan old.heap (first_record old.plan) old.link result wire → AgreeAtLoad means new
+  AgreeAtLoad-loaded tested left = by-test (fault_of_load old.kept.power) (loading old.plan old.kept) tested (λ none c. left-found c result refl left)
 
   -- ---- an unload
 
@@ -82,13 +82,13 @@ module _ {P : Type 0} (means : Meaning P) (old : Seat P) (wire : Wire P) (io io'
   gone Unloaded off c = ap (λ (x : World (Wire P)). means.on x.device.device) (c.ends.1 ∙ c.walked.1 ∙ c.first) ∙ off
   gone Off off c = ap (λ (x : World (Wire P)). means.on x.device.device) (c.ends.1 ∙ c.walked.1 ∙ c.first) ∙ off
 
-  pub AreAgreed-unloaded : Tested (link means) old.plan old.heap (unload_fault old.kept.power) (unloading old.plan old.kept) old.kept kept (at old.link io) (at wire io') result → AreAgreed means new
-  AreAgreed-unloaded tested = by-test (unload_fault old.kept.power) (unloading old.plan old.kept) tested (λ none c. off-found (gone old.kept.power agreed.powered c))
+  pub AgreeAtLoad-unloaded : Tested (link means) old.plan old.heap (unload_fault old.kept.power) (unloading old.plan old.kept) old.kept kept (at old.link io) (at wire io') result → AgreeAtLoad means new
+  AgreeAtLoad-unloaded tested = by-test (unload_fault old.kept.power) (unloading old.plan old.kept) tested (λ none c. off-found (gone old.kept.power agreed.powered c))
 
   -- ---- a suspend, which ends with a cut
 
-  pub AreAgreed-suspended : Tested (link means) old.plan old.heap (suspend_fault old.kept.power) (suspending old.plan old.kept) old.kept kept (at old.link io) (at wire io') result → AreAgreed means new
-  AreAgreed-suspended tested = by-test (suspend_fault old.kept.power) (suspending old.plan old.kept) tested
+  pub AgreeAtLoad-suspended : Tested (link means) old.plan old.heap (suspend_fault old.kept.power) (suspending old.plan old.kept) old.kept kept (at old.link io) (at wire io') result → AgreeAtLoad means new
+  AgreeAtLoad-suspended tested = by-test (suspend_fault old.kept.power) (suspending old.plan old.kept) tested
       (λ none c. off-found (cut-off means old.heap old.plan (suspending old.plan old.kept) old.kept kept (at old.link io) (at wire io') result c refl))
 
   -- ---- a resume: what it leaves where it was done, and else it ends with a cut
@@ -100,8 +100,8 @@ module _ {P : Type 0} (means : Meaning P) (old : Seat P) (wire : Wire P) (io io'
       let now = (met means old.heap old.plan o old.kept kept (at old.link io) (at wire io') result c).kept in
       off-found (cut-off means old.heap old.plan o old.kept kept (at old.link io) (at wire io') result c (ap (λ (o : Outcome). (brought_end (with_power On) old.kept now o).1) (sym c.came ∙ is))) shows
 
-  pub AreAgreed-resumed : Tested (link means) old.plan old.heap (resume_fault old.kept.power) (resuming old.plan old.kept) old.kept kept (at old.link io) (at wire io') result → ResumeLeft (link means) old.plan old.heap old.kept old.link result wire → AreAgreed means new
-  AreAgreed-resumed tested left = by-test (resume_fault old.kept.power) (resuming old.plan old.kept) tested (λ none c. resumed-found c result refl left)
+  pub AgreeAtLoad-resumed : Tested (link means) old.plan old.heap (resume_fault old.kept.power) (resuming old.plan old.kept) old.kept kept (at old.link io) (at wire io') result → ResumeLeft (link means) old.plan old.heap old.kept old.link result wire → AgreeAtLoad means new
+  AgreeAtLoad-resumed tested left = by-test (resume_fault old.kept.power) (resuming old.plan old.kept) tested (λ none c. resumed-found c result refl left)
 
   -- ---- a call that sends acts alone
 
@@ -115,8 +115,8 @@ module _ {P : Type 0} (means : Meaning P) (old : Seat P) (wire : Wire P) (io io'
         (λ u. kept-here means old wire io io' agreed kept agree shows _ u.state u.is_on u.keeps_now)
         (sent-left means old.heap old.plan agreed.sound acts done answer old.kept kept (at old.link io) (at wire io') result c powered.0 powered.1 agreed.agree.record_is powered.2 taken)
 
-  pub AreAgreed-sent : (test : Option HostFault) (o : Order) → IsSentCall old.plan old.kept test o → Tested (link means) old.plan old.heap test o old.kept kept (at old.link io) (at wire io') result → AreAgreed means new
-  AreAgreed-sent test o call tested = by-test test o tested (λ none c. found (call.sent none) c (call.taken none))
+  pub AgreeAtLoad-sent : (test : Option HostFault) (o : Order) → IsSentCall old.plan old.kept test o → Tested (link means) old.plan old.heap test o old.kept kept (at old.link io) (at wire io') result → AgreeAtLoad means new
+  AgreeAtLoad-sent test o call tested = by-test test o tested (λ none c. found (call.sent none) c (call.taken none))
     where
       found : (s : IsSent old.kept o) → CarriedSo o → AreTaken old.plan false old.kept o.acts → Found
       found s c are = sent-found s.acts s.done s.answer old.kept.power agreed.powered (subst CarriedSo s.is c) (subst (λ (x : Order). AreTaken old.plan false old.kept x.acts) s.is are)

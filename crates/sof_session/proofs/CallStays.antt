@@ -1,5 +1,5 @@
 -- What each call of a session on its link leaves as it was.
-use Rattle.std.proofs.Common.{◌≡◌, refl, ap, ℕ, Bool, List, Option}
+use Rattle.std.proofs.Common.{◌≡◌, refl, ap, ℕ, Bool, List, Option, None}
 use Rattle.sof_base.specs.Ports.{Io}
 use Rattle.mbox_link.specs.Calls.{Meaning}
 use Rattle.mbox_link.specs.Link.{link}
@@ -16,14 +16,17 @@ use Rattle.host_pm.specs.Resumed.{ResumeLeft}
 use Rattle.sof_session.specs.Agreement.{AreAgreed}
 use Rattle.sof_session.specs.Seat.{Seat}
 use Rattle.sof_session.specs.SessionCalls.{Stays}
-use Rattle.sof_session.proofs.Agreement.{at, seat_with}
-use Rattle.sof_session.proofs.CallAgreement.{AreAgreed-loaded, AreAgreed-unloaded, AreAgreed-suspended, AreAgreed-resumed, AreAgreed-sent}
+use Rattle.sof_session.proofs.Agreement.{at, AgreeAtLoad, at-load, from-load, seat_with}
+use Rattle.sof_session.proofs.CallAgreement.{AgreeAtLoad-loaded, AgreeAtLoad-unloaded, AgreeAtLoad-suspended, AgreeAtLoad-resumed, AgreeAtLoad-sent}
 use Rattle.sof_session.proofs.PowerSteps.{suspend-io, suspend-ends}
 use Rattle.sof_session.proofs.SentOrders.{IsSentCall}
 use Rattle.sof_session.proofs.SentStays.{sent-io, sent-ends}
 use Rattle.sof_session.proofs.Writings.{bound_ends}
 
-module _ {P : Type 0} (means : Meaning P) (old : Seat P) (wire : Wire P) (io io' : Io) (agreed : AreAgreed means old) (kept : Record) (agree : Agrees (link means) old.plan kept wire) (result : Outcome) where
+module _ {P : Type 0} (means : Meaning P) (old : Seat P) (wire : Wire P) (io io' : Io) (are : AreAgreed means old) (none : old.up ≡ None) (kept : Record) (agree : Agrees (link means) old.plan kept wire) (result : Outcome) where
+  abbrev agreed : AgreeAtLoad means old
+  agreed = at-load means old none are
+
   abbrev new : Seat P
   new = seat_with means old wire io io' agreed kept
 
@@ -33,12 +36,13 @@ module _ {P : Type 0} (means : Meaning P) (old : Seat P) (wire : Wire P) (io io'
   abbrev StaysSo : Type 0
   StaysSo = Stays means old new io io'
 
-  stays-by : AreAgreed means new → bound_ends io' ≡ bound_ends io → ((link means).pending old.link ≡ 0 → io' ≡ io) → StaysSo
+  stays-by : AgreeAtLoad means new → bound_ends io' ≡ bound_ends io → ((link means).pending old.link ≡ 0 → io' ≡ io) → StaysSo
   stays-by later ends still = record {
-    agreed = agreed;
-    later = later;
+    agreed = are;
+    later = from-load means new none later;
     plan = refl;
     heap = refl;
+    mode = refl;
     slots = ap (λ (x : List ℕ × List (ℕ × Bool)). x.0) ends;
     ends = ap (λ (x : List ℕ × List (ℕ × Bool)). x.1) ends;
     still = still;
@@ -46,26 +50,26 @@ module _ {P : Type 0} (means : Meaning P) (old : Seat P) (wire : Wire P) (io io'
 
   -- ---- calls that leave the endpoints as they are
 
-  stays-same : AreAgreed means new → io' ≡ io → StaysSo
-  stays-same later same = stays-by later (ap bound_ends same) (λ none. same)
+  stays-same : AgreeAtLoad means new → io' ≡ io → StaysSo
+  stays-same later same = stays-by later (ap bound_ends same) (λ quiet. same)
 
   pub load-stays : TestedSo (fault_of_load old.kept.power) (loading old.plan old.kept) → BroughtUp (link means) old.plan old.heap (first_record old.plan) old.link result wire → io' ≡ io → StaysSo
-  load-stays tested left = stays-same (AreAgreed-loaded means old wire io io' agreed kept agree result tested left)
+  load-stays tested left = stays-same (AgreeAtLoad-loaded means old wire io io' agreed kept agree result tested left)
 
   pub unload-stays : TestedSo (unload_fault old.kept.power) (unloading old.plan old.kept) → io' ≡ io → StaysSo
-  unload-stays tested = stays-same (AreAgreed-unloaded means old wire io io' agreed kept agree result tested)
+  unload-stays tested = stays-same (AgreeAtLoad-unloaded means old wire io io' agreed kept agree result tested)
 
   pub resume-stays : TestedSo (resume_fault old.kept.power) (resuming old.plan old.kept) → ResumeLeft (link means) old.plan old.heap old.kept old.link result wire → io' ≡ io → StaysSo
-  resume-stays tested left = stays-same (AreAgreed-resumed means old wire io io' agreed kept agree result tested left)
+  resume-stays tested left = stays-same (AgreeAtLoad-resumed means old wire io io' agreed kept agree result tested left)
 
   -- ---- calls before whose messages ticks may come
 
   pub suspend-stays : TestedSo (suspend_fault old.kept.power) (suspending old.plan old.kept) → StaysSo
-  suspend-stays tested = stays-by (AreAgreed-suspended means old wire io io' agreed kept agree result tested)
+  suspend-stays tested = stays-by (AgreeAtLoad-suspended means old wire io io' agreed kept agree result tested)
       (suspend-ends means old wire io io' agreed kept result tested)
       (suspend-io means old wire io io' agreed kept result tested)
 
   pub sent-stays : {test : Option HostFault} {o : Order} → IsSentCall old.plan old.kept test o → TestedSo test o → StaysSo
-  sent-stays {test} {o} call tested = stays-by (AreAgreed-sent means old wire io io' agreed kept agree result test o call tested)
+  sent-stays {test} {o} call tested = stays-by (AgreeAtLoad-sent means old wire io io' agreed kept agree result test o call tested)
       (sent-ends means old wire io io' agreed kept agree result test o call.sent tested)
       (sent-io means old wire io io' agreed kept agree result test o call.sent tested)

@@ -42,7 +42,7 @@ use Rattle.host_widgets.specs.Expected.{stream_view}
 use Rattle.host_widgets.specs.Acts.{widget_ids}
 use Rattle.host_widgets.specs.HostActs.{Act, Make, Join, Put, Part, Finish, Prepare, Trig, Free, Save, Ask, after, fresh_in, prepared_stream, triggered_stream, with_blob}
 use Rattle.host_widgets.specs.ActLists.{control_acts_by, control_acts, bring_up, prepare_by, prepare_acts, stop_by, stop_acts, close_by}
-use Rattle.host_widgets.specs.OneAct.{Performed, one_act, performed, outcome_by, own, lag_of}
+use Rattle.host_widgets.specs.OneAct.{act_rules, Performed, one_act, performed, outcome_by, own, lag_of}
 use Rattle.host_widgets.specs.Walk.{Walked, walk, goes_past, followed_by}
 use Rattle.host_widgets.specs.Orders.{Order, Manner, Plain, Loading, Resuming, Suspending, goes_on_after_refusal, end_by, quiet, sends, where_on, unloading}
 use Rattle.host_widgets.proofs.NamedIds.{each-pipe, pipeline-found}
@@ -56,11 +56,12 @@ use Rattle.host_pcm.proofs.HostTests.{found_place}
 use Rattle.host_pcm.proofs.StreamCalls.{ranges}
 use Rattle.host_ctl.specs.ControlAsks.{named_control}
 use Rattle.host_ctl.specs.ControlOrders.{setting_order, installing_order, reading_order, ask_acts, named_at}
+use Rattle.host_widgets.specs.Routines.{order_job}
 use Rattle.sof_script.specs.declared.script.Command.{Command}
 use Rattle.sof_script.specs.declared.script.Command.TheVariants as commands
 use Rattle.sof_session.specs.CommandTests.{asking, fault_of}
 use Rattle.sof_session.specs.AskedOrders.{stream_fault, asked_order}
-use Rattle.sof_session.specs.Commands.{Known, Came, is_plan, order_of, carried, tested, next}
+use Rattle.sof_session.specs.Commands.{Known, Came, is_plan, order_of, carried, tested, next, command_rules}
 use Rattle.sof_session.proofs.SameNext.{is-planned, is-tested}
 use Rattle.sof_session.proofs.InputMoves.{IsInRange, AllInRange, ticks_in, all-append, ticks-append, lag-in-range, lag-ticks}
 
@@ -120,7 +121,7 @@ found-few test (s ∷ ss) all = by (test s) (found-few test ss all.1)
     by true rest = all.0
     by false rest = rest
 
-plan-periods : (plan : Plan) → IsSound plan → AllByRecursion (λ (p : Pipe). p.period ≤ 10000) plan.graph.pipes
+pub plan-periods : (plan : Plan) → IsSound plan → AllByRecursion (λ (p : Pipe). p.period ≤ 10000) plan.graph.pipes
 plan-periods plan sound = each plan.graph.pipes (each-pipe plan sound)
   where
     each : (ps : List Pipe) → AllByRecursion (λ (p : Pipe). pipe_at plan.graph p.id ≡ Some p) ps → AllByRecursion (λ (p : Pipe). p.period ≤ 10000) ps
@@ -161,6 +162,27 @@ module _ (plan : Plan) (sound : IsSound plan) (kept : Record) (few : AllFew kept
   unfolding rate_of channels_of
   record-in-range = record { periods = λ c. period-most (comp_of v.graph c); rates = λ c. rate-most (live_params v c) (live-few c); channels = λ c. channels-most (live_params v c) (live-few c) }
 
+-- any view whose pipelines and streams are in range
+pub view-in-range : (v : View) → AllByRecursion (λ (p : Pipe). p.period ≤ 10000) v.graph.pipes → AllByRecursion (λ (s : StreamView). AreFew s.params) v.streams → IsInRange v
+unfolding rate_of channels_of
+view-in-range v pipes streams = record {
+  periods = λ c. periods (comp_of v.graph c);
+  rates = λ c. rates (live_params v c) (found-few (λ s. is_live_phase s.phase && on_way v.graph s.host c) v.streams streams);
+  channels = λ c. channels (live_params v c) (found-few (λ s. is_live_phase s.phase && on_way v.graph s.host c) v.streams streams);
+}
+  where
+    periods : (o : Option Comp) → option_map_or (λ x. option_map_or (λ p. p.period) (pipe_of v.graph x.pipe) 0) o 0 / 1000 ≤ 10
+    periods None = omega arith
+    periods (Some x) = let most = found-period x.pipe v.graph.pipes pipes in omega (arith, most)
+
+    rates : (o : Option Params) → AreFew o → option_map_or (λ p. p.rate) o 0 ≤ 192000
+    rates None are = omega arith
+    rates (Some p) are = are.0
+
+    channels : (o : Option Params) → AreFew o → option_map_or (λ p. p.channels) o 0 ≤ 8
+    channels None are = omega arith
+    channels (Some p) are = are.1
+
 -- ---- acts
 
 -- an act gives a stream no parameters but some in range
@@ -190,7 +212,7 @@ after-few plan (Ask comp k) kept is few = few
 -- ---- a walk
 
 -- a message's lag and the lags of others are at most all
-lags-both : (number : ℕ) (entries : List Entry) → (planned entries number).lag + lags (without_entry number entries) ≤ lags entries
+pub lags-both : (number : ℕ) (entries : List Entry) → (planned entries number).lag + lags (without_entry number entries) ≤ lags entries
 lags-both number [] = omega arith
 lags-both number (entry ∷ entries) = elim (cases_Bool (entry.number == number)) [
   | inl same ↦ rw same (let less = lags-without number entries in let is = lags-cons entry entries in omega (arith, less, is))
@@ -199,23 +221,23 @@ lags-both number (entry ∷ entries) = elim (cases_Bool (entry.number == number)
 
 module _ (plan : Plan) (sound : IsSound plan) (heap : ℕ) (goes_on : Bool) (doing : Doing) where
   -- streams stay in range, so do the views that come, and there are no more ticks than lags that were used up
-  record IsPacedWalk (q : Queue) (w : Walked Queue) : Type 0 where
+  record IsPacedWalk (q : Queue) (w : Walked Record Act Queue) : Type 0 where
     few : AllFew w.kept.streams
     range : AllInRange w.moments
     ticks : ticks_in w.moments + lags w.queue.entries ≤ lags q.entries
 
-  record IsPacedAct (lag : ℕ) (a : Performed) : Type 0 where
+  record IsPacedAct (lag : ℕ) (a : Performed Record) : Type 0 where
     few : AllFew a.kept.streams
     range : AllInRange a.moments
     ticks : ticks_in a.moments ≤ lag
 
-  act-paced : (kept : Record) (act : Act) (m : Meeting) → IsFewAct act → AllFew kept.streams → IsPacedAct m.lag (one_act plan heap kept act m)
+  act-paced : (kept : Record) (act : Act) (m : Meeting) → IsFewAct act → AllFew kept.streams → IsPacedAct m.lag (one_act (act_rules plan heap) kept act m)
   act-paced kept act m is few = by (outcome_by m.fate (own plan heap kept act))
     where
       ticks : ticks_in (lag_of m) ≡ m.lag
       ticks = lag-ticks m.lag
 
-      by : (o : Outcome) → IsPacedAct m.lag (performed plan act kept (lag_of m) o)
+      by : (o : Outcome) → IsPacedAct m.lag (performed (act_rules plan heap) act kept (lag_of m) o)
       by (Ok done) =
           let now = after-few plan act kept is few in
           let one = ticks-append (lag_of m) (Now (record_view plan (after plan act kept)) (fresh_in plan act) ∷ []) in
@@ -230,10 +252,10 @@ module _ (plan : Plan) (sound : IsSound plan) (heap : ℕ) (goes_on : Bool) (doi
     abbrev m : Meeting × Queue
     m = next_meeting doing q
 
-    abbrev a : Performed
-    a = one_act plan heap kept act m.0
+    abbrev a : Performed Record
+    a = one_act (act_rules plan heap) kept act m.0
 
-    then-paced : (b : Bool) (rest : Walked Queue) → IsPacedAct m.0.lag a → IsPacedWalk m.1 rest → IsPacedWalk q (followed_by act a m.1 b rest)
+    then-paced : (b : Bool) (rest : Walked Record Act Queue) → IsPacedAct m.0.lag a → IsPacedWalk m.1 rest → IsPacedWalk q (followed_by act a m.1 b rest)
     then-paced true rest here there =
         let less : m.0.lag + lags m.1.entries ≤ lags q.entries = lags-both (more q.sent) q.entries in
         let both = ticks-append a.moments rest.moments in
@@ -242,11 +264,11 @@ module _ (plan : Plan) (sound : IsSound plan) (heap : ℕ) (goes_on : Bool) (doi
         let less : m.0.lag + lags m.1.entries ≤ lags q.entries = lags-both (more q.sent) q.entries in
         record { few = here.few; range = here.range; ticks = omega (arith, here.ticks, less) }
 
-  walk-paced : (acts : List Act) (kept : Record) (q : Queue) → AreFewActs acts → AllFew kept.streams → IsPacedWalk q (walk plan heap goes_on (next_meeting doing) kept q acts)
+  walk-paced : (acts : List Act) (kept : Record) (q : Queue) → AreFewActs acts → AllFew kept.streams → IsPacedWalk q (walk (act_rules plan heap) goes_on (next_meeting doing) kept q acts)
   walk-paced [] kept q acts few = record { few = few; range = tt; ticks = omega arith }
   walk-paced (act ∷ acts) kept q all few =
       let here = act-paced kept act (m kept q act).0 all.0 few in
-      then-paced kept q act (goes_past goes_on (a kept q act).outcome) (walk plan heap goes_on (next_meeting doing) (a kept q act).kept (m kept q act).1 acts) here (walk-paced acts (a kept q act).kept (m kept q act).1 all.1 here.few)
+      then-paced kept q act (goes_past goes_on (a kept q act).outcome) (walk (act_rules plan heap) goes_on (next_meeting doing) (a kept q act).kept (m kept q act).1 acts) here (walk-paced acts (a kept q act).kept (m kept q act).1 all.1 here.few)
 
 -- ---- orders
 
@@ -281,7 +303,7 @@ few-up plan kept =
     (few-append (flat_map control_acts (zip plan.controls kept.controls)) _ (few-flat control_acts (λ p. few-control p.0.comp p.0.kind p.1) (zip plan.controls kept.controls))
     (few-map (λ p. Finish p.id) (λ p. tt) plan.graph.pipes)))
 
-few-prepares : (ss : List StreamPlan) (rs : List StreamRec) → AllFew rs → AreFewActs (flat_map prepare_acts (zip ss rs))
+pub few-prepares : (ss : List StreamPlan) (rs : List StreamRec) → AllFew rs → AreFewActs (flat_map prepare_acts (zip ss rs))
 few-prepares [] rs all = tt
 few-prepares (s ∷ ss) [] all = tt
 few-prepares (s ∷ ss) (r ∷ rs) all = few-append (prepare_by s.host r.found r.params) (flat_map prepare_acts (zip ss rs)) (by r.found r.params all.0) (few-prepares ss rs all.1)
@@ -406,14 +428,14 @@ end-paced Resuming plan done start now (Ok passed) = (tt, refl)
 end-paced Resuming plan done start now (Err fault) = (tt, refl)
 end-paced Suspending plan done start now o = (tt, refl)
 
-module _ (plan : Plan) (sound : IsSound plan) (heap : ℕ) (doing : Doing) (known : Known) (is : IsRecordOf plan known.kept) (held : lags known.queue.entries ≤ 16) where
+module _ (plan : Plan) (sound : IsSound plan) (heap : ℕ) (doing : Doing) (known : Known Record) (is : IsRecordOf plan known.kept) (held : lags known.queue.entries ≤ 16) where
   -- the views that come are in range, and there are at most 16 ticks
-  abbrev pub IsPaced : Came → Type 0
+  abbrev pub IsPaced : Came Record Act → Type 0
   IsPaced c = AllInRange c.moments × (ticks_in c.moments ≤ 16)
 
   module _ (o : Order) (paced : IsPacedOrder o) where
-    abbrev w : Walked Queue
-    w = walk plan heap (goes_on_after_refusal o.manner) (next_meeting doing) known.kept known.queue o.acts
+    abbrev w : Walked Record Act Queue
+    w = walk (act_rules plan heap) (goes_on_after_refusal o.manner) (next_meeting doing) known.kept known.queue o.acts
 
     abbrev e : List Moment
     e = (end_by o.manner plan o.done known.kept w.kept w.outcome).1
@@ -430,18 +452,18 @@ module _ (plan : Plan) (sound : IsSound plan) (heap : ℕ) (doing : Doing) (know
     few-ticks : (ticks_in o.first ≡ 0) ⊎ ((ticks_in o.first ≤ 1) × (o.acts ≡ [])) → ticks_in (o.first ++ (w.moments ++ e)) ≤ 16
     few-ticks (inl none) = let all = all-ticks in let most = walked-paced.ticks in omega (arith, all, none, most, held)
     few-ticks (inr one) =
-        let none : ticks_in w.moments ≡ 0 = ap (λ (acts : List Act). ticks_in (walk plan heap (goes_on_after_refusal o.manner) (next_meeting doing) known.kept known.queue acts).moments) one.1 in
+        let none : ticks_in w.moments ≡ 0 = ap (λ (acts : List Act). ticks_in (walk (act_rules plan heap) (goes_on_after_refusal o.manner) (next_meeting doing) known.kept known.queue acts).moments) one.1 in
         let all = all-ticks in
         omega (arith, all, none, one.0)
 
-    carried-paced : IsPaced (carried plan heap doing known o)
+    carried-paced : IsPaced (carried (command_rules plan heap) doing known (order_job plan known.kept o))
     carried-paced = (all-append o.first (w.moments ++ e) paced.range (all-append w.moments e walked-paced.range ended-paced.0), few-ticks paced.ticks)
 
-  tested-paced : (o : Order) (fault : Option HostFault) → (fault ≡ None → IsPacedOrder o) → IsPaced (tested plan heap doing known o fault)
+  tested-paced : (o : Order) (fault : Option HostFault) → (fault ≡ None → IsPacedOrder o) → IsPaced (tested (command_rules plan heap) doing known (order_job plan known.kept o) fault)
   tested-paced o (Some fault) paced = (tt, omega arith)
   tested-paced o None paced = carried-paced o (paced refl)
 
-  pub next-paced : (command : Command) → IsPaced (next plan heap doing known command)
+  pub next-paced : (command : Command) → IsPaced (next (command_rules plan heap) doing known command)
   next-paced command =
       elim (cases_Bool (is_plan command)) [
         | inl planned ↦ subst IsPaced (sym ((is-planned plan heap known command planned).is doing)) (tt, omega arith)

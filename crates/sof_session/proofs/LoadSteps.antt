@@ -17,6 +17,8 @@ use Rattle.host_widgets.specs.declared.kept.Power.TheVariants.{Unloaded, On, Off
 use Rattle.host_widgets.specs.declared.kept.Record.{Record}
 use Rattle.host_widgets.specs.Kept.{first_record, with_power}
 use Rattle.host_widgets.specs.ActLists.{bring_up}
+use Rattle.host_widgets.specs.HostActs.{Act}
+use Rattle.host_widgets.specs.OneAct.{act_rules}
 use Rattle.host_widgets.specs.ActCalls.{calls_of, next_of}
 use Rattle.host_widgets.specs.StateOf.{loaded_state}
 use Rattle.host_widgets.specs.ViewOf.{record_view}
@@ -30,12 +32,11 @@ use Rattle.host_widgets.proofs.BuildingMoments.{AllOf, view_from, clock_from, bu
 use Rattle.host_widgets.proofs.FewJoins.{few-acts}
 use Rattle.host_widgets.proofs.StandingOn.{StandsOn, ReadsOn}
 use Rattle.sof_script.specs.declared.script.Command.TheVariants as commands
-use Rattle.sof_session.specs.Agreement.{AreAgreed}
-use Rattle.sof_session.specs.Commands.{answer_by}
+use Rattle.sof_session.specs.Commands.{answer_by, command_rules}
 use Rattle.sof_session.specs.Seat.{Seat}
 use Rattle.sof_session.specs.SessionStep.{CommandDone}
 use Rattle.sof_session.specs.SessionCalls.{LoadRan}
-use Rattle.sof_session.proofs.Agreement.{at}
+use Rattle.sof_session.proofs.Agreement.{at, AgreeAtLoad}
 use Rattle.sof_session.proofs.BuildStands.{AtRest, rest_view, rest-quiet, loaded-rests, brought-stands, brought-reads}
 use Rattle.sof_session.proofs.FewMeetings.{few-meetings}
 use Rattle.sof_session.proofs.OrderStands.{moments-are, cut-leads}
@@ -48,7 +49,7 @@ was-unloaded Unloaded none = refl
 was-unloaded On none = absurd (cc none)
 was-unloaded Off none = absurd (cc none)
 
-module _ {P : Type 0} (means : Meaning P) (old new : Seat P) (io io' : Io) (agreed : AreAgreed means old) (few : old.link.sent < 2 ^ 63) where
+module _ {P : Type 0} (means : Meaning P) (old new : Seat P) (io io' : Io) (agreed : AgreeAtLoad means old) (few : old.link.sent < 2 ^ 63) where
   abbrev w : World (Wire P)
   w = at old.link io
 
@@ -65,10 +66,10 @@ module _ {P : Type 0} (means : Meaning P) (old new : Seat P) (io io' : Io) (agre
     first = (subst (λ (x : Power). Sides means old.plan old.kept old.link.device x) unloaded agreed.agree.sides).0
 
     pub few-messages : old.link.sent + length c.meetings < 2 ^ 64 - 1
-    few-messages = omega (arith, few, few-meetings (link means) old.plan old.heap false order.acts c.meetings old.kept c.begun c.sent c.walked, few-acts old.plan old.kept agreed.sound agreed.agree.record_is.controls)
+    few-messages = omega (arith, few, few-meetings (link means) (act_rules old.plan old.heap) false order.acts c.meetings old.kept c.begun c.sent c.walked, few-acts old.plan old.kept agreed.sound agreed.agree.record_is.controls)
 
-    abbrev met : Walked (List Meeting)
-    met = walk old.plan old.heap false next_of old.kept c.meetings order.acts
+    abbrev met : Walked Record Act (List Meeting)
+    met = walk (act_rules old.plan old.heap) false next_of old.kept c.meetings order.acts
 
     abbrev last : List Moment
     last = after_order.last means old.heap old.plan order old.kept new.kept w v outcome c
@@ -126,10 +127,10 @@ module _ {P : Type 0} (means : Meaning P) (old new : Seat P) (io io' : Io) (agre
 
   -- ---- the load
 
-  pub load_stepped : drained io.outputs ≡ io.outputs → (answer : Answer) → LoadRan means old new io io' answer → CommandDone means old.plan old.heap commands.Load old.kept new.kept w v answer
+  pub load_stepped : drained io.outputs ≡ io.outputs → (answer : Answer) → LoadRan means old new io io' answer → CommandDone means (command_rules old.plan old.heap) old.heap commands.Load old.kept new.kept w v answer
   load_stepped empty answer ran = by (fault_of_load old.kept.power) refl
     where
-      by : (test : Option HostFault) → fault_of_load old.kept.power ≡ test → CommandDone means old.plan old.heap commands.Load old.kept new.kept w v answer
+      by : (test : Option HostFault) → fault_of_load old.kept.power ≡ test → CommandDone means (command_rules old.plan old.heap) old.heap commands.Load old.kept new.kept w v answer
       by (Some fault) is =
           let e = ran.call.tested.early fault is in
           early-stepped means old.plan old.heap commands.Load old.kept new.kept w v answer (λ doing known. refl) refl fault is (ran.call.said ∙ ap (answer_by Done) e.0) e.1 e.2 empty

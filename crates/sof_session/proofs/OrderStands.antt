@@ -16,13 +16,15 @@ use Rattle.host_widgets.specs.declared.kept.Record.{Record}
 use Rattle.host_widgets.specs.Host.{Outcome, IsRecordOf}
 use Rattle.host_widgets.specs.Keeps.{KeepsRecord}
 use Rattle.host_widgets.specs.HostActs.{Act}
+use Rattle.host_widgets.specs.OneAct.{act_rules}
 use Rattle.host_widgets.specs.Walk.{Walked, walk}
 use Rattle.host_widgets.specs.ActCalls.{next_of, calls_of}
 use Rattle.host_widgets.specs.Orders.{Order, Plain, Carried, goes_on_after_refusal, plain_end, end_by}
 use Rattle.host_widgets.proofs.StandingOn.{StandsOn, ReadsOn, cut-stands}
 use Rattle.host_widgets.proofs.WalksHold.{ByLink, AreTaken, Held, HeldBy, ReadBy, walk-holds}
+use Rattle.host_widgets.specs.Routines.{order_job}
 use Rattle.sof_session.specs.Agreement.{IsFated}
-use Rattle.sof_session.specs.Commands.{carried}
+use Rattle.sof_session.specs.Commands.{carried, command_rules}
 use Rattle.sof_session.specs.SessionStep.{known_of}
 use Rattle.sof_session.proofs.Carrying.{doing, from-start}
 
@@ -73,8 +75,8 @@ by-down (Err (Blob n)) Up Down f x = f x
 -- ---- over a link
 
 module _ {P : Type 0} (means : Meaning P) (heap : ℕ) (plan : Plan) (o : Order) (kept kept' : Record) (w v : World (Wire P)) (result : Outcome) (c : Carried (link means) plan heap o kept kept' w v result) where
-  abbrev pub met : Walked (List Meeting)
-  met = walk plan heap (goes_on_after_refusal o.manner) next_of kept c.meetings o.acts
+  abbrev pub met : Walked Record Act (List Meeting)
+  met = walk (act_rules plan heap) (goes_on_after_refusal o.manner) next_of kept c.meetings o.acts
 
   abbrev pub last : List Moment
   last = (end_by o.manner plan o.done kept met.kept met.outcome).1
@@ -93,7 +95,7 @@ module _ {P : Type 0} (means : Meaning P) (heap : ℕ) (plan : Plan) (o : Order)
 
   module _ (none : means.pending w.device.device ≡ 0) (fated : IsFated w.device) (few : w.device.sent + length c.meetings < 2 ^ 64 - 1) where
     abbrev pub written : List Moment
-    written = (carried plan heap (doing means heap plan o kept kept' w v result c none fated few) (known_of w.device kept) o).moments
+    written = (carried (command_rules plan heap) (doing means heap plan o kept kept' w v result c none fated few) (known_of w.device kept) (order_job plan (known_of w.device kept).kept o)).moments
 
     -- the written moments are those of what the messages met
     pub moments-are : o.first ++ (met.moments ++ last) ≡ written
@@ -119,7 +121,7 @@ module _ {P : Type 0} (means : Meaning P) (heap : ℕ) (plan : Plan) (sound : Is
   abbrev o : Order
   o = sending acts done answer
 
-  abbrev sent : Walked (List Meeting)
+  abbrev sent : Walked Record Act (List Meeting)
   sent = met means heap plan o kept kept' w v result c
 
   -- its messages came to a device that is as it was

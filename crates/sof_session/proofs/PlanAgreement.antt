@@ -1,5 +1,5 @@
 -- After a fate or a lag was planned the two sides agree again, and the rest stays.
-use Rattle.std.proofs.Common.{◌≡◌, ℕ, ◌+◌, List, Bool, true, ℤ, pos, negsuc, Result, Ok, Err, refl, sym, subst, arith}
+use Rattle.std.proofs.Common.{◌≡◌, ℕ, ◌+◌, List, Bool, true, ℤ, pos, negsuc, Option, Some, None, Result, Ok, Err, refl, sym, subst, arith}
 use Rattle.std.specs.Prelude.{nat_le}
 use Rattle.std.proofs.lemmas.Bool.{and_parts, false≢true, leb-true, ltb-true}
 use Rattle.sof_base.specs.Ports.{Io}
@@ -14,7 +14,7 @@ use Rattle.mbox_link.specs.Planned.{Planned, LagPlanned, PlannedSo, holding}
 use Rattle.mbox_link.proofs.FateLaws.{AreHeld-with, lags-planned, planned-meant}
 use Rattle.host_widgets.specs.declared.kept.Power.{Power}
 use Rattle.host_widgets.specs.declared.kept.Power.TheVariants.{Unloaded, On, Off}
-use Rattle.sof_session.specs.Agreement.{AreAgreed, Powered}
+use Rattle.sof_session.specs.Agreement.{AreAgreed, Powered, PoweredBy}
 use Rattle.sof_session.specs.CommandRanges.{is_refusal}
 use Rattle.sof_session.specs.Seat.{Seat}
 use Rattle.sof_session.specs.SessionCalls.{Stays}
@@ -42,18 +42,22 @@ held-lag number ticks entries held room =
 
 module _ {P : Type 0} (means : Meaning P) (old : Seat P) where
   abbrev pub seat_by : Wire P → Seat P
-  seat_by wire = record { link = wire; kept = old.kept; plan = old.plan; heap = old.heap }
+  seat_by wire = record { link = wire; kept = old.kept; plan = old.plan; heap = old.heap; up = old.up }
 
   module _ (agreed : AreAgreed means old) where
-    powered-with : (entries : List Entry) (power : Power) → Powered means old power → Powered means (seat_by (holding old.link entries)) power
-    powered-with entries Unloaded powered = powered
-    powered-with entries On powered = powered
-    powered-with entries Off powered = powered
+    load-powered : (entries : List Entry) (power : Power) → Powered means old power → Powered means (seat_by (holding old.link entries)) power
+    load-powered entries Unloaded powered = powered
+    load-powered entries On powered = powered
+    load-powered entries Off powered = powered
+
+    powered-with : (entries : List Entry) (up : Option (List ℕ)) → PoweredBy means old up → PoweredBy means (seat_by (holding old.link entries)) up
+    powered-with entries None powered = load-powered entries old.kept.power powered
+    powered-with entries (Some up) powered = powered
 
     agreed-with : (entries : List Entry) → AreHeld entries → AreAgreed means (seat_by (holding old.link entries))
     agreed-with entries held = record {
       agree = agreed.agree;
-      powered = powered-with entries old.kept.power agreed.powered;
+      powered = powered-with entries old.up agreed.powered;
       room = agreed.room;
       pending = agreed.pending;
       fated = record { held = held; dropped = agreed.fated.dropped; refused = agreed.fated.refused; counted = agreed.fated.counted };
@@ -76,4 +80,4 @@ module _ {P : Type 0} (means : Meaning P) (old : Seat P) where
 
     -- what that leaves, whatever the endpoints are
     pub link-stays : (wire : Wire P) → AreAgreed means (seat_by wire) → (io : Io) → Stays means old (seat_by wire) io io
-    link-stays wire later io = record { agreed = agreed; later = later; plan = refl; heap = refl; slots = refl; ends = refl; still = λ none. refl }
+    link-stays wire later io = record { agreed = agreed; later = later; plan = refl; heap = refl; mode = refl; slots = refl; ends = refl; still = λ none. refl }

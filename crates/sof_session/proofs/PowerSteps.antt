@@ -22,6 +22,7 @@ use Rattle.host_widgets.specs.declared.kept.Record.{Record}
 use Rattle.host_widgets.specs.declared.kept.StreamRec.{StreamRec}
 use Rattle.host_widgets.specs.HostActs.{Save}
 use Rattle.host_widgets.specs.ActLists.{go_down, stop_acts, stop_by}
+use Rattle.host_widgets.specs.OneAct.{act_rules}
 use Rattle.host_widgets.specs.Host.{Outcome}
 use Rattle.host_widgets.specs.Orders.{Carried, Order, suspending}
 use Rattle.host_widgets.specs.TestedOrders.{Tested}
@@ -30,13 +31,13 @@ use Rattle.host_widgets.proofs.WalksHold.{Held, HeldBy, walk-holds}
 use Rattle.host_pm.specs.PowerTests.{suspend_fault}
 use Rattle.host_pm.proofs.GoingDown.{down-taken}
 use Rattle.sof_script.specs.declared.script.Command.TheVariants as commands
-use Rattle.sof_session.specs.Agreement.{AreAgreed, Powered}
-use Rattle.sof_session.specs.Commands.{answer_by}
+use Rattle.sof_session.specs.Agreement.{Powered}
+use Rattle.sof_session.specs.Commands.{answer_by, command_rules}
 use Rattle.sof_session.specs.Seat.{Seat}
 use Rattle.sof_session.specs.SessionStep.{CommandDone}
 use Rattle.sof_session.specs.SessionCalls.{CallRan}
 use Rattle.sof_session.proofs.ActsLed.{acts-io, acts-ends}
-use Rattle.sof_session.proofs.Agreement.{at}
+use Rattle.sof_session.proofs.Agreement.{at, AgreeAtLoad}
 use Rattle.sof_session.proofs.FewMeetings.{few-meetings}
 use Rattle.sof_session.proofs.OrderStands.{by-down, cut-leads}
 use Rattle.sof_session.proofs.OrderStands as after_order
@@ -82,7 +83,7 @@ few-down plan kept sound = omega (arith, few-streams plan sound, few-stops plan.
 
 -- ---- a suspend
 
-module _ {P : Type 0} (means : Meaning P) (old : Seat P) (wire : Wire P) (io io' : Io) (agreed : AreAgreed means old) (kept : Record) (result : Outcome) where
+module _ {P : Type 0} (means : Meaning P) (old : Seat P) (wire : Wire P) (io io' : Io) (agreed : AgreeAtLoad means old) (kept : Record) (result : Outcome) where
   abbrev order : Order
   order = suspending old.plan old.kept
 
@@ -102,7 +103,7 @@ module _ {P : Type 0} (means : Meaning P) (old : Seat P) (wire : Wire P) (io io'
   cut-still : (link means).pending old.link ≡ 0 → On-so → CarriedSo → io' ≡ io
   cut-still none on c =
       ap (λ (x : World (Wire P)). x.io) c.ends.1.2 ∙ c.ends.1.1.1
-      ∙ acts-io (link means) old.plan old.heap true order.acts c.meetings old.kept c.begun c.sent c.walked
+      ∙ acts-io (link means) (act_rules old.plan old.heap) true order.acts c.meetings old.kept c.begun c.sent c.walked
       (ap (λ (x : World (Wire P)). (link means).pending x.device) c.first ∙ none) on.0 (ap (λ (x : World (Wire P)). means.on x.device.device) c.first ∙ on.1)
       ∙ ap (λ (x : World (Wire P)). x.io) c.first
 
@@ -110,7 +111,7 @@ module _ {P : Type 0} (means : Meaning P) (old : Seat P) (wire : Wire P) (io io'
   cut-ends : On-so → CarriedSo → bound_ends io' ≡ bound_ends io
   cut-ends on c =
       ap (λ (x : World (Wire P)). bound_ends x.io) c.ends.1.2 ∙ ap bound_ends c.ends.1.1.1
-      ∙ acts-ends (link means) old.plan old.heap true order.acts c.meetings old.kept c.begun c.sent c.walked on.0 (ap (λ (x : World (Wire P)). means.on x.device.device) c.first ∙ on.1)
+      ∙ acts-ends (link means) (act_rules old.plan old.heap) true order.acts c.meetings old.kept c.begun c.sent c.walked on.0 (ap (λ (x : World (Wire P)). means.on x.device.device) c.first ∙ on.1)
       ∙ ap (λ (x : World (Wire P)). bound_ends x.io) c.first
 
   module _ (tested : Tested (link means) old.plan old.heap (suspend_fault old.kept.power) order old.kept kept (at old.link io) (at wire io') result) where
@@ -128,7 +129,7 @@ module _ {P : Type 0} (means : Meaning P) (old : Seat P) (wire : Wire P) (io io'
         by (Some fault) is = ap (λ (x : World (Wire P)). bound_ends x.io) (tested.early fault is).1
         by None is = cut-ends (was-powered old.kept.power (was-on old.kept.power is) agreed.powered) (tested.late is)
 
-module _ {P : Type 0} (means : Meaning P) (old new : Seat P) (io io' : Io) (agreed : AreAgreed means old) (few : old.link.sent < 2 ^ 63) where
+module _ {P : Type 0} (means : Meaning P) (old new : Seat P) (io io' : Io) (agreed : AgreeAtLoad means old) (few : old.link.sent < 2 ^ 63) where
   abbrev w : World (Wire P)
   w = at old.link io
 
@@ -156,16 +157,16 @@ module _ {P : Type 0} (means : Meaning P) (old new : Seat P) (io io' : Io) (agre
       (λ h. reads-of (Some f) (Some h.state) io c.sent.io met.moments h.stands) held)
 
   -- all ends with the cut, whatever they came to
-  pub suspend_stepped : drained io.outputs ≡ io.outputs → (answer : Answer) → Ran answer → CommandDone means old.plan old.heap commands.Suspend old.kept new.kept w v answer
+  pub suspend_stepped : drained io.outputs ≡ io.outputs → (answer : Answer) → Ran answer → CommandDone means (command_rules old.plan old.heap) old.heap commands.Suspend old.kept new.kept w v answer
   suspend_stepped empty answer ran = by (suspend_fault old.kept.power) refl
     where
-      by : (test : Option HostFault) → suspend_fault old.kept.power ≡ test → CommandDone means old.plan old.heap commands.Suspend old.kept new.kept w v answer
+      by : (test : Option HostFault) → suspend_fault old.kept.power ≡ test → CommandDone means (command_rules old.plan old.heap) old.heap commands.Suspend old.kept new.kept w v answer
       by (Some fault) is =
           let e = ran.tested.early fault is in
           early-stepped means old.plan old.heap commands.Suspend old.kept new.kept w v answer (λ doing known. refl) refl fault is (ran.said ∙ ap (answer_by Done) e.0) e.1 e.2 empty
       by None is =
           let c = ran.tested.late is in
-          let fewer : old.link.sent + length c.meetings < 2 ^ 64 - 1 = omega (arith, few, few-meetings (link means) old.plan old.heap true o.acts c.meetings old.kept c.begun c.sent c.walked, few-down old.plan old.kept agreed.sound) in
+          let fewer : old.link.sent + length c.meetings < 2 ^ 64 - 1 = omega (arith, few, few-meetings (link means) (act_rules old.plan old.heap) true o.acts c.meetings old.kept c.begun c.sent c.walked, few-down old.plan old.kept agreed.sound) in
           let written = after_order.written means old.heap old.plan o old.kept new.kept w v ran.outcome c agreed.pending agreed.fated fewer in
           late-stepped means old.plan old.heap commands.Suspend old.kept new.kept w v answer (λ doing known. refl) refl is ran.outcome c agreed.pending agreed.fated fewer
           ran.said

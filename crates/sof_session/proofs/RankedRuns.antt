@@ -21,7 +21,7 @@ use Rattle.host_widgets.specs.declared.kept.ControlRec.{ControlRec}
 use Rattle.host_widgets.specs.declared.kept.Record.{Record}
 use Rattle.host_widgets.specs.Host.{Outcome}
 use Rattle.host_widgets.specs.HostActs.{Act, after, fresh_in}
-use Rattle.host_widgets.specs.OneAct.{Performed, one_act, performed, outcome_by, own, lag_of}
+use Rattle.host_widgets.specs.OneAct.{act_rules, Performed, one_act, performed, outcome_by, own, lag_of}
 use Rattle.host_widgets.specs.Orders.{Order, Manner, Plain, Loading, Resuming, Suspending, goes_on_after_refusal, end_by, sends, where_on}
 use Rattle.host_widgets.specs.ViewOf.{record_view, graph_by}
 use Rattle.host_widgets.specs.Walk.{Walked, walk, followed_by, goes_past}
@@ -33,11 +33,12 @@ use Rattle.host_pcm.specs.StreamOrders.{asking_order}
 use Rattle.host_pcm.specs.StreamCalls.{host_at}
 use Rattle.host_ctl.specs.ControlAsks.{named_control}
 use Rattle.host_ctl.specs.ControlOrders.{setting_order, installing_order, reading_order, named_at}
+use Rattle.host_widgets.specs.Routines.{order_job}
 use Rattle.sof_script.specs.declared.script.Command.{Command}
 use Rattle.sof_script.specs.declared.script.Command.TheVariants as commands
 use Rattle.sof_session.specs.CommandTests.{asking, fault_of}
 use Rattle.sof_session.specs.AskedOrders.{asked_order}
-use Rattle.sof_session.specs.Commands.{Known, Came, is_plan, order_of, carried, tested, next}
+use Rattle.sof_session.specs.Commands.{Known, Came, is_plan, order_of, carried, tested, next, command_rules}
 use Rattle.sof_session.specs.RunLaws.{HasRanks}
 use Rattle.sof_session.proofs.SameNext.{is-planned, is-tested}
 
@@ -46,7 +47,7 @@ use Rattle.sof_session.proofs.SameNext.{is-planned, is-tested}
 pub empty-ranks : HasRanks empty_view
 empty-ranks = ((λ c. 0), record { rises = λ b a c source sink. absurd (cc source) })
 
-record-ranks : (plan : Plan) → IsSound plan → (kept : Record) → HasRanks (record_view plan kept)
+pub record-ranks : (plan : Plan) → IsSound plan → (kept : Record) → HasRanks (record_view plan kept)
 record-ranks plan sound kept =
     let plays = sound-plays plan sound kept (record_view plan kept).streams in
     (place_of (order (graph_by plan kept)), order-ranks (graph_by plan kept) plays.ends plays.ordered)
@@ -59,14 +60,14 @@ AllRanks (Cut ∷ ms) = AllRanks ms
 AllRanks (Now view fresh ∷ ms) = HasRanks view × AllRanks ms
 AllRanks (Tick ∷ ms) = AllRanks ms
 
-all-append : (ms ns : List Moment) → AllRanks ms → AllRanks ns → AllRanks (ms ++ ns)
+pub all-append : (ms ns : List Moment) → AllRanks ms → AllRanks ns → AllRanks (ms ++ ns)
 all-append [] ns first rest = rest
 all-append (Boot ∷ ms) ns first rest = all-append ms ns first rest
 all-append (Cut ∷ ms) ns first rest = all-append ms ns first rest
 all-append (Now view fresh ∷ ms) ns first rest = (first.0, all-append ms ns first.1 rest)
 all-append (Tick ∷ ms) ns first rest = all-append ms ns first rest
 
-lag-ranks : (n : ℕ) → AllRanks (replicate n Tick)
+pub lag-ranks : (n : ℕ) → AllRanks (replicate n Tick)
 lag-ranks zero = tt
 lag-ranks (suc n) = lag-ranks n
 
@@ -89,27 +90,27 @@ leads-ranks whole (Tick ∷ ms) old new ranks all led = leads-ranks whole ms led
 -- ---- acts
 
 module _ (plan : Plan) (sound : IsSound plan) (heap : ℕ) (goes_on : Bool) (doing : Doing) where
-  act-ranks : (kept : Record) (act : Act) (m : Meeting) → AllRanks (one_act plan heap kept act m).moments
+  act-ranks : (kept : Record) (act : Act) (m : Meeting) → AllRanks (one_act (act_rules plan heap) kept act m).moments
   act-ranks kept act m = by (outcome_by m.fate (own plan heap kept act))
     where
-      by : (o : Outcome) → AllRanks (performed plan act kept (lag_of m) o).moments
+      by : (o : Outcome) → AllRanks (performed (act_rules plan heap) act kept (lag_of m) o).moments
       by (Ok done) = all-append (lag_of m) (Now (record_view plan (after plan act kept)) (fresh_in plan act) ∷ []) (lag-ranks m.lag) (record-ranks plan sound (after plan act kept), tt)
       by (Err fault) = lag-ranks m.lag
 
-  then-ranks : (act : Act) (a : Performed) (q : Queue) (b : Bool) (rest : Walked Queue) → AllRanks a.moments → AllRanks rest.moments → AllRanks (followed_by act a q b rest).moments
+  then-ranks : (act : Act) (a : Performed Record) (q : Queue) (b : Bool) (rest : Walked Record Act Queue) → AllRanks a.moments → AllRanks rest.moments → AllRanks (followed_by act a q b rest).moments
   then-ranks act a q true rest here there = all-append a.moments rest.moments here there
   then-ranks act a q false rest here there = here
 
-  walk-ranks : (acts : List Act) (kept : Record) (q : Queue) → AllRanks (walk plan heap goes_on (next_meeting doing) kept q acts).moments
+  walk-ranks : (acts : List Act) (kept : Record) (q : Queue) → AllRanks (walk (act_rules plan heap) goes_on (next_meeting doing) kept q acts).moments
   walk-ranks [] kept q = tt
   walk-ranks (act ∷ acts) kept q =
       let p = next_meeting doing q in
-      let a = one_act plan heap kept act p.0 in
-      then-ranks act a p.1 (goes_past goes_on a.outcome) (walk plan heap goes_on (next_meeting doing) a.kept p.1 acts) (act-ranks kept act p.0) (walk-ranks acts a.kept p.1)
+      let a = one_act (act_rules plan heap) kept act p.0 in
+      then-ranks act a p.1 (goes_past goes_on a.outcome) (walk (act_rules plan heap) goes_on (next_meeting doing) a.kept p.1 acts) (act-ranks kept act p.0) (walk-ranks acts a.kept p.1)
 
 -- ---- first and last moments, of which none brings a view
 
-where-ranks : (power : Power) (ms : List Moment) → AllRanks ms → AllRanks (where_on power ms)
+pub where-ranks : (power : Power) (ms : List Moment) → AllRanks ms → AllRanks (where_on power ms)
 where-ranks On ms all = all
 where-ranks Unloaded ms all = tt
 where-ranks Off ms all = tt
@@ -141,7 +142,7 @@ asked-ranks : (plan : Plan) (kept : Record) (asked : Option (List ℕ × Ask)) �
 asked-ranks plan kept None = tt
 asked-ranks plan kept (Some (name, ask)) = let k = unwrap_or (stream_place plan name) 0 in asking-ranks plan kept (host_at plan k) (stream_at kept k).found ask
 
-first-ranks : (plan : Plan) (kept : Record) (command : Command) → AllRanks (order_of plan kept command).first
+pub first-ranks : (plan : Plan) (kept : Record) (command : Command) → AllRanks (order_of plan kept command).first
 first-ranks plan kept commands.Load = tt
 first-ranks plan kept commands.Unload = where-ranks kept.power (Cut ∷ []) tt
 first-ranks plan kept commands.Suspend = tt
@@ -154,7 +155,7 @@ first-ranks plan kept (commands.Get name) = tt
 first-ranks plan kept (commands.Read name) = read-ranks kept (named_at plan kept name)
 first-ranks plan kept command = asked-ranks plan kept (asking command)
 
-end-ranks : (manner : Manner) (plan : Plan) (done : Record → Record) (start now : Record) (o : Outcome) → AllRanks (end_by manner plan done start now o).1
+pub end-ranks : (manner : Manner) (plan : Plan) (done : Record → Record) (start now : Record) (o : Outcome) → AllRanks (end_by manner plan done start now o).1
 end-ranks Plain plan done start now (Ok passed) = tt
 end-ranks Plain plan done start now (Err LinkDown) = tt
 end-ranks Plain plan done start now (Err fault) = tt
@@ -166,22 +167,22 @@ end-ranks Suspending plan done start now o = tt
 
 -- ---- a command
 
-module _ (plan : Plan) (sound : IsSound plan) (heap : ℕ) (doing : Doing) (known : Known) where
-  carried-ranks : (o : Order) → AllRanks o.first → AllRanks (carried plan heap doing known o).moments
+module _ (plan : Plan) (sound : IsSound plan) (heap : ℕ) (doing : Doing) (known : Known Record) where
+  carried-ranks : (o : Order) → AllRanks o.first → AllRanks (carried (command_rules plan heap) doing known (order_job plan known.kept o)).moments
   carried-ranks o first =
-      let w = walk plan heap (goes_on_after_refusal o.manner) (next_meeting doing) known.kept known.queue o.acts in
+      let w = walk (act_rules plan heap) (goes_on_after_refusal o.manner) (next_meeting doing) known.kept known.queue o.acts in
       let e = end_by o.manner plan o.done known.kept w.kept w.outcome in
       all-append o.first (w.moments ++ e.1) first
       (all-append w.moments e.1 (walk-ranks plan sound heap (goes_on_after_refusal o.manner) doing o.acts known.kept known.queue) (end-ranks o.manner plan o.done known.kept w.kept w.outcome))
 
-  tested-ranks : (o : Order) (fault : Option HostFault) → AllRanks o.first → AllRanks (tested plan heap doing known o fault).moments
+  tested-ranks : (o : Order) (fault : Option HostFault) → AllRanks o.first → AllRanks (tested (command_rules plan heap) doing known (order_job plan known.kept o) fault).moments
   tested-ranks o (Some fault) first = tt
   tested-ranks o None first = carried-ranks o first
 
-  pub next-ranks : (command : Command) → AllRanks (next plan heap doing known command).moments
+  pub next-ranks : (command : Command) → AllRanks (next (command_rules plan heap) doing known command).moments
   next-ranks command =
       elim (cases_Bool (is_plan command)) [
-        | inl planned ↦ subst (λ (c : Came). AllRanks c.moments) (sym ((is-planned plan heap known command planned).is doing)) tt
-        | inr other ↦ subst (λ (c : Came). AllRanks c.moments) (sym (is-tested plan heap known doing command other))
+        | inl planned ↦ subst (λ (c : Came Record Act). AllRanks c.moments) (sym ((is-planned plan heap known command planned).is doing)) tt
+        | inr other ↦ subst (λ (c : Came Record Act). AllRanks c.moments) (sym (is-tested plan heap known doing command other))
             (tested-ranks (order_of plan known.kept command) (fault_of plan known.kept command) (first-ranks plan known.kept command))
       ]

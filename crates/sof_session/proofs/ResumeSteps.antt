@@ -24,6 +24,7 @@ use Rattle.host_widgets.specs.declared.kept.Power.{Power}
 use Rattle.host_widgets.specs.declared.kept.Power.TheVariants.{Unloaded, On, Off}
 use Rattle.host_widgets.specs.declared.kept.Record.{Record}
 use Rattle.host_widgets.specs.declared.kept.StreamRec.{StreamRec}
+use Rattle.host_widgets.specs.OneAct.{act_rules}
 use Rattle.host_widgets.specs.ActCalls.{ActsDid, calls_of, next_of}
 use Rattle.host_widgets.specs.ActLists.{bring_up, bring_back, prepare_acts, prepare_by}
 use Rattle.tplg_plan.specs.Sound.{IsSound}
@@ -43,12 +44,11 @@ use Rattle.host_pm.specs.PowerTests.{resume_fault}
 use Rattle.host_pm.specs.Resumed.{Resumed, ResumeLeft}
 use Rattle.host_pm.proofs.PowerOrders.{back-leaves, rests-off}
 use Rattle.sof_script.specs.declared.script.Command.TheVariants as commands
-use Rattle.sof_session.specs.Agreement.{AreAgreed}
-use Rattle.sof_session.specs.Commands.{answer_by}
+use Rattle.sof_session.specs.Commands.{answer_by, command_rules}
 use Rattle.sof_session.specs.Seat.{Seat}
 use Rattle.sof_session.specs.SessionStep.{CommandDone}
 use Rattle.sof_session.specs.SessionCalls.{ResumeRan}
-use Rattle.sof_session.proofs.Agreement.{at}
+use Rattle.sof_session.proofs.Agreement.{at, AgreeAtLoad}
 use Rattle.sof_session.proofs.BuildStands.{AtRest, IsQuiet, brought-stands, brought-reads, record-quiet, resumed-rests}
 use Rattle.sof_session.proofs.FewMeetings.{few-meetings}
 use Rattle.sof_session.proofs.OrderStands.{moments-are, cut-leads}
@@ -73,7 +73,7 @@ few-prepare host Closed params = omega arith
 few-prepare host Open params = omega arith
 few-prepare host Found_On params = omega arith
 
-few-prepares : (ss : List StreamPlan) (rs : List StreamRec) → length (flat_map prepare_acts (zip ss rs)) ≤ length ss
+pub few-prepares : (ss : List StreamPlan) (rs : List StreamRec) → length (flat_map prepare_acts (zip ss rs)) ≤ length ss
 few-prepares [] rs = omega arith
 few-prepares (s ∷ ss) [] = omega arith
 few-prepares (s ∷ ss) (r ∷ rs) = omega (arith, few-prepare s.host r.found r.params, few-prepares ss rs, length-append (prepare_by s.host r.found r.params) (flat_map prepare_acts (zip ss rs)))
@@ -85,7 +85,7 @@ few-back plan kept sound are =
 
 -- ---- a resume that was carried out
 
-module _ {P : Type 0} (means : Meaning P) (old : Seat P) (wire : Wire P) (io io' : Io) (agreed : AreAgreed means old) (kept : Record) (result : Outcome) where
+module _ {P : Type 0} (means : Meaning P) (old : Seat P) (wire : Wire P) (io io' : Io) (agreed : AgreeAtLoad means old) (kept : Record) (result : Outcome) where
   abbrev order : Order
   order = resuming old.plan old.kept
 
@@ -99,15 +99,15 @@ module _ {P : Type 0} (means : Meaning P) (old : Seat P) (wire : Wire P) (io io'
   CarriedSo = Carried (link means) old.plan old.heap order old.kept kept w v result
 
   module _ (c : CarriedSo) where
-    abbrev met : Walked (List Meeting)
-    met = walk old.plan old.heap false next_of old.kept c.meetings order.acts
+    abbrev met : Walked Record Act (List Meeting)
+    met = walk (act_rules old.plan old.heap) false next_of old.kept c.meetings order.acts
 
     abbrev EndsSo : Outcome → Type 0
     EndsSo o = Led (link means) c.sent (calls_of old.heap (brought_end (with_power On) old.kept met.kept o).1) v
 
     module _ (few : old.link.sent < 2 ^ 63) (off : old.kept.power ≡ Off) (left : ResumeLeft (link means) old.plan old.heap old.kept old.link result wire) (same : io' ≡ io) where
       pub few-sent : old.link.sent + length c.meetings < 2 ^ 64 - 1
-      few-sent = omega (arith, few, few-meetings (link means) old.plan old.heap false order.acts c.meetings old.kept c.begun c.sent c.walked, few-back old.plan old.kept agreed.sound agreed.agree.record_is.controls)
+      few-sent = omega (arith, few, few-meetings (link means) (act_rules old.plan old.heap) false order.acts c.meetings old.kept c.begun c.sent c.walked, few-back old.plan old.kept agreed.sound agreed.agree.record_is.controls)
 
       abbrev pub written : List Moment
       written = after_order.written means old.heap old.plan order old.kept kept w v result c agreed.pending agreed.fated few-sent
@@ -150,7 +150,7 @@ module _ {P : Type 0} (means : Meaning P) (old : Seat P) (wire : Wire P) (io io'
 
       empty-ends : met.outcome ≡ Ok tt → (r : Resumed (link means) old.plan old.heap old.kept count wire) → order.acts ≡ [] → view_from empty_view met.moments ≡ shown
       empty-ends passed r none =
-          let walked = subst (λ (acts : List Act). ActsDid (link means) old.plan old.heap false old.kept acts c.meetings c.begun c.sent) none c.walked in
+          let walked = subst (λ (acts : List Act). ActsDid (link means) (act_rules old.plan old.heap) false old.kept acts c.meetings c.begun c.sent) none c.walked in
           let later : v ≡ c.begun = last_is passed ∙ walked.1 in
           let one : Some (fresh old.heap) ≡ Some r.state = sym begun-on ∙ sym (ap (λ (x : World (Wire P)). means.on x.device.device) later) ∙ r.on in
           let booted : fresh old.heap ≡ r.state = cc one in
@@ -179,17 +179,17 @@ module _ {P : Type 0} (means : Meaning P) (old : Seat P) (wire : Wire P) (io io'
       pub resume-leads : Leads
       resume-leads = by met.outcome refl
 
-module _ {P : Type 0} (means : Meaning P) (old new : Seat P) (io io' : Io) (agreed : AreAgreed means old) (few : old.link.sent < 2 ^ 63) where
+module _ {P : Type 0} (means : Meaning P) (old new : Seat P) (io io' : Io) (agreed : AgreeAtLoad means old) (few : old.link.sent < 2 ^ 63) where
   abbrev a : World (Wire P)
   a = at old.link io
 
   abbrev b : World (Wire P)
   b = at new.link io'
 
-  pub resume_stepped : drained io.outputs ≡ io.outputs → (answer : Answer) → ResumeRan means old new io io' answer → CommandDone means old.plan old.heap commands.Resume old.kept new.kept a b answer
+  pub resume_stepped : drained io.outputs ≡ io.outputs → (answer : Answer) → ResumeRan means old new io io' answer → CommandDone means (command_rules old.plan old.heap) old.heap commands.Resume old.kept new.kept a b answer
   resume_stepped empty answer ran = by (resume_fault old.kept.power) refl
     where
-      by : (test : Option HostFault) → resume_fault old.kept.power ≡ test → CommandDone means old.plan old.heap commands.Resume old.kept new.kept a b answer
+      by : (test : Option HostFault) → resume_fault old.kept.power ≡ test → CommandDone means (command_rules old.plan old.heap) old.heap commands.Resume old.kept new.kept a b answer
       by (Some fault) is =
           let e = ran.call.tested.early fault is in
           early-stepped means old.plan old.heap commands.Resume old.kept new.kept a b answer (λ doing known. refl) refl fault is (ran.call.said ∙ ap (answer_by Done) e.0) e.1 e.2 empty

@@ -11,12 +11,14 @@ use Rattle.host_widgets.specs.declared.answers.HostFault.{HostFault}
 use Rattle.host_widgets.specs.declared.kept.Record.{Record}
 use Rattle.host_widgets.specs.HostActs.{Act}
 use Rattle.mbox_link.specs.Meetings.{Queue}
+use Rattle.host_widgets.specs.OneAct.{act_rules}
 use Rattle.host_widgets.specs.Walk.{Walked}
 use Rattle.host_widgets.specs.Orders.{Order, goes_on_after_refusal, end_by}
+use Rattle.host_widgets.specs.Routines.{order_job}
 use Rattle.sof_script.specs.declared.script.Command.{Command}
 use Rattle.sof_script.specs.declared.script.Command.TheVariants as commands
 use Rattle.sof_session.specs.CommandTests.{fault_of}
-use Rattle.sof_session.specs.Commands.{Known, Came, came, is_plan, order_of, carried, tested, planned_where_room, next, answer_by}
+use Rattle.sof_session.specs.Commands.{Known, Came, came, is_plan, order_of, carried, tested, planned_where_room, next, answer_by, command_rules}
 use Rattle.sof_session.proofs.SameDoings.{walk-up, walk-few, same-walk}
 
 -- the acts of an order that are due: none where a test fails
@@ -29,14 +31,14 @@ abbrev pub acts_due : Plan → Record → Command → List Act
 acts_due plan kept command = due (order_of plan kept command) (fault_of plan kept command)
 
 -- what is planned has no moments, and sends nothing
-pub record IsPlan (plan : Plan) (heap : ℕ) (known : Known) (command : Command) : Type 0 where
-  pub later : Known
+pub record IsPlan (plan : Plan) (heap : ℕ) (known : Known Record) (command : Command) : Type 0 where
+  pub later : Known Record
   pub answer : Answer
-  pub is : (doing : Doing) → next plan heap doing known command ≡ came later answer
+  pub is : (doing : Doing) → next (command_rules plan heap) doing known command ≡ came later answer
   pub sent : later.queue.sent ≡ known.queue.sent
 
-module _ (plan : Plan) (heap : ℕ) (known : Known) where
-  plans : (command : Command) (room : Bool) (entries : List Entry) → ((doing : Doing) → next plan heap doing known command ≡ planned_where_room known room entries) → IsPlan plan heap known command
+module _ (plan : Plan) (heap : ℕ) (known : Known Record) where
+  plans : (command : Command) (room : Bool) (entries : List Entry) → ((doing : Doing) → next (command_rules plan heap) doing known command ≡ planned_where_room known room entries) → IsPlan plan heap known command
   plans command true entries is = record { later = record known { queue = record { sent = known.queue.sent; entries = entries } }; answer = answers.Done; is = is; sent = refl }
   plans command false entries is = record { later = known; answer = answers.PlanFull; is = is; sent = refl }
 
@@ -47,10 +49,10 @@ module _ (plan : Plan) (heap : ℕ) (known : Known) where
   is-planned (commands.Lag k ticks) is = plans (commands.Lag k ticks) _ _ (λ doing. refl)
   is-planned command is = absurd (cc is)
 
-  abbrev pub tested_by : Doing → Command → Came
-  tested_by doing command = tested plan heap doing known (order_of plan known.kept command) (fault_of plan known.kept command)
+  abbrev pub tested_by : Doing → Command → Came Record Act
+  tested_by doing command = tested (command_rules plan heap) doing known (order_job plan known.kept (order_of plan known.kept command)) (fault_of plan known.kept command)
 
-  pub is-tested : (doing : Doing) (command : Command) → is_plan command ≡ false → next plan heap doing known command ≡ tested_by doing command
+  pub is-tested : (doing : Doing) (command : Command) → is_plan command ≡ false → next (command_rules plan heap) doing known command ≡ tested_by doing command
   is-tested doing (commands.Refuse k e) is = absurd (cc is)
   is-tested doing (commands.Drop k) is = absurd (cc is)
   is-tested doing (commands.Lose k) is = absurd (cc is)
@@ -59,14 +61,14 @@ module _ (plan : Plan) (heap : ℕ) (known : Known) where
 
   -- ---- numbers
 
-  abbrev Within : ℕ → Came → Type 0
+  abbrev Within : ℕ → Came Record Act → Type 0
   Within most c = (known.queue.sent ≤ c.known.queue.sent) × (c.known.queue.sent ≤ known.queue.sent + most)
 
-  tested-within : (doing : Doing) (o : Order) (fault : Option HostFault) → known.queue.sent + length (due o fault) < 2 ^ 64 - 1 → Within (length (due o fault)) (tested plan heap doing known o fault)
+  tested-within : (doing : Doing) (o : Order) (fault : Option HostFault) → known.queue.sent + length (due o fault) < 2 ^ 64 - 1 → Within (length (due o fault)) (tested (command_rules plan heap) doing known (order_job plan known.kept o) fault)
   tested-within doing o (Some fault) few = (omega arith, omega arith)
-  tested-within doing o None few = (walk-up plan heap (goes_on_after_refusal o.manner) doing o.acts known.kept known.queue few, walk-few plan heap (goes_on_after_refusal o.manner) doing o.acts known.kept known.queue)
+  tested-within doing o None few = (walk-up (act_rules plan heap) (goes_on_after_refusal o.manner) doing o.acts known.kept known.queue few, walk-few (act_rules plan heap) (goes_on_after_refusal o.manner) doing o.acts known.kept known.queue)
 
-  pub next-within : (doing : Doing) (command : Command) → known.queue.sent + length (acts_due plan known.kept command) < 2 ^ 64 - 1 → Within (length (acts_due plan known.kept command)) (next plan heap doing known command)
+  pub next-within : (doing : Doing) (command : Command) → known.queue.sent + length (acts_due plan known.kept command) < 2 ^ 64 - 1 → Within (length (acts_due plan known.kept command)) (next (command_rules plan heap) doing known command)
   next-within doing command few =
       let most = length (acts_due plan known.kept command) in
       elim (cases_Bool (is_plan command)) [
@@ -81,24 +83,24 @@ module _ (plan : Plan) (heap : ℕ) (known : Known) where
     abbrev SameTo : ℕ → Type 0
     SameTo last = (number : ℕ) → known.queue.sent < number → number ≤ last → d number ≡ e number
 
-    carried-same : (o : Order) → known.queue.sent + length o.acts < 2 ^ 64 - 1 → SameTo (carried plan heap d known o).known.queue.sent → carried plan heap d known o ≡ carried plan heap e known o
+    carried-same : (o : Order) → known.queue.sent + length o.acts < 2 ^ 64 - 1 → SameTo (carried (command_rules plan heap) d known (order_job plan known.kept o)).known.queue.sent → carried (command_rules plan heap) d known (order_job plan known.kept o) ≡ carried (command_rules plan heap) e known (order_job plan known.kept o)
     carried-same o few same =
-        ap (λ (w : Walked Queue).
+        ap (λ (w : Walked Record Act Queue).
         let end = end_by o.manner plan o.done known.kept w.kept w.outcome in
-        let c : Came = record { known = record { kept = end.0; queue = w.queue }; answer = answer_by o.answer w.outcome; moments = o.first ++ (w.moments ++ end.1); sent = w.sent } in
+        let c : Came Record Act = record { known = record { kept = end.0; queue = w.queue }; answer = answer_by o.answer w.outcome; moments = o.first ++ (w.moments ++ end.1); sent = w.sent } in
         c)
-        (same-walk plan heap (goes_on_after_refusal o.manner) d e o.acts known.kept known.queue few same)
+        (same-walk (act_rules plan heap) (goes_on_after_refusal o.manner) d e o.acts known.kept known.queue few same)
 
-    tested-same : (o : Order) (fault : Option HostFault) → known.queue.sent + length (due o fault) < 2 ^ 64 - 1 → SameTo (tested plan heap d known o fault).known.queue.sent → tested plan heap d known o fault ≡ tested plan heap e known o fault
+    tested-same : (o : Order) (fault : Option HostFault) → known.queue.sent + length (due o fault) < 2 ^ 64 - 1 → SameTo (tested (command_rules plan heap) d known (order_job plan known.kept o) fault).known.queue.sent → tested (command_rules plan heap) d known (order_job plan known.kept o) fault ≡ tested (command_rules plan heap) e known (order_job plan known.kept o) fault
     tested-same o (Some fault) few same = refl
     tested-same o None few same = carried-same o few same
 
-    pub next-same : (command : Command) → known.queue.sent + length (acts_due plan known.kept command) < 2 ^ 64 - 1 → SameTo (next plan heap d known command).known.queue.sent → next plan heap d known command ≡ next plan heap e known command
+    pub next-same : (command : Command) → known.queue.sent + length (acts_due plan known.kept command) < 2 ^ 64 - 1 → SameTo (next (command_rules plan heap) d known command).known.queue.sent → next (command_rules plan heap) d known command ≡ next (command_rules plan heap) e known command
     next-same command few same =
         elim (cases_Bool (is_plan command)) [
           | inl is ↦ let p = is-planned command is in p.is d ∙ sym (p.is e)
           | inr is ↦
               is-tested d command is
-              ∙ tested-same (order_of plan known.kept command) (fault_of plan known.kept command) few (subst (λ (c : Came). SameTo c.known.queue.sent) (is-tested d command is) same)
+              ∙ tested-same (order_of plan known.kept command) (fault_of plan known.kept command) few (subst (λ (c : Came Record Act). SameTo c.known.queue.sent) (is-tested d command is) same)
               ∙ sym (is-tested e command is)
         ]

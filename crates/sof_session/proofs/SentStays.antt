@@ -12,19 +12,20 @@ use Rattle.host_widgets.specs.declared.kept.Power.{Power}
 use Rattle.host_widgets.specs.declared.kept.Power.TheVariants.{Unloaded, On, Off}
 use Rattle.host_widgets.specs.declared.kept.Record.{Record}
 use Rattle.host_widgets.specs.HostActs.{Act}
+use Rattle.host_widgets.specs.OneAct.{act_rules}
 use Rattle.host_widgets.specs.ActCalls.{calls_of}
 use Rattle.host_widgets.specs.Host.{Outcome, Agrees}
 use Rattle.host_widgets.specs.Orders.{Order, Carried, sends}
 use Rattle.host_widgets.specs.TestedOrders.{Tested}
-use Rattle.sof_session.specs.Agreement.{AreAgreed, Powered}
+use Rattle.sof_session.specs.Agreement.{Powered}
 use Rattle.sof_session.specs.Seat.{Seat}
-use Rattle.sof_session.proofs.Agreement.{at}
+use Rattle.sof_session.proofs.Agreement.{at, AgreeAtLoad}
 use Rattle.sof_session.proofs.ActsLed.{acts-io, acts-ends}
 use Rattle.sof_session.proofs.OrderStands.{sending, last, plain-cuts}
 use Rattle.sof_session.proofs.SentOrders.{IsSent}
 use Rattle.sof_session.proofs.Writings.{bound_ends}
 
-module _ {P : Type 0} (means : Meaning P) (old : Seat P) (wire : Wire P) (io io' : Io) (agreed : AreAgreed means old) (kept : Record) (agree : Agrees (link means) old.plan kept wire) (result : Outcome) where
+module _ {P : Type 0} (means : Meaning P) (old : Seat P) (wire : Wire P) (io io' : Io) (agreed : AgreeAtLoad means old) (kept : Record) (agree : Agrees (link means) old.plan kept wire) (result : Outcome) where
   abbrev w : World (Wire P)
   w = at old.link io
 
@@ -52,7 +53,7 @@ module _ {P : Type 0} (means : Meaning P) (old : Seat P) (wire : Wire P) (io io'
     by-power none Off off c = ap (λ (x : World (Wire P)). x.io) (c.ends.1 ∙ c.walked.1 ∙ c.first)
     by-power none On powered c =
         last-io c
-        ∙ acts-io (link means) old.plan old.heap false acts c.meetings old.kept c.begun c.sent c.walked
+        ∙ acts-io (link means) (act_rules old.plan old.heap) false acts c.meetings old.kept c.begun c.sent c.walked
         (ap (λ (x : World (Wire P)). (link means).pending x.device) c.first ∙ none) powered.0 (ap (λ (x : World (Wire P)). means.on x.device.device) c.first ∙ powered.1)
         ∙ ap (λ (x : World (Wire P)). x.io) c.first
 
@@ -61,7 +62,7 @@ module _ {P : Type 0} (means : Meaning P) (old : Seat P) (wire : Wire P) (io io'
     ends-by Off off c = ap (λ (x : World (Wire P)). bound_ends x.io) (c.ends.1 ∙ c.walked.1 ∙ c.first)
     ends-by On powered c =
         ap bound_ends (last-io c)
-        ∙ acts-ends (link means) old.plan old.heap false acts c.meetings old.kept c.begun c.sent c.walked powered.0 (ap (λ (x : World (Wire P)). means.on x.device.device) c.first ∙ powered.1)
+        ∙ acts-ends (link means) (act_rules old.plan old.heap) false acts c.meetings old.kept c.begun c.sent c.walked powered.0 (ap (λ (x : World (Wire P)). means.on x.device.device) c.first ∙ powered.1)
         ∙ ap (λ (x : World (Wire P)). bound_ends x.io) c.first
 
   -- by a test, and such an order where none fails

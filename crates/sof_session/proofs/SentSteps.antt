@@ -13,18 +13,20 @@ use Rattle.host_widgets.specs.declared.kept.Power.{Power}
 use Rattle.host_widgets.specs.declared.kept.Power.TheVariants.{Unloaded, On, Off}
 use Rattle.host_widgets.specs.declared.kept.Record.{Record}
 use Rattle.host_widgets.specs.HostActs.{Act}
+use Rattle.host_widgets.specs.OneAct.{act_rules}
 use Rattle.host_widgets.specs.Host.{Outcome}
 use Rattle.host_widgets.specs.Orders.{Order, Carried, sends}
 use Rattle.host_widgets.proofs.StandingOn.{StandsOn}
 use Rattle.host_widgets.proofs.WalksHold.{AreTaken}
+use Rattle.host_widgets.specs.Routines.{order_job}
 use Rattle.sof_script.specs.declared.script.Command.{Command}
-use Rattle.sof_session.specs.Agreement.{AreAgreed, Powered}
+use Rattle.sof_session.specs.Agreement.{Powered}
 use Rattle.sof_session.specs.CommandTests.{fault_of}
-use Rattle.sof_session.specs.Commands.{Known, answer_by, carried, is_plan, next, order_of, tested}
+use Rattle.sof_session.specs.Commands.{Known, answer_by, carried, is_plan, next, order_of, tested, command_rules}
 use Rattle.sof_session.specs.Seat.{Seat}
 use Rattle.sof_session.specs.SessionCalls.{CallRan}
 use Rattle.sof_session.specs.SessionStep.{CommandDone, known_of}
-use Rattle.sof_session.proofs.Agreement.{at}
+use Rattle.sof_session.proofs.Agreement.{at, AgreeAtLoad}
 use Rattle.sof_session.proofs.Carrying.{doing}
 use Rattle.sof_session.proofs.FewMeetings.{few-meetings}
 use Rattle.sof_session.proofs.OrderStands.{sending, sent-leads}
@@ -33,7 +35,7 @@ use Rattle.sof_session.proofs.SameNext.{is-tested}
 use Rattle.sof_session.proofs.SentOrders.{IsSent, IsSentCall}
 use Rattle.sof_session.proofs.Stepping.{Standing, early-stepped, late-stepped, standing-by, stays-standing}
 
-module _ {P : Type 0} (means : Meaning P) (old new : Seat P) (io io' : Io) (agreed : AreAgreed means old) (few : old.link.sent < 2 ^ 63) (empty : drained io.outputs ≡ io.outputs) where
+module _ {P : Type 0} (means : Meaning P) (old new : Seat P) (io io' : Io) (agreed : AgreeAtLoad means old) (few : old.link.sent < 2 ^ 63) (empty : drained io.outputs ≡ io.outputs) where
   abbrev w : World (Wire P)
   w = at old.link io
 
@@ -47,14 +49,14 @@ module _ {P : Type 0} (means : Meaning P) (old new : Seat P) (io io' : Io) (agre
     -- few messages were sent, and what stood stands where the written moments lead
     abbrev Good : Order → Type 0
     Good o = (c : CarriedSo o) → AreTaken old.plan false old.kept o.acts → (fewer : old.link.sent + length c.meetings < 2 ^ 64 - 1)
-        × Standing means w v (carried old.plan old.heap (doing means old.heap old.plan o old.kept new.kept w v outcome c agreed.pending agreed.fated fewer) (known_of old.link old.kept) o).moments
+        × Standing means w v (carried (command_rules old.plan old.heap) (doing means old.heap old.plan o old.kept new.kept w v outcome c agreed.pending agreed.fated fewer) (known_of old.link old.kept) (order_job old.plan (known_of old.link old.kept).kept o)).moments
 
     module _ (acts : List Act) (done : Record → Record) (answer : Answer) (short : length acts ≤ 900) where
       -- nothing was sent
       rests : (o : Order) → o ≡ sending [] done answer → Good o
       rests o is = subst Good (sym is) (λ c taken.
           let still : v ≡ w = c.ends.1 ∙ c.walked.1 ∙ c.first in (
-            omega (arith, few, few-meetings (link means) old.plan old.heap false [] c.meetings old.kept c.begun c.sent c.walked),
+            omega (arith, few, few-meetings (link means) (act_rules old.plan old.heap) false [] c.meetings old.kept c.begun c.sent c.walked),
             stays-standing means w v (ap (λ (x : World (Wire P)). means.on x.device.device) still) (ap (λ (x : World (Wire P)). x.io) still) empty,
           ))
 
@@ -62,7 +64,7 @@ module _ {P : Type 0} (means : Meaning P) (old new : Seat P) (io io' : Io) (agre
       good Unloaded powered c taken = rests (sends Unloaded acts done answer) refl c taken
       good Off powered c taken = rests (sends Off acts done answer) refl c taken
       good On powered c taken =
-          let fewer : old.link.sent + length c.meetings < 2 ^ 64 - 1 = omega (arith, few, short, few-meetings (link means) old.plan old.heap false acts c.meetings old.kept c.begun c.sent c.walked) in
+          let fewer : old.link.sent + length c.meetings < 2 ^ 64 - 1 = omega (arith, few, short, few-meetings (link means) (act_rules old.plan old.heap) false acts c.meetings old.kept c.begun c.sent c.walked) in
           let written = after_order.written means old.heap old.plan (sending acts done answer) old.kept new.kept w v outcome c agreed.pending agreed.fated fewer in (
             fewer,
             standing-by means w v written
@@ -82,13 +84,13 @@ module _ {P : Type 0} (means : Meaning P) (old new : Seat P) (io io' : Io) (agre
     abbrev order : Order
     order = order_of old.plan old.kept command
 
-    nexts : (doing : Doing) (known : Known) → next old.plan old.heap doing known command ≡ tested old.plan old.heap doing known (order_of old.plan known.kept command) (fault_of old.plan known.kept command)
+    nexts : (doing : Doing) (known : Known Record) → next (command_rules old.plan old.heap) doing known command ≡ tested (command_rules old.plan old.heap) doing known (order_job old.plan known.kept (order_of old.plan known.kept command)) (fault_of old.plan known.kept command)
     nexts doing known = is-tested old.plan old.heap known doing command plans
 
-    pub sent_stepped : IsSentCall old.plan old.kept test order → (answer : Answer) → CallRan means test order old new io io' answer → CommandDone means old.plan old.heap command old.kept new.kept w v answer
+    pub sent_stepped : IsSentCall old.plan old.kept test order → (answer : Answer) → CallRan means test order old new io io' answer → CommandDone means (command_rules old.plan old.heap) old.heap command old.kept new.kept w v answer
     sent_stepped call answer ran = by test refl
       where
-        by : (t : Option HostFault) → test ≡ t → CommandDone means old.plan old.heap command old.kept new.kept w v answer
+        by : (t : Option HostFault) → test ≡ t → CommandDone means (command_rules old.plan old.heap) old.heap command old.kept new.kept w v answer
         by (Some fault) is =
             let e = ran.tested.early fault is in
             early-stepped means old.plan old.heap command old.kept new.kept w v answer nexts plans fault is (ran.said ∙ ap (answer_by order.answer) e.0) e.1 e.2 empty

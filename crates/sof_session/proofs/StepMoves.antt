@@ -13,10 +13,13 @@ use Rattle.host_widgets.specs.declared.answers.HostFault.{HostFault}
 use Rattle.host_widgets.specs.declared.kept.Record.{Record}
 use Rattle.host_widgets.specs.ActCalls.{ActsDid, Onwards, calls_of, next_of}
 use Rattle.host_widgets.specs.Host.{Outcome}
+use Rattle.host_widgets.specs.ActRules.{ActRules}
 use Rattle.host_widgets.specs.HostActs.{Act}
-use Rattle.host_widgets.specs.OneAct.{one_act}
+use Rattle.host_widgets.specs.OneAct.{act_rules, one_act}
 use Rattle.host_widgets.specs.Orders.{Order, Carried, end_by, goes_on_after_refusal}
 use Rattle.host_widgets.specs.Walk.{walk, goes_past}
+use Rattle.host_widgets.specs.Routines.{order_job}
+use Rattle.host_widgets.proofs.OrderJobs.{job-carried}
 use Rattle.sof_script.specs.declared.script.Command.{Command}
 use Rattle.sof_session.specs.Agreement.{AreAgreed}
 use Rattle.sof_session.specs.Commands.{order_of, is_plan}
@@ -61,14 +64,14 @@ module _ {D : Type 0} (means : Meaning D) where
   -- ---- acts
 
   -- no tick was made but those that are not pending any more
-  record HasSent (w v : World D) : Type 0 where
-    pending : means.pending v.device ≤ means.pending w.device
-    moves : MovesBy (61440 * (means.pending w.device - means.pending v.device)) w.io.inputs v.io.inputs
+  pub record HasSent (w v : World D) : Type 0 where
+    pub pending : means.pending v.device ≤ means.pending w.device
+    pub moves : MovesBy (61440 * (means.pending w.device - means.pending v.device)) w.io.inputs v.io.inputs
 
   sent-none : (w v : World D) → v ≡ w → HasSent w v
   sent-none w v same = subst (HasSent w) (sym same) (record { pending = omega arith; moves = λ slot. omega arith })
 
-  sent-then : (w m v : World D) → HasSent w m → HasSent m v → HasSent w v
+  pub sent-then : (w m v : World D) → HasSent w m → HasSent m v → HasSent w v
   sent-then w m v first then = record {
     pending = omega (arith, first.pending, then.pending);
     moves = λ slot.
@@ -76,15 +79,15 @@ module _ {D : Type 0} (means : Meaning D) where
         omega (arith, first.pending, then.pending, now, then.moves slot));
   }
 
-  acts-sent : (plan : Plan) (heap : ℕ) (goes_on : Bool) (kept : Record) (acts : List Act) (ms : List Meeting) (w v : World D) → ActsDid means plan heap goes_on kept acts ms w v → HasSent w v
-  acts-sent plan heap goes_on kept [] ms w v did = sent-none w v did.1
-  acts-sent plan heap goes_on kept (act ∷ acts) [] w v did = absurd did
-  acts-sent plan heap goes_on kept (act ∷ acts) (m ∷ ms) w v did =
+  pub acts-sent : {S A : Type 0} (rules : ActRules S A) (goes_on : Bool) (kept : S) (acts : List A) (ms : List Meeting) (w v : World D) → ActsDid means rules goes_on kept acts ms w v → HasSent w v
+  acts-sent rules goes_on kept [] ms w v did = sent-none w v did.1
+  acts-sent rules goes_on kept (act ∷ acts) [] w v did = absurd did
+  acts-sent {S} {A} rules goes_on kept (act ∷ acts) (m ∷ ms) w v did =
       sent-then w did.0 v (record { pending = did.1.exchanged.steady.pending; moves = did.1.exchanged.moves })
-      (by (goes_past goes_on (one_act plan heap kept act m).outcome) did.2 (λ rest. acts-sent plan heap goes_on (one_act plan heap kept act m).kept acts ms did.0 v rest))
+      (by (goes_past goes_on (one_act rules kept act m).outcome) did.2 (λ rest. acts-sent rules goes_on (one_act rules kept act m).kept acts ms did.0 v rest))
     where
-      by : (b : Bool) → Onwards b ms did.0 v (ActsDid means plan heap goes_on (one_act plan heap kept act m).kept acts ms did.0 v) →
-          (ActsDid means plan heap goes_on (one_act plan heap kept act m).kept acts ms did.0 v → HasSent did.0 v) → HasSent did.0 v
+      by : (b : Bool) → Onwards b ms did.0 v (ActsDid means rules goes_on (one_act rules kept act m).kept acts ms did.0 v) →
+          (ActsDid means rules goes_on (one_act rules kept act m).kept acts ms did.0 v → HasSent did.0 v) → HasSent did.0 v
       by true rest on = on rest
       by false over on = sent-none did.0 v over.1
 
@@ -94,11 +97,11 @@ module _ {D : Type 0} (means : Meaning D) where
   order-moves : (plan : Plan) (heap : ℕ) (o : Order) (kept kept' : Record) (w v : World D) (result : Outcome) → Carried means plan heap o kept kept' w v result → means.pending w.device ≤ 16 →
       (ticks_in o.first ≡ 0) ⊎ ((ticks_in o.first ≤ 1) × (o.acts ≡ [])) → MovesBy 983040 w.io.inputs v.io.inputs
   order-moves plan heap o kept kept' w v result c few paced slot =
-      let met = walk plan heap (goes_on_after_refusal o.manner) next_of kept c.meetings o.acts in
+      let met = walk (act_rules plan heap) (goes_on_after_refusal o.manner) next_of kept c.meetings o.acts in
       let first = moments-ticked heap o.first w c.begun c.first in
       let last = moments-ticked heap (end_by o.manner plan o.done kept met.kept met.outcome).1 c.sent v c.ends.1 in
       let none = (end-paced o.manner plan o.done kept met.kept met.outcome).1 in
-      let sent = acts-sent plan heap (goes_on_after_refusal o.manner) kept o.acts c.meetings c.begun c.sent c.walked in
+      let sent = acts-sent (act_rules plan heap) (goes_on_after_refusal o.manner) kept o.acts c.meetings c.begun c.sent c.walked in
       let begun : position_of c.begun.io.inputs slot ≤ position_of w.io.inputs slot + 61440 * ticks_in o.first = first.moves slot in
       let over : position_of v.io.inputs slot ≤ position_of c.sent.io.inputs slot = let at = last.moves slot in omega (arith, at, none) in
       ⊎_elim
@@ -106,7 +109,7 @@ module _ {D : Type 0} (means : Meaning D) where
       (let walked : position_of c.sent.io.inputs slot ≤ position_of c.begun.io.inputs slot + 61440 * (means.pending c.begun.device - means.pending c.sent.device) = sent.moves slot in
       omega (arith, few, zero, first.pending, sent.pending, begun, walked, over)))
       (λ (one : (ticks_in o.first ≤ 1) × (o.acts ≡ [])).
-      (let still : c.sent ≡ c.begun = (subst (λ (acts : List Act). ActsDid means plan heap (goes_on_after_refusal o.manner) kept acts c.meetings c.begun c.sent) one.1 c.walked).1 in
+      (let still : c.sent ≡ c.begun = (subst (λ (acts : List Act). ActsDid means (act_rules plan heap) (goes_on_after_refusal o.manner) kept acts c.meetings c.begun c.sent) one.1 c.walked).1 in
       let stays : position_of c.sent.io.inputs slot ≡ position_of c.begun.io.inputs slot = ap (λ (x : World D). position_of x.io.inputs slot) still in
       omega (arith, one.0, begun, stays, over)))
       paced
@@ -121,10 +124,11 @@ module _ {P : Type 0} (means : Meaning P) (old new : Seat P) (io io' : Io) (agre
       still same = subst (λ (x : Io). MovesBy 983040 io.inputs x.inputs) (sym same) (λ slot. omega arith)
 
       by : (plans : Bool) (fault : Option HostFault) → fault_of old.plan old.kept command ≡ fault →
-          CallsBy means old.plan old.heap stepped.doing (order_of old.plan old.kept command) old.kept new.kept (at old.link io) (at new.link io') answer plans fault → MovesBy 983040 io.inputs io'.inputs
+          CallsBy means (act_rules old.plan old.heap) old.heap stepped.doing (order_job old.plan old.kept (order_of old.plan old.kept command)) new.kept (at old.link io) (at new.link io') answer plans fault → MovesBy 983040 io.inputs io'.inputs
       by true fault is calls = still calls.1
       by false (Some fault) is calls = still (ap (λ (w : World (Wire P)). w.io) calls)
       by false None is calls =
           let few = few-record old.plan old.kept agreed.agree.record_is in
-          order-moves (link means) old.plan old.heap (order_of old.plan old.kept command) old.kept new.kept (at old.link io) (at new.link io') calls.0 calls.1
+          order-moves (link means) old.plan old.heap (order_of old.plan old.kept command) old.kept new.kept (at old.link io) (at new.link io') calls.0
+          (job-carried (link means) old.plan old.heap (order_of old.plan old.kept command) old.kept new.kept (at old.link io) (at new.link io') calls.0 calls.1)
           (omega (arith, agreed.fated.held.few, agreed.pending)) (order-paced old.plan old.kept few command is).ticks

@@ -1,9 +1,9 @@
 -- A tick by its call on the link. After it the two sides agree again and the endpoints have the same slots,
 -- and the same inputs have ended.
-use Rattle.std.proofs.Common.{◌≡◌, ◌⊎◌, ⊎_elim, List, [], ◌∷◌, Some, refl, ap, ◌∙◌}
+use Rattle.std.proofs.Common.{◌≡◌, ◌⊎◌, ⊎_elim, ℕ, zero, suc, List, [], ◌∷◌, Option, Some, None, refl, sym, ap, subst, ◌∙◌, arith}
 use Rattle.std.specs.Option.{option_map}
 use Rattle.sof_base.specs.Ports.{Io}
-use Rattle.stream_law.specs.State.{view_of}
+use Rattle.stream_law.specs.State.{FwState, View, view_of}
 use Rattle.stream_law.specs.Move.{audio_after}
 use Rattle.mbox_link.specs.Exchange.{ticked}
 use Rattle.mbox_link.specs.Calls.{Meaning, Call, Tick, Did, Led}
@@ -12,11 +12,17 @@ use Rattle.mbox_link.specs.Wire.{Wire}
 use Rattle.mbox_link.proofs.Led.{Led-one}
 use Rattle.host_widgets.specs.declared.kept.Power.{Power}
 use Rattle.host_widgets.specs.declared.kept.Power.TheVariants.{Unloaded, On, Off}
-use Rattle.host_widgets.specs.Host.{Sides}
-use Rattle.sof_session.specs.Agreement.{AreAgreed, Powered}
+use Rattle.host_widgets.specs.Host.{Sides, SidesBy}
+use Rattle.host_dynamic.specs.There.{There}
+use Rattle.host_dynamic.specs.Up.{up_view}
+use Rattle.host_dynamic.specs.UpDevices.{there_on}
+use Rattle.host_dynamic.specs.UpStates.{IsUpState}
+use Rattle.host_dynamic.proofs.UpExchanges.{ticks-there}
+use Rattle.sof_session.specs.Agreement.{AreAgreed, Powered, expected_in}
 use Rattle.sof_session.specs.Seat.{Seat}
-use Rattle.sof_session.proofs.Agreement.{at, seat_with, kept-by, agreed-with}
+use Rattle.sof_session.proofs.Agreement.{at, AgreeAtLoad, at-load, from-load, calls-kept, seat_with, kept-by, agreed-with}
 use Rattle.sof_session.proofs.Keeping.{Keeps-moved}
+use Rattle.sof_session.proofs.UpAgreement.{AgreeOnUse, on-use, from-use}
 use Rattle.sof_session.proofs.Writings.{bound_ends, one-ends}
 
 -- a tick of a device that is on, by its one call on the link; one that is off is not called
@@ -38,7 +44,7 @@ Ticked-led means Off old new io io' same = ([], λ i. at (same.0 i) (same.1 i))
 
 -- ---- both sides
 
-module _ {P : Type 0} (means : Meaning P) (old : Seat P) (wire : Wire P) (io io' : Io) (agreed : AreAgreed means old) where
+module _ {P : Type 0} (means : Meaning P) (old : Seat P) (wire : Wire P) (io io' : Io) (agreed : AgreeAtLoad means old) where
   abbrev new : Seat P
   new = seat_with means old wire io io' agreed old.kept
 
@@ -60,19 +66,77 @@ module _ {P : Type 0} (means : Meaning P) (old : Seat P) (wire : Wire P) (io io'
   both-ticked Off powered sides same =
       let device = ap (λ (w : Wire P). means.on w.device) same.0 in record { sides = (sides.0, device ∙ sides.1); powered = device ∙ powered }
 
-  pub AreAgreed-ticked : TickedBy means old.kept.power old.link wire io io' → AreAgreed means new
-  AreAgreed-ticked tick =
+  AgreeAtLoad-ticked : TickedBy means old.kept.power old.link wire io io' → AgreeAtLoad means new
+  AgreeAtLoad-ticked tick =
       let led = Ticked-led means old.kept.power old.link wire io io' tick in
       let both = both-ticked old.kept.power agreed.powered agreed.agree.sides tick in
       agreed-with means old wire io io' agreed (kept-by means old wire io io' agreed led.0 led.1) old.kept (record { record_is = agreed.agree.record_is; sides = both.sides }) both.powered
 
+-- where pipelines are made on use
+module _ {P : Type 0} (means : Meaning P) (old : Seat P) (wire : Wire P) (io io' : Io) (up : List ℕ) (agreed : AgreeOnUse means old up) where
+  abbrev later : Seat P
+  later = record { link = wire; kept = old.kept; plan = old.plan; heap = old.heap; up = old.up }
+
+  abbrev shown : View
+  shown = up_view old.plan old.kept up
+
+  record BothOnUse (power : Power) : Type 0 where
+    sides : SidesBy means old.plan shown old.kept wire.device power
+    there : there_on (means.on wire.device) ≡ there_on (means.on old.link.device)
+
+  on-ticked : (o : Option FwState) → means.on old.link.device ≡ o → option_map view_of o ≡ Some shown → TickedBy means On old.link wire io io' → BothOnUse On
+  on-ticked None is sides tick = absurd (cc sides)
+  on-ticked (Some f) is sides tick =
+      let on = tick.on f is in
+      record {
+        sides = ap (option_map view_of) on.0 ∙ sides;
+        there = ap there_on on.0 ∙ ticks-there (suc zero) (f, io) ∙ sym (ap there_on is);
+      }
+
+  both-on-use : (power : Power) → SidesBy means old.plan shown old.kept old.link.device power → TickedBy means power old.link wire io io' → BothOnUse power
+  both-on-use On sides tick = on-ticked (means.on old.link.device) refl sides tick
+  both-on-use Unloaded sides same =
+      let device = ap (λ (w : Wire P). means.on w.device) same.0 in record { sides = (sides.0, device ∙ sides.1); there = ap there_on device }
+  both-on-use Off sides same =
+      let device = ap (λ (w : Wire P). means.on w.device) same.0 in record { sides = (sides.0, device ∙ sides.1); there = ap there_on device }
+
+  pub AgreeOnUse-ticked : TickedBy means old.kept.power old.link wire io io' → AgreeOnUse means later up
+  AgreeOnUse-ticked tick =
+      let led = Ticked-led means old.kept.power old.link wire io io' tick in
+      let calls = calls-kept means old.link wire io io' agreed.fated led.0 led.1 in
+      let both = both-on-use old.kept.power agreed.agree.sides tick in
+      record {
+        agree = record { record_is = agreed.agree.record_is; sides = both.sides };
+        state = subst (λ (t : There). IsUpState old.plan (record { kept = old.kept; up = up; there = t })) (sym both.there) agreed.state;
+        room = omega (arith, agreed.room, calls.steady.most);
+        pending = omega (arith, agreed.pending, calls.inside.pending);
+        fated = calls.fated;
+        sound = agreed.sound;
+      }
+
+-- in either mode
+module _ {P : Type 0} (means : Meaning P) (old : Seat P) (wire : Wire P) (io io' : Io) (agreed : AreAgreed means old) (tick : TickedBy means old.kept.power old.link wire io io') where
+  abbrev pub ticked_seat : Seat P
+  ticked_seat = record { link = wire; kept = old.kept; plan = old.plan; heap = old.heap; up = old.up }
+
+  pub AreAgreed-ticked : AreAgreed means ticked_seat
+  AreAgreed-ticked = by old.up refl
+    where
+      by : (up : Option (List ℕ)) → old.up ≡ up → AreAgreed means ticked_seat
+      by None at = from-load means ticked_seat at (AgreeAtLoad-ticked means old wire io io' (at-load means old at agreed) tick)
+      by (Some up) at = from-use means ticked_seat up at (AgreeOnUse-ticked means old wire io io' up (on-use means old up at agreed) tick)
+
 -- ---- the endpoints
 
 module _ {P : Type 0} (means : Meaning P) (old : Seat P) (wire : Wire P) (io io' : Io) where
-  ends-stay : (power : Power) → Powered means old power → TickedBy means power old.link wire io io' → bound_ends io' ≡ bound_ends io
-  ends-stay On powered tick = ap bound_ends (tick.on powered.0 powered.1).1 ∙ one-ends powered.0 io
-  ends-stay Unloaded powered same = ap bound_ends same.1
-  ends-stay Off powered same = ap bound_ends same.1
+  on-stays : (v : View) (o : Option FwState) → means.on old.link.device ≡ o → option_map view_of o ≡ Some v → TickedBy means On old.link wire io io' → bound_ends io' ≡ bound_ends io
+  on-stays v None is sides tick = absurd (cc sides)
+  on-stays v (Some f) is sides tick = ap bound_ends (tick.on f is).1 ∙ one-ends f io
+
+  ends-stay : (v : View) (power : Power) → SidesBy means old.plan v old.kept old.link.device power → TickedBy means power old.link wire io io' → bound_ends io' ≡ bound_ends io
+  ends-stay v On sides tick = on-stays v (means.on old.link.device) refl sides tick
+  ends-stay v Unloaded sides same = ap bound_ends same.1
+  ends-stay v Off sides same = ap bound_ends same.1
 
   pub ticked-ends : AreAgreed means old → TickedBy means old.kept.power old.link wire io io' → bound_ends io' ≡ bound_ends io
-  ticked-ends agreed tick = ends-stay old.kept.power agreed.powered tick
+  ticked-ends agreed tick = ends-stay (expected_in old.up old.plan old.kept) old.kept.power agreed.agree.sides tick

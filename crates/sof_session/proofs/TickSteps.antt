@@ -19,11 +19,13 @@ use Rattle.host_widgets.specs.ViewOf.{record_view}
 use Rattle.host_widgets.specs.Orders.{Order, Plain, Carried, where_on}
 use Rattle.host_widgets.proofs.SoundPlays.{sound-plays}
 use Rattle.host_widgets.proofs.StandingOn.{StandsOn, one-tick}
+use Rattle.host_widgets.proofs.OrderJobs.{order-done}
 use Rattle.sof_script.specs.declared.script.Command.TheVariants as commands
-use Rattle.sof_session.specs.Agreement.{AreAgreed, Powered}
+use Rattle.sof_session.specs.Commands.{command_rules}
+use Rattle.sof_session.specs.Agreement.{Powered}
 use Rattle.sof_session.specs.Seat.{Seat}
 use Rattle.sof_session.specs.SessionStep.{CommandDone, DidAsMet}
-use Rattle.sof_session.proofs.Agreement.{at}
+use Rattle.sof_session.proofs.Agreement.{at, AgreeAtLoad}
 use Rattle.sof_session.proofs.Carrying.{quietly}
 use Rattle.sof_session.proofs.TickAgreement.{TickedBy}
 use Rattle.sof_session.proofs.Stepping.{Standing, standing-by, stays-standing}
@@ -76,13 +78,13 @@ module _ {P : Type 0} (means : Meaning P) (old new : Seat P) (io io' : Io) (empt
   none-met kept Unloaded same = tt
   none-met kept Off same = tt
 
-  pub tick_stepped : AreAgreed means old → new.kept ≡ old.kept → TickedBy means old.kept.power old.link new.link io io' → (number : ℕ) →
-      CommandDone means old.plan old.heap (commands.Tick number) old.kept new.kept w v Done
+  pub tick_stepped : AgreeAtLoad means old → new.kept ≡ old.kept → TickedBy means old.kept.power old.link new.link io io' → (number : ℕ) →
+      CommandDone means (command_rules old.plan old.heap) old.heap (commands.Tick number) old.kept new.kept w v Done
   tick_stepped agreed kept calls number = record {
     doing = calm;
     none = λ stayed number. refl;
     known_is = λ i. record { kept = kept i; queue = queued old.kept.power calls i };
     answer_is = refl;
-    calls = (Ok tt, carries kept old.kept.power calls, refl, none-met kept old.kept.power calls);
+    calls = (Ok tt, order-done (link means) old.plan old.heap (ticking_at old.kept.power) old.kept new.kept w v (Ok tt) (carries kept old.kept.power calls), refl, none-met kept old.kept.power calls);
     stands = subst (Standing means w v) (sym (append-nil (where_on old.kept.power (Tick ∷ [])))) (stands agreed.sound old.kept.power calls agreed.powered);
   }

@@ -13,21 +13,21 @@ use Rattle.host_widgets.specs.declared.answers.Answer.TheVariants.{Done}
 use Rattle.host_widgets.specs.declared.answers.HostFault.{HostFault}
 use Rattle.host_widgets.specs.declared.kept.Power.{Power}
 use Rattle.host_widgets.specs.declared.kept.Power.TheVariants.{Unloaded, On, Off}
+use Rattle.host_widgets.specs.OneAct.{act_rules}
 use Rattle.host_widgets.specs.Host.{Outcome}
 use Rattle.host_widgets.specs.Orders.{Carried, unload_fault, unloading}
 use Rattle.host_widgets.proofs.LoadOrders.{unloading_at}
 use Rattle.host_widgets.proofs.StandingOn.{StandsOn, stands-none, reads-of, cut-stands}
 use Rattle.sof_script.specs.declared.script.Command.TheVariants as commands
-use Rattle.sof_session.specs.Agreement.{AreAgreed}
 use Rattle.sof_session.specs.Seat.{Seat}
 use Rattle.sof_session.specs.SessionStep.{CommandDone}
 use Rattle.sof_session.specs.SessionCalls.{CallRan}
-use Rattle.sof_session.specs.Commands.{answer_by}
-use Rattle.sof_session.proofs.Agreement.{at}
+use Rattle.sof_session.specs.Commands.{answer_by, command_rules}
+use Rattle.sof_session.proofs.Agreement.{at, AgreeAtLoad}
 use Rattle.sof_session.proofs.FewMeetings.{few-meetings}
 use Rattle.sof_session.proofs.Stepping.{Standing, early-stepped, late-stepped, standing-by, stays-standing}
 
-module _ {P : Type 0} (means : Meaning P) (old new : Seat P) (io io' : Io) (agreed : AreAgreed means old) (few : old.link.sent < 2 ^ 63) (empty : drained io.outputs ≡ io.outputs) where
+module _ {P : Type 0} (means : Meaning P) (old new : Seat P) (io io' : Io) (agreed : AgreeAtLoad means old) (few : old.link.sent < 2 ^ 63) (empty : drained io.outputs ≡ io.outputs) where
   abbrev w : World (Wire P)
   w = at old.link io
 
@@ -54,15 +54,15 @@ module _ {P : Type 0} (means : Meaning P) (old new : Seat P) (io io' : Io) (agre
   stands Unloaded outcome c = let still : v ≡ w = c.ends.1 ∙ c.walked.1 ∙ c.first in stays-standing means w v (ap (λ (x : World (Wire P)). means.on x.device.device) still) (ap (λ (x : World (Wire P)). x.io) still) empty
   stands Off outcome c = let still : v ≡ w = c.ends.1 ∙ c.walked.1 ∙ c.first in stays-standing means w v (ap (λ (x : World (Wire P)). means.on x.device.device) still) (ap (λ (x : World (Wire P)). x.io) still) empty
 
-  pub unload_stepped : (answer : Answer) → CallRan means (unload_fault old.kept.power) (unloading old.plan old.kept) old new io io' answer → CommandDone means old.plan old.heap commands.Unload old.kept new.kept w v answer
+  pub unload_stepped : (answer : Answer) → CallRan means (unload_fault old.kept.power) (unloading old.plan old.kept) old new io io' answer → CommandDone means (command_rules old.plan old.heap) old.heap commands.Unload old.kept new.kept w v answer
   unload_stepped answer ran = by (unload_fault old.kept.power) refl
     where
-      by : (test : Option HostFault) → unload_fault old.kept.power ≡ test → CommandDone means old.plan old.heap commands.Unload old.kept new.kept w v answer
+      by : (test : Option HostFault) → unload_fault old.kept.power ≡ test → CommandDone means (command_rules old.plan old.heap) old.heap commands.Unload old.kept new.kept w v answer
       by (Some fault) is =
           let e = ran.tested.early fault is in
           early-stepped means old.plan old.heap commands.Unload old.kept new.kept w v answer (λ doing known. refl) refl fault is (ran.said ∙ ap (answer_by Done) e.0) e.1 e.2 empty
       by None is =
           let c = ran.tested.late is in
-          let fewer : old.link.sent + length c.meetings < 2 ^ 64 - 1 = omega (arith, few, few-meetings (link means) old.plan old.heap false [] c.meetings old.kept c.begun c.sent c.walked) in
+          let fewer : old.link.sent + length c.meetings < 2 ^ 64 - 1 = omega (arith, few, few-meetings (link means) (act_rules old.plan old.heap) false [] c.meetings old.kept c.begun c.sent c.walked) in
           late-stepped means old.plan old.heap commands.Unload old.kept new.kept w v answer (λ doing known. refl) refl is ran.outcome c agreed.pending agreed.fated fewer
           ran.said (subst (Standing means w v) (sym (append-nil (moments_at old.kept.power))) (stands old.kept.power ran.outcome c))

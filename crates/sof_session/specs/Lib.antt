@@ -4,6 +4,7 @@ pub mod ShownLines
 pub mod Seat
 pub mod CommandTests
 pub mod CommandRanges
+pub mod CommandRules
 pub mod AskedOrders
 pub mod Commands
 pub mod Written
@@ -15,3 +16,8 @@ pub mod NewInputs
 pub mod Lives
 pub mod RunOver
 pub mod RunLaws
+pub mod UpCommands
+pub mod UpLaws
+pub mod UpRows
+pub mod FaultRows
+pub mod Modes

@@ -1,5 +1,5 @@
 -- A device before a session and in it, and the turns of a program over it.
-use Rattle.std.specs.Prelude.{◌≡◌, ℕ, List, [], ◌∷◌, Option}
+use Rattle.std.specs.Prelude.{◌≡◌, ℕ, Bool, List, [], ◌∷◌, Option}
 use Rattle.std.specs.List.{flat_map}
 use Rattle.sof_base.specs.Ports.{InputView, OutputView}
 use Rattle.mbox_link.specs.Calls.{Meaning, Call, Did, world}
@@ -7,9 +7,8 @@ use Rattle.tplg_plan.specs.declared.plans.Plan.{Plan}
 use Rattle.sof_script.specs.declared.script.Command.{Command}
 use Rattle.sof_session.specs.Agreement.{AreAgreed}
 use Rattle.sof_session.specs.Fills.{FilledBy, next_read, input_ends}
-use Rattle.sof_session.specs.Seat.{Seat, new_seat}
-use Rattle.sof_session.specs.SessionStep.{CommandDone}
-use Rattle.sof_session.specs.Show.{shown_by}
+use Rattle.sof_session.specs.Seat.{Seat, seat_in}
+use Rattle.sof_session.specs.Modes.{SteppedBy, shown_in}
 use Rattle.sof_session.specs.Written.{Out, empty_outputs, written_in}
 
 -- a device before a session, and in it with the inputs and the slots of the outputs
@@ -29,10 +28,10 @@ inputs_of (Seated seat inputs slots) = inputs
 
 -- ---- turns
 
--- A session is begun, its inputs are filled by reads, each a slot with the bytes that came, after which that slot would be read next
+-- A session is begun, in one of its modes, its inputs are filled by reads, each a slot with the bytes that came, after which that slot would be read next
 -- if any, or it carries out a command. Or a device outside a session is given a call.
 pub data Task : Type 0 where
-  Begin : (plan : Plan) (heap : ℕ) (inputs : List InputView) (slots : List ℕ) → Task
+  Begin : (on_use : Bool) (plan : Plan) (heap : ℕ) (inputs : List InputView) (slots : List ℕ) → Task
   Fill : (reads : List (ℕ × List ℕ)) (next : Option ℕ) → Task
   Carry : (command : Command) → Task
   Give : (call : Call) → Task
@@ -45,8 +44,8 @@ pub record Turn : Type 0 where
 -- a session carries out a command: its step, from outputs to which nothing was written, over the same plan, heap and inputs
 pub record Carries {P : Type 0} (means : Meaning P) (command : Command) (out : Out) (old new : Seat P) (inputs inputs' : List InputView) (slots : List ℕ) : Type 0 where
   pub outputs : List OutputView
-  pub stepped : CommandDone means old.plan old.heap command old.kept new.kept (world old.link inputs (empty_outputs slots)) (world new.link inputs' outputs) out.answer
-  pub shown : out.shown ≡ shown_by command old.plan old.kept
+  pub stepped : SteppedBy means command old new (world old.link inputs (empty_outputs slots)) (world new.link inputs' outputs) out.answer
+  pub shown : out.shown ≡ shown_in command old.up old.plan old.kept
   pub written : out.written ≡ written_in outputs
   pub ends : input_ends inputs' ≡ input_ends inputs
   pub plan_is : new.plan ≡ old.plan
@@ -56,7 +55,7 @@ pub record Carries {P : Type 0} (means : Meaning P) (command : Command) (out : O
 -- a turn: a session is begun over a bare device, has its inputs filled and stays as it is, or carries out a command; or a bare device
 -- does a call, with endpoints that have no slots
 abbrev pub Turned : {P : Type 0} → Meaning P → Task → Out → Life P → Life P → Type 0
-Turned means (Begin plan heap inputs slots) out (Bare dsp) new = new ≡ Seated (new_seat plan heap dsp) inputs slots
+Turned means (Begin on_use plan heap inputs slots) out (Bare dsp) new = new ≡ Seated (seat_in on_use plan heap dsp) inputs slots
 Turned means (Fill reads next) out (Seated seat inputs slots) (Seated seat' inputs' slots') =
     (seat' ≡ seat) × (slots' ≡ slots) × FilledBy reads inputs inputs' × (next_read inputs' ≡ next)
 Turned means (Carry command) out (Seated seat inputs slots) (Seated seat' inputs' slots') =

@@ -1,5 +1,5 @@
 -- What the calls of a session do, each by its own test and calls on the link, and what each leaves as it was.
-use Rattle.std.specs.Prelude.{◌≡◌, ℕ, List, Option, Result, Ok, Err}
+use Rattle.std.specs.Prelude.{◌≡◌, ℕ, List, Option, is_some, Result, Ok, Err}
 use Rattle.sof_base.specs.Ports.{Io, InputView, OutputView}
 use Rattle.sof_io.specs.Bound.{output_slots}
 use Rattle.mbox_link.specs.Calls.{Meaning}
@@ -15,11 +15,15 @@ use Rattle.host_widgets.specs.Bringing.{BroughtUp}
 use Rattle.host_widgets.specs.Kept.{first_record}
 use Rattle.host_widgets.specs.Orders.{Order, fault_of_load, loading, resuming}
 use Rattle.host_widgets.specs.TestedOrders.{Tested}
+use Rattle.host_widgets.specs.Routines.{Job, JobTested}
+use Rattle.host_dynamic.specs.DynamicActs.{DynamicAct}
+use Rattle.host_dynamic.specs.Dynamic.{UpState, up_act_rules}
 use Rattle.host_pm.specs.PowerTests.{resume_fault}
 use Rattle.host_pm.specs.Resumed.{ResumeLeft}
 use Rattle.sof_session.specs.Agreement.{AreAgreed}
 use Rattle.sof_session.specs.Commands.{answer_by}
 use Rattle.sof_session.specs.Fills.{input_ends}
+use Rattle.sof_session.specs.Modes.{up_state_of}
 use Rattle.sof_session.specs.Seat.{Seat}
 
 -- the endpoints' bytes
@@ -33,6 +37,7 @@ pub record Stays {P : Type 0} (means : Meaning P) (old new : Seat P) (before aft
   pub later : AreAgreed means new
   pub plan : new.plan ≡ old.plan
   pub heap : new.heap ≡ old.heap
+  pub mode : is_some new.up ≡ is_some old.up
   pub slots : output_slots after.outputs ≡ output_slots before.outputs
   pub ends : input_ends after.inputs ≡ input_ends before.inputs
   pub still : (link means).pending old.link ≡ 0 → after ≡ before
@@ -42,6 +47,13 @@ pub record CallRan {P : Type 0} (means : Meaning P) (test : Option HostFault) (o
   pub outcome : Outcome
   pub tested : Tested (link means) old.plan old.heap test o old.kept new.kept (record { device = old.link; io = before }) (record { device = new.link; io = after }) outcome
   pub said : answer ≡ answer_by o.answer outcome
+  pub up : new.up ≡ old.up
+
+-- what a call did that makes pipelines on use, by its test and its job, and its job's answer
+pub record JobRan {P : Type 0} (means : Meaning P) (test : Option HostFault) (job : Job UpState DynamicAct) (old new : Seat P) (before after : Io) (answer : Answer) : Type 0 where
+  pub outcome : Outcome
+  pub tested : JobTested (link means) (up_act_rules old.plan) old.heap test job (up_state_of means old) (up_state_of means new) (record { device = old.link; io = before }) (record { device = new.link; io = after }) outcome
+  pub said : answer ≡ answer_by job.answer outcome
 
 -- what a load did, and how it left the device; the endpoints are as they were
 pub record LoadRan {P : Type 0} (means : Meaning P) (old new : Seat P) (before after : Io) (answer : Answer) : Type 0 where
@@ -70,6 +82,7 @@ pub record PlanRan {P : Type 0} (k : ℕ) (fate : Fate) (old new : Seat P) (answ
   pub outcome : Result (Unit {0}) PlanFull
   pub planned : Planned k fate old.link outcome new.link
   pub kept : new.kept ≡ old.kept
+  pub up : new.up ≡ old.up
   pub said : answer ≡ plan_answer outcome
 
 -- what planning ticks before a message did: the link alone changes, with no call on its device
@@ -77,4 +90,5 @@ pub record LagRan {P : Type 0} (k ticks : ℕ) (old new : Seat P) (answer : Answ
   pub outcome : Result (Unit {0}) PlanFull
   pub planned : LagPlanned k ticks old.link outcome new.link
   pub kept : new.kept ≡ old.kept
+  pub up : new.up ≡ old.up
   pub said : answer ≡ plan_answer outcome

@@ -10,8 +10,10 @@ use Rattle.mbox_link.specs.Meetings.{Doing}
 use Rattle.tplg_plan.specs.declared.plans.Plan.{Plan}
 use Rattle.host_widgets.specs.declared.answers.Answer.{Answer}
 use Rattle.sof_script.specs.declared.script.Command.{Command}
-use Rattle.sof_session.specs.Show.{shown_by}
-use Rattle.sof_session.specs.Commands.{Known, Came, first_known, next}
+use Rattle.host_widgets.specs.declared.kept.Record.{Record}
+use Rattle.host_widgets.specs.HostActs.{Act}
+use Rattle.sof_session.specs.CommandRules.{CommandRules}
+use Rattle.sof_session.specs.Commands.{Known, Came, first_known, next, command_rules}
 
 -- ---- what comes out
 
@@ -50,69 +52,78 @@ written_between (slot ∷ slots) old new = with_bytes slot (bytes_between old ne
 
 -- ---- where a run is
 
--- what a run is over: the plan, the heap, the whole bytes of each input, and the slots of the outputs by ascending number
+-- what a run is written by: the rules of its commands, the whole bytes of each input, and the slots of the outputs by ascending number
+pub record Basis (S A : Type 0) : Type 0 where
+  pub rules : CommandRules S A
+  pub whole : List (ℕ × List ℕ)
+  pub slots : List ℕ
+
+-- what a run is over where all pipelines are made: the plan, the heap, and the same
 pub record Ground : Type 0 where
   pub plan : Plan
   pub heap : ℕ
   pub whole : List (ℕ × List ℕ)
   pub slots : List ℕ
 
+abbrev pub basis_of : Ground → Basis Record Act
+basis_of g = record { rules = command_rules g.plan g.heap; whole = g.whole; slots = g.slots }
+
 -- where a run is: what is known, and all that the moments so far left
-pub record At : Type 0 where
-  pub known : Known
+pub record At (S : Type 0) : Type 0 where
+  pub known : Known S
   pub past : Past
 
 -- before the first command
-abbrev pub first_at : Ground → At
-first_at g = record { known = first_known g.plan; past = start }
+abbrev pub first_at : {S A : Type 0} → Basis S A → At S
+first_at b = record { known = first_known b.rules; past = start }
 
 -- ---- one command
 
 -- what a command comes to where the run is
-abbrev pub came_at : Ground → Doing → Command → At → Came
-came_at g doing command at = next g.plan g.heap doing at.known command
+abbrev pub came_at : {S A : Type 0} → Basis S A → Doing → Command → At S → Came S A
+came_at b doing command at = next b.rules doing at.known command
 
 -- The run goes on by a command: what is known is the written next, and its moments lead on by the equations.
-pub record Goes (g : Ground) (doing : Doing) (command : Command) (old new : At) : Type 0 where
-  pub known : new.known ≡ (came_at g doing command old).known
-  pub led : Leads g.whole old.past (came_at g doing command old).moments new.past
+pub record Goes {S A : Type 0} (b : Basis S A) (doing : Doing) (command : Command) (old new : At S) : Type 0 where
+  pub known : new.known ≡ (came_at b doing command old).known
+  pub led : Leads b.whole old.past (came_at b doing command old).moments new.past
 
 -- what a command answers, shows and writes
-abbrev pub out_of : Ground → Doing → Command → At → At → Out
-out_of g doing command old new = record {
-  answer = (came_at g doing command old).answer;
-  shown = shown_by command g.plan old.known.kept;
-  written = written_between g.slots old.past new.past;
+abbrev pub out_of : {S A : Type 0} → Basis S A → Doing → Command → At S → At S → Out
+out_of b doing command old new = record {
+  answer = (came_at b doing command old).answer;
+  shown = b.rules.shown old.known.kept command;
+  written = written_between b.slots old.past new.past;
 }
 
 -- ---- commands, one after another
 
 -- a leg of a run: a command, what it answered, showed and wrote, its moments, and where the run is after it
-pub record Leg : Type 0 where
+pub record Leg (S : Type 0) : Type 0 where
   pub command : Command
   pub out : Out
   pub moments : List Moment
-  pub at : At
+  pub at : At S
 
-pub record IsLeg (g : Ground) (doing : Doing) (command : Command) (old : At) (leg : Leg) : Type 0 where
+pub record IsLeg {S A : Type 0} (b : Basis S A) (doing : Doing) (command : Command) (old : At S) (leg : Leg S) : Type 0 where
   pub command_is : leg.command ≡ command
-  pub goes : Goes g doing command old leg.at
-  pub out_is : leg.out ≡ out_of g doing command old leg.at
-  pub moments_are : leg.moments ≡ (came_at g doing command old).moments
+  pub goes : Goes b doing command old leg.at
+  pub out_is : leg.out ≡ out_of b doing command old leg.at
+  pub moments_are : leg.moments ≡ (came_at b doing command old).moments
 
 -- the run of these commands
-abbrev pub IsRun : Ground → Doing → List Command → At → List Leg → Type 0
-IsRun g doing [] old legs = legs ≡ []
-IsRun g doing (command ∷ commands) old [] = ⊥
-IsRun g doing (command ∷ commands) old (leg ∷ legs) = IsLeg g doing command old leg × IsRun g doing commands leg.at legs
+abbrev pub IsRun : {S A : Type 0} → Basis S A → Doing → List Command → At S → List (Leg S) → Type 0
+IsRun b doing [] old legs = legs ≡ []
+IsRun b doing (command ∷ commands) old [] = ⊥
+IsRun b doing (command ∷ commands) old (leg ∷ legs) = IsLeg b doing command old leg × IsRun b doing commands leg.at legs
 
 -- where it is at its end
-abbrev pub end_of : At → List Leg → At
-end_of at legs = fold (λ (at : At) (leg : Leg). leg.at) at legs
+abbrev pub end_of : {S : Type 0} → At S → List (Leg S) → At S
+end_of {S} at legs = fold (λ (at : At S) (leg : Leg S). leg.at) at legs
 
 -- all its moments
-abbrev pub moments_of : List Leg → List Moment
-moments_of legs = flat_map (λ (leg : Leg). leg.moments) legs
+abbrev pub moments_of : {S : Type 0} → List (Leg S) → List Moment
+moments_of {S} legs = flat_map (λ (leg : Leg S). leg.moments) legs
 
 -- how often it boots
 abbrev pub boots_in : List Moment → ℕ

@@ -1,10 +1,39 @@
 // What the definitions of a run entail. Nothing runs here.
+ghost use Rattle.sof_session.specs.FaultRows.{RefusedUnmakingCuts, LostUnmakingIsDown, RefusedCloseCuts, DroppedMakingIsDown};
 ghost use Rattle.sof_session.specs.RunLaws as law;
+ghost use Rattle.sof_session.specs.UpLaws.{UpIsShown, FirstIsShown, RunShowsUp};
+ghost use Rattle.sof_session.specs.UpRows.{SecondStreamIsRefused, SharedPipelineStays, RefusedShowsUp, SharedShowsUp};
 
 /// The run of a sound plan is one: the same commands, doings of the device and whole inputs lead to the same legs, from the
-/// first place, and from any place whose view has edges without a cycle. Such a place is each that a run from the first comes to.
+/// first place, and from any place whose view has edges without a cycle. Such a place is each that a run from the first comes to. It is
+/// also one, from the first place, where pipelines are made on use.
 pub fn one_run()
     ensures from_first { law.RunIsOne }
+    ensures made_on_use { law.UpRunIsOne }
     ensures goes_on { law.RunGoesOnAsOne }
     ensures ranks { law.RunKeepsRanks }
+{}
+
+/// Two streams that share a pipeline, over a heap that holds one of them and over one that holds both; after each command the firmware
+/// has the graph of what is up.
+pub fn mix_rows()
+    ensures refused { SecondStreamIsRefused }
+    ensures stays { SharedPipelineStays }
+    ensures refused_shows { RefusedShowsUp }
+    ensures stays_shows { SharedShowsUp }
+{}
+
+/// What a message comes to that is refused, lost or dropped while pipelines of the mix graph are made or unmade.
+pub fn fault_rows()
+    ensures refused { RefusedUnmakingCuts }
+    ensures lost { LostUnmakingIsDown }
+    ensures closed { RefusedCloseCuts }
+    ensures dropped { DroppedMakingIsDown }
+{}
+
+/// A host that makes pipelines on use has in the firmware what is up, before the first command and after each, whatever messages meet.
+pub fn up_shown()
+    ensures first { FirstIsShown }
+    ensures kept { UpIsShown }
+    ensures runs { RunShowsUp }
 {}

@@ -2,11 +2,13 @@
 #![tactic(auto)]
 
 mod answers;
+mod dyn_session;
 mod laws;
 mod session;
 mod show;
 mod words;
 
-pub use laws::one_run;
+pub use dyn_session::DynSession;
+pub use laws::{fault_rows, mix_rows, one_run, up_shown};
 pub use session::Session;
 pub use words::kind_words;

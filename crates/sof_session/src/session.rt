@@ -1,5 +1,5 @@
 // A host with its device behind a link.
-ghost use Rattle.std.specs.Prelude.{◌≡◌, ℕ, ◌+◌, ◌<◌, ◌≤◌, ◌^◌, true, false, length, MatchResult};
+ghost use Rattle.std.specs.Prelude.{◌≡◌, ℕ, ◌+◌, ◌<◌, ◌≤◌, ◌^◌, [], None, true, false, length, is_some, unwrap_or, option_map, MatchResult};
 ghost use Rattle.sof_base.specs.Ports.{Io, HasRoom};
 ghost use Rattle.sof_base.specs.DrainedOutputs.{drained};
 ghost use Rattle.mbox_link.specs.Calls.{MovesBy, world};
@@ -7,29 +7,34 @@ ghost use Rattle.mbox_link.specs.Drained.{Drained};
 ghost use Rattle.mbox_link.specs.Fates.{IsMeant};
 ghost use Rattle.mbox_link.specs.Link.{link};
 ghost use Rattle.tplg_plan.specs.Sound.{IsSound};
-ghost use Rattle.host_widgets.specs.Orders.{unload_fault, unloading, suspending};
-ghost use Rattle.host_pcm.specs.Asks.{early_fault};
+ghost use Rattle.host_widgets.specs.Orders.{fault_of_load, unload_fault, unloading, suspending};
+ghost use Rattle.host_pcm.specs.Asks.{early_fault, asks_for_power};
 ghost use Rattle.host_pcm.specs.StreamOrders.{stream_order};
-ghost use Rattle.host_pm.specs.PowerTests.{suspend_fault};
+ghost use Rattle.host_pm.specs.PowerTests.{suspend_fault, resume_fault};
 ghost use Rattle.host_ctl.specs.ControlAsks.{set_fault, bytes_fault, get_fault, read_fault};
 ghost use Rattle.host_ctl.specs.ControlOrders.{set_order, bytes_order, get_order, read_order};
+ghost use Rattle.host_dynamic.specs.Dynamic.{loading_job, unloading_job, resuming_job, plain_job, is_control_up, read_up_fault};
 ghost use Rattle.sof_io.specs.Bound.{output_slots};
 ghost use Rattle.sof_session.specs.Agreement.{AreAgreed};
 ghost use Rattle.sof_session.specs.CommandRanges.{is_in_range, most_sent};
-ghost use Rattle.sof_session.specs.Commands.{is_tick};
+ghost use Rattle.sof_session.specs.Commands.{is_tick, command_rules};
 ghost use Rattle.sof_session.specs.Fills.{input_ends};
-ghost use Rattle.sof_session.specs.Seat.{new_seat, with_device};
-ghost use Rattle.sof_session.specs.SessionCalls.{Stays, CallRan, LoadRan, ResumeRan, PlanRan, LagRan, ports};
+ghost use Rattle.sof_session.specs.Modes.{SteppedBy, CommandDoneIn, made_on_use, up_state_of, lines_in, most_sent_by};
+ghost use Rattle.sof_session.specs.Seat as seats;
+ghost use Rattle.sof_session.specs.Seat.{new_seat, seat_in, with_device};
+ghost use Rattle.sof_session.specs.SessionCalls.{Stays, CallRan, JobRan, LoadRan, ResumeRan, PlanRan, LagRan, ports};
 ghost use Rattle.sof_session.specs.SessionStep.{CommandDone};
-ghost use Rattle.sof_session.specs.Show.{show_lines};
 ghost use Rattle.sof_session.specs.ShownLines.{IsLineAt};
+ghost use Rattle.sof_session.specs.UpCommands as ups;
+ghost use Rattle.sof_session.specs.UpCommands.{up_job};
 
 use crate::answers::{answer_of, plan_answer, told_answer};
-use crate::show::show_line;
-use host_ctl::{get, read, set, set_bytes};
+use crate::show::{show_line, show_up_line};
+use host_ctl::{get, keep_bytes, keep_values, read, set, set_bytes};
+use host_dynamic::is_control_up;
 use host_pcm::Ask;
 use host_pm::{resume, suspend};
-use host_widgets::{Answer, Power, Record, Trigger, load, unload};
+use host_widgets::{Answer, HostFault, Power, Record, Trigger, load, unload};
 use mbox_link::{Drain, Dsp, Fate, FaultLink, NoRoom};
 use sof_base::{Bounded, Name44, NoMemory};
 use sof_io::{Inputs, Outputs};
@@ -38,14 +43,45 @@ use std::alloc::Global;
 use std::marker::Model;
 use tplg_plan::Plan;
 
-/// A host that keeps its record of a device behind a link. The device is on with the view that the record says, with a heap
-/// as the load left it and a ring for each buffer; or off.
+// What is up at first, where pipelines are made on use.
+fn first_up(on_use: bool) -> Option<Bounded<u32, 32>>
+    ensures { result ≡ seats.first_up on_use }
+{
+    if on_use { Some(Bounded::empty()) } else { None }
+}
+
+// Whether the component of the control of this name is up, where there is one.
+fn is_up(plan: &Plan, up: &Option<Bounded<u32, 32>>, name: &Name44) -> bool
+    requires plan { IsSound plan.now }
+    requires mode { is_some up.now ≡ true }
+    ensures { result ≡ is_control_up plan.now (unwrap_or up.now []) name.now }
+{
+    match up {
+        Some(up) => is_control_up(plan, up.items(), name),
+        None => true,
+    }
+}
+
+// Why a control is not read whose component is not up.
+fn down_fault(power: Power) -> HostFault
+    ensures { result ≡ ups.down_fault power }
+{
+    match power {
+        Power::Unloaded => HostFault::NotLoaded,
+        Power::On | Power::Off => HostFault::Off,
+    }
+}
+
+/// A host that keeps its record of a device behind a link. A session has one of two modes for good. Where all pipelines are made at a
+/// load, the device is on with the view that the record says, with a heap as the load left it and a ring for each buffer; or off. Where
+/// they are made on use, it is on with the part of the plan's graph that the streams need that are not closed; or off.
 #[derive(Drop)]
 pub struct Session<P: Dsp> {
     link: FaultLink<P>,
     kept: Record,
     plan: Plan,
     heap: u32,
+    up: Option<Bounded<u32, 32>>,
 }
 
 impl<P: Dsp> Model for Session<P> {
@@ -55,14 +91,14 @@ impl<P: Dsp> Model for Session<P> {
 
     ghost use Rattle.sof_session.specs.Agreement.{AreAgreed};
 
-    ghost view = { λ s. record { link = s.link; kept = s.kept; plan = s.plan; heap = s.heap } };
+    ghost view = { λ s. record { link = s.link; kept = s.kept; plan = s.plan; heap = s.heap; up = s.up } };
 
-    ghost invariant = { λ s. AreAgreed P.means (record { link = s.link; kept = s.kept; plan = s.plan; heap = s.heap }) };
+    ghost invariant = { λ s. AreAgreed P.means (record { link = s.link; kept = s.kept; plan = s.plan; heap = s.heap; up = s.up }) };
 }
 
 impl<P: Dsp> Session<P> {
-    /// A session over a device that is off, with a heap of so many bytes: nothing is loaded, sent or planned. Where memory
-    /// is wanting, the device is handed back as it was.
+    /// A session over a device that is off, with a heap of so many bytes: nothing is loaded, sent or planned, and all pipelines are made
+    /// at a load. Where memory is wanting, the device is handed back as it was.
     pub fn new(alloc: Global, plan: Plan, heap: u32, dsp: P) -> Result<Session<P>, NoRoom<P>>
         requires off { P.means.on dsp ≡ None }
         requires pending { P.means.pending dsp ≡ 0 }
@@ -72,18 +108,52 @@ impl<P: Dsp> Session<P> {
             (λ session. session ≡ new_seat plan heap dsp)
             (λ refused. refused.dsp ≡ dsp) }
     {
+        Session::begun(alloc, false, plan, heap, dsp)
+    }
+
+    /// As [`Session::new`], of a session that makes pipelines when a stream that needs them is first opened, and unmakes them after the
+    /// last such stream is closed.
+    pub fn on_use(alloc: Global, plan: Plan, heap: u32, dsp: P) -> Result<Session<P>, NoRoom<P>>
+        requires off { P.means.on dsp ≡ None }
+        requires pending { P.means.pending dsp ≡ 0 }
+        requires room { heap ≤ P.means.most dsp }
+        requires plan { IsSound plan }
+        ensures { MatchResult result
+            (λ session. session ≡ seat_in true plan heap dsp)
+            (λ refused. refused.dsp ≡ dsp) }
+    {
+        Session::begun(alloc, true, plan, heap, dsp)
+    }
+
+    /// As [`Session::on_use`] where pipelines are to be made on use, and else as [`Session::new`].
+    pub fn begun(
+        alloc: Global,
+        on_use: bool,
+        plan: Plan,
+        heap: u32,
+        dsp: P,
+    ) -> Result<Session<P>, NoRoom<P>>
+        requires off { P.means.on dsp ≡ None }
+        requires pending { P.means.pending dsp ≡ 0 }
+        requires room { heap ≤ P.means.most dsp }
+        requires plan { IsSound plan }
+        ensures { MatchResult result
+            (λ session. session ≡ seat_in on_use plan heap dsp)
+            (λ refused. refused.dsp ≡ dsp) }
+    {
         match Record::new(alloc, &plan) {
             Ok(kept) => Ok(Session {
                 link: FaultLink::new(dsp),
                 kept,
                 plan,
                 heap,
+                up: first_up(on_use),
             }),
             Err(NoMemory) => Err(NoRoom { dsp }),
         }
     }
 
-    /// The device as it stands: on with the view that the record says, or off.
+    /// The device as it stands: on with the view that the record says, of what is up where pipelines are made on use; or off.
     pub fn into_dsp(self) -> P
         ensures dsp { result ≡ self.link.device }
         ensures agreed { AreAgreed P.means self }
@@ -96,6 +166,16 @@ impl<P: Dsp> Session<P> {
         ensures { result.now ≡ self.now.link.device }
     {
         self.link.dsp()
+    }
+
+    /// The indices of the pipelines that are up, in the order in which they were made; where all are made at a load, none is told.
+    pub fn up(&self) -> Option<&[u32]>
+        ensures { option_map (λ list. list.now) result ≡ self.now.up }
+    {
+        match &self.up {
+            Some(up) => Some(up.items()),
+            None => None,
+        }
     }
 
     /// The plan that it loads.
@@ -114,14 +194,41 @@ impl<P: Dsp> Session<P> {
     /// `Get` tells them by the record, and `Read` by the device; a planned fate is that of the K-th message from now, and a lag is the
     /// ticks that come before that message, in the command that sends it. The answer is `PlanFull` where no more can be planned. It
     /// answers as the host's call does. The outputs are empty before it, and hold what it wrote after it.
+    ///
+    /// Where pipelines are made on use, `Load` boots and sends nothing; `Open` makes what the stream needs and is not up; `Close` unmakes
+    /// what no other stream needs; `Resume` makes what is up; and a control whose component is not up is set in the record alone, and not
+    /// read: `Read` then answers `Off`.
     pub fn step(&mut self, command: &Command, io: &mut Inputs, out: &mut Outputs) -> Answer
         requires numbers { is_in_range command.now ≡ true }
         requires few { self.old.link.sent < 2 ^ 63 }
         requires empty { drained out.old ≡ out.old }
-        ensures stepped { CommandDone P.means self.old.plan self.old.heap command.now self.old.kept self.new.kept (world self.old.link io.old out.old) (world self.new.link io.new out.new) result }
+        ensures stepped { SteppedBy P.means command.now self.old self.new (world self.old.link io.old out.old) (world self.new.link io.new out.new) result }
         ensures agreed { AreAgreed P.means self.new }
         ensures plan { self.new.plan ≡ self.old.plan }
         ensures heap { self.new.heap ≡ self.old.heap }
+        ensures slots { output_slots out.new ≡ output_slots out.old }
+        ensures ends { input_ends io.new ≡ input_ends io.old }
+        ensures moved { MovesBy 983040 io.old io.new }
+        ensures sent { self.new.link.sent ≤ self.old.link.sent + most_sent_by self.old.up command.now }
+        ensures still { is_tick command.now ≡ false → (link P.means).pending self.old.link ≡ 0 → (io.new ≡ io.old) × (out.new ≡ out.old) }
+    {
+        if self.up.is_some() {
+            return self.step_on_use(command, io, out);
+        }
+        self.step_at_load(command, io, out)
+    }
+
+    // Where all pipelines are made at a load.
+    fn step_at_load(&mut self, command: &Command, io: &mut Inputs, out: &mut Outputs) -> Answer
+        requires mode { self.old.up ≡ None }
+        requires numbers { is_in_range command.now ≡ true }
+        requires few { self.old.link.sent < 2 ^ 63 }
+        requires empty { drained out.old ≡ out.old }
+        ensures stepped { CommandDone P.means (command_rules self.old.plan self.old.heap) self.old.heap command.now self.old.kept self.new.kept (world self.old.link io.old out.old) (world self.new.link io.new out.new) result }
+        ensures agreed { AreAgreed P.means self.new }
+        ensures plan { self.new.plan ≡ self.old.plan }
+        ensures heap { self.new.heap ≡ self.old.heap }
+        ensures mode { self.new.up ≡ None }
         ensures slots { output_slots out.new ≡ output_slots out.old }
         ensures ends { input_ends io.new ≡ input_ends io.old }
         ensures moved { MovesBy 983040 io.old io.new }
@@ -156,11 +263,65 @@ impl<P: Dsp> Session<P> {
         }
     }
 
+    // Where they are made on use.
+    fn step_on_use(&mut self, command: &Command, io: &mut Inputs, out: &mut Outputs) -> Answer
+        requires mode { is_some self.old.up ≡ true }
+        requires numbers { is_in_range command.now ≡ true }
+        requires few { self.old.link.sent < 2 ^ 63 }
+        requires empty { drained out.old ≡ out.old }
+        ensures stepped { CommandDoneIn P.means (made_on_use P.means) command.now self.old self.new (world self.old.link io.old out.old) (world self.new.link io.new out.new) result }
+        ensures agreed { AreAgreed P.means self.new }
+        ensures plan { self.new.plan ≡ self.old.plan }
+        ensures heap { self.new.heap ≡ self.old.heap }
+        ensures slots { output_slots out.new ≡ output_slots out.old }
+        ensures ends { input_ends io.new ≡ input_ends io.old }
+        ensures moved { MovesBy 983040 io.old io.new }
+        ensures sent { self.new.link.sent ≤ self.old.link.sent + most_sent_by self.old.up command.now }
+        ensures still { is_tick command.now ≡ false → (link P.means).pending self.old.link ≡ 0 → (io.new ≡ io.old) × (out.new ≡ out.old) }
+    {
+        match command {
+            Command::Load => self.load_on_use(io, out),
+            Command::Unload => self.unload_on_use(io, out),
+            Command::Resume => self.resume_on_use(io, out),
+            Command::Open(name) => self.open_on_use(name, io, out),
+            Command::Close(name) => self.close_on_use(name, io, out),
+            Command::Set(name, values) => self.set_on_use(name, values, io, out),
+            Command::Bytes(name, blob) => self.set_bytes_on_use(name, blob, io, out),
+            Command::Read(name) => self.read_on_use(name, io, out),
+            Command::Suspend => self.suspend_on_use(io, out),
+            Command::Get(name) => self.get_on_use(name, io, out),
+            Command::Params(name, params) => self.ask_on_use(
+                name,
+                Ask::Preparing(*params),
+                io,
+                out,
+            ),
+            Command::Start(name) => self.ask_on_use(name, Ask::Triggering(Trigger::Start), io, out),
+            Command::Stop(name) => self.ask_on_use(name, Ask::Triggering(Trigger::Stop), io, out),
+            Command::Pause(name) => self.ask_on_use(name, Ask::Triggering(Trigger::Pause), io, out),
+            Command::Release(name) => self.ask_on_use(
+                name,
+                Ask::Triggering(Trigger::Release),
+                io,
+                out,
+            ),
+            Command::Refuse(ahead, error) => self.plan_fate(*ahead, Fate::Refuse(*error)),
+            Command::Drop(ahead) => self.plan_fate(*ahead, Fate::Drop),
+            Command::Lose(ahead) => self.plan_fate(*ahead, Fate::Lose),
+            Command::Lag(ahead, ticks) => self.plan_lag(*ahead, *ticks),
+            Command::Tick(_) => {
+                self.tick(io, out);
+                Answer::Done
+            }
+            Command::Show => self.show(),
+        }
+    }
+
     /// One tick of a device that is on; one that is off is not called. It is what `step` does for `Tick`, whatever its number, without
     /// an answer. The outputs are empty before it, and hold what it wrote after it.
     pub fn tick(&mut self, io: &mut Inputs, out: &mut Outputs)
         requires empty { drained out.old ≡ out.old }
-        ensures stepped { (number : ℕ) → CommandDone P.means self.old.plan self.old.heap (Command.Tick number) self.old.kept self.new.kept (world self.old.link io.old out.old) (world self.new.link io.new out.new) Answer.Done }
+        ensures stepped { (number : ℕ) → SteppedBy P.means (Command.Tick number) self.old self.new (world self.old.link io.old out.old) (world self.new.link io.new out.new) Answer.Done }
         ensures agreed { AreAgreed P.means self.new }
         ensures plan { self.new.plan ≡ self.old.plan }
         ensures heap { self.new.heap ≡ self.old.heap }
@@ -187,7 +348,8 @@ impl<P: Dsp> Session<P> {
 
     // Boots the device and loads the plan, where it is not loaded.
     fn load(&mut self, io: &mut Inputs, out: &mut Outputs) -> Answer
-        requires { HasRoom 983040 out.old }
+        requires mode { self.old.up ≡ None }
+        requires room { HasRoom 983040 out.old }
         ensures ran { LoadRan P.means self.old self.new (ports io.old out.old) (ports io.new out.new) result }
         ensures stays { Stays P.means self.old self.new (ports io.old out.old) (ports io.new out.new) }
     {
@@ -204,6 +366,7 @@ impl<P: Dsp> Session<P> {
 
     // Cuts the device and forgets what was loaded.
     fn unload(&mut self, io: &mut Inputs, out: &mut Outputs) -> Answer
+        requires mode { self.old.up ≡ None }
         ensures ran { CallRan P.means (unload_fault self.old.kept.power) (unloading self.old.plan self.old.kept) self.old self.new (ports io.old out.old) (ports io.new out.new) result }
         ensures stays { Stays P.means self.old self.new (ports io.old out.old) (ports io.new out.new) }
     {
@@ -220,7 +383,8 @@ impl<P: Dsp> Session<P> {
 
     // Stops all that moves, and cuts the device.
     fn suspend(&mut self, io: &mut Inputs, out: &mut Outputs) -> Answer
-        requires { HasRoom 983040 out.old }
+        requires mode { self.old.up ≡ None }
+        requires room { HasRoom 983040 out.old }
         ensures ran { CallRan P.means (suspend_fault self.old.kept.power) (suspending self.old.plan self.old.kept) self.old self.new (ports io.old out.old) (ports io.new out.new) result }
         ensures stays { Stays P.means self.old self.new (ports io.old out.old) (ports io.new out.new) }
     {
@@ -237,7 +401,8 @@ impl<P: Dsp> Session<P> {
 
     // Boots the device and brings it back to what the record says.
     fn resume(&mut self, io: &mut Inputs, out: &mut Outputs) -> Answer
-        requires { HasRoom 983040 out.old }
+        requires mode { self.old.up ≡ None }
+        requires room { HasRoom 983040 out.old }
         ensures ran { ResumeRan P.means self.old self.new (ports io.old out.old) (ports io.new out.new) result }
         ensures stays { Stays P.means self.old self.new (ports io.old out.old) (ports io.new out.new) }
     {
@@ -260,7 +425,8 @@ impl<P: Dsp> Session<P> {
         io: &mut Inputs,
         out: &mut Outputs,
     ) -> Answer
-        requires { HasRoom 983040 out.old }
+        requires mode { self.old.up ≡ None }
+        requires room { HasRoom 983040 out.old }
         ensures ran { CallRan P.means (set_fault self.old.plan self.old.kept name.now values.now) (set_order self.old.plan self.old.kept name.now values.now) self.old self.new (ports io.old out.old) (ports io.new out.new) result }
         ensures stays { Stays P.means self.old self.new (ports io.old out.old) (ports io.new out.new) }
     {
@@ -285,7 +451,8 @@ impl<P: Dsp> Session<P> {
         io: &mut Inputs,
         out: &mut Outputs,
     ) -> Answer
-        requires { HasRoom 983040 out.old }
+        requires mode { self.old.up ≡ None }
+        requires room { HasRoom 983040 out.old }
         ensures ran { CallRan P.means (bytes_fault self.old.plan self.old.kept name.now blob.now) (bytes_order self.old.plan self.old.kept name.now blob.now) self.old self.new (ports io.old out.old) (ports io.new out.new) result }
         ensures stays { Stays P.means self.old self.new (ports io.old out.old) (ports io.new out.new) }
     {
@@ -304,6 +471,7 @@ impl<P: Dsp> Session<P> {
 
     // What the record says of the control of this name.
     fn get(&mut self, name: &Name44, io: &mut Inputs, out: &mut Outputs) -> Answer
+        requires mode { self.old.up ≡ None }
         ensures ran { CallRan P.means (get_fault self.old.plan self.old.kept name.now) (get_order self.old.plan self.old.kept name.now) self.old self.new (ports io.old out.old) (ports io.new out.new) result }
         ensures stays { Stays P.means self.old self.new (ports io.old out.old) (ports io.new out.new) }
     {
@@ -321,7 +489,8 @@ impl<P: Dsp> Session<P> {
 
     // What the firmware says of the control of this name.
     fn read(&mut self, name: &Name44, io: &mut Inputs, out: &mut Outputs) -> Answer
-        requires { HasRoom 983040 out.old }
+        requires mode { self.old.up ≡ None }
+        requires room { HasRoom 983040 out.old }
         ensures ran { CallRan P.means (read_fault self.old.plan self.old.kept name.now) (read_order self.old.plan self.old.kept name.now) self.old self.new (ports io.old out.old) (ports io.new out.new) result }
         ensures stays { Stays P.means self.old self.new (ports io.old out.old) (ports io.new out.new) }
     {
@@ -363,7 +532,8 @@ impl<P: Dsp> Session<P> {
 
     // Makes the host's call for what is asked of the stream of this name.
     fn ask(&mut self, name: &Name44, ask: Ask, io: &mut Inputs, out: &mut Outputs) -> Answer
-        requires { HasRoom 983040 out.old }
+        requires mode { self.old.up ≡ None }
+        requires room { HasRoom 983040 out.old }
         ensures ran { CallRan P.means (early_fault self.old.plan self.old.kept name.now ask) (stream_order self.old.plan self.old.kept name.now ask) self.old self.new (ports io.old out.old) (ports io.new out.new) result }
         ensures stays { Stays P.means self.old self.new (ports io.old out.old) (ports io.new out.new) }
     {
@@ -380,12 +550,264 @@ impl<P: Dsp> Session<P> {
         answer_of(asked)
     }
 
+    // ---- where pipelines are made on use
+
+    // Boots the device, where nothing is loaded.
+    fn load_on_use(&mut self, io: &mut Inputs, out: &mut Outputs) -> Answer
+        requires mode { is_some self.old.up ≡ true }
+        ensures ran { JobRan P.means (fault_of_load self.old.kept.power) (loading_job self.old.heap (up_state_of P.means self.old)) self.old self.new (ports io.old out.old) (ports io.new out.new) result }
+        ensures stays { Stays P.means self.old self.new (ports io.old out.old) (ports io.new out.new) }
+    {
+        let Some(up) = &mut self.up else {
+            return Answer::Done;
+        };
+        let loaded = host_dynamic::load(
+            &self.plan,
+            &mut self.kept,
+            up,
+            self.heap,
+            &mut self.link,
+            io,
+            out,
+        );
+        answer_of(loaded)
+    }
+
+    // Cuts the device and forgets what was loaded.
+    fn unload_on_use(&mut self, io: &mut Inputs, out: &mut Outputs) -> Answer
+        requires mode { is_some self.old.up ≡ true }
+        ensures ran { JobRan P.means (unload_fault self.old.kept.power) (unloading_job self.old.plan (up_state_of P.means self.old)) self.old self.new (ports io.old out.old) (ports io.new out.new) result }
+        ensures stays { Stays P.means self.old self.new (ports io.old out.old) (ports io.new out.new) }
+    {
+        let Some(up) = &mut self.up else {
+            return Answer::Done;
+        };
+        let unloaded = host_dynamic::unload(
+            &self.plan,
+            &mut self.kept,
+            up,
+            self.heap,
+            &mut self.link,
+            io,
+            out,
+        );
+        answer_of(unloaded)
+    }
+
+    // Boots the device and makes what is up.
+    fn resume_on_use(&mut self, io: &mut Inputs, out: &mut Outputs) -> Answer
+        requires mode { is_some self.old.up ≡ true }
+        requires room { HasRoom 983040 out.old }
+        ensures ran { JobRan P.means (resume_fault self.old.kept.power) (resuming_job self.old.plan self.old.heap (up_state_of P.means self.old)) self.old self.new (ports io.old out.old) (ports io.new out.new) result }
+        ensures stays { Stays P.means self.old self.new (ports io.old out.old) (ports io.new out.new) }
+    {
+        let Some(up) = &self.up else {
+            return Answer::Done;
+        };
+        let done = host_dynamic::resume(
+            &self.plan,
+            &mut self.kept,
+            up,
+            self.heap,
+            &mut self.link,
+            io,
+            out,
+        );
+        answer_of(done)
+    }
+
+    // Makes what the stream of this name needs, and opens it.
+    fn open_on_use(&mut self, name: &Name44, io: &mut Inputs, out: &mut Outputs) -> Answer
+        requires mode { is_some self.old.up ≡ true }
+        requires room { HasRoom 983040 out.old }
+        ensures ran { JobRan P.means (early_fault self.old.plan self.old.kept name.now Ask.Opening) (up_job self.old.plan self.old.heap (up_state_of P.means self.old) (Command.Open name.now)) self.old self.new (ports io.old out.old) (ports io.new out.new) result }
+        ensures stays { Stays P.means self.old self.new (ports io.old out.old) (ports io.new out.new) }
+    {
+        let Some(up) = &mut self.up else {
+            return Answer::Done;
+        };
+        let opened = host_dynamic::open(
+            &self.plan,
+            &mut self.kept,
+            up,
+            self.heap,
+            &mut self.link,
+            io,
+            out,
+            name,
+        );
+        answer_of(opened)
+    }
+
+    // Closes the stream of this name, and unmakes what no other needs.
+    fn close_on_use(&mut self, name: &Name44, io: &mut Inputs, out: &mut Outputs) -> Answer
+        requires mode { is_some self.old.up ≡ true }
+        requires room { HasRoom 983040 out.old }
+        ensures ran { JobRan P.means (early_fault self.old.plan self.old.kept name.now Ask.Closing) (up_job self.old.plan self.old.heap (up_state_of P.means self.old) (Command.Close name.now)) self.old self.new (ports io.old out.old) (ports io.new out.new) result }
+        ensures stays { Stays P.means self.old self.new (ports io.old out.old) (ports io.new out.new) }
+    {
+        let Some(up) = &mut self.up else {
+            return Answer::Done;
+        };
+        let closed = host_dynamic::close(
+            &self.plan,
+            &mut self.kept,
+            up,
+            self.heap,
+            &mut self.link,
+            io,
+            out,
+            name,
+        );
+        answer_of(closed)
+    }
+
+    // The control of this name has these values; where its component is not up, the record alone changes.
+    fn set_on_use(
+        &mut self,
+        name: &Name44,
+        values: &Bounded<u32, 8>,
+        io: &mut Inputs,
+        out: &mut Outputs,
+    ) -> Answer
+        requires mode { is_some self.old.up ≡ true }
+        requires room { HasRoom 983040 out.old }
+        ensures ran { JobRan P.means (set_fault self.old.plan self.old.kept name.now values.now) (up_job self.old.plan self.old.heap (up_state_of P.means self.old) (Command.Set name.now values.now)) self.old self.new (ports io.old out.old) (ports io.new out.new) result }
+        ensures stays { Stays P.means self.old self.new (ports io.old out.old) (ports io.new out.new) }
+    {
+        if !is_up(&self.plan, &self.up, name) {
+            return answer_of(keep_values(&self.plan, &mut self.kept, name, values.items()));
+        }
+        let done = set(
+            &self.plan,
+            &mut self.kept,
+            self.heap,
+            &mut self.link,
+            io,
+            out,
+            name,
+            values.items(),
+        );
+        answer_of(done)
+    }
+
+    // The equaliser of this name has this blob; where it is not up, the record alone changes.
+    fn set_bytes_on_use(
+        &mut self,
+        name: &Name44,
+        blob: &Bounded<u8, 1024>,
+        io: &mut Inputs,
+        out: &mut Outputs,
+    ) -> Answer
+        requires mode { is_some self.old.up ≡ true }
+        requires room { HasRoom 983040 out.old }
+        ensures ran { JobRan P.means (bytes_fault self.old.plan self.old.kept name.now blob.now) (up_job self.old.plan self.old.heap (up_state_of P.means self.old) (Command.Bytes name.now blob.now)) self.old self.new (ports io.old out.old) (ports io.new out.new) result }
+        ensures stays { Stays P.means self.old self.new (ports io.old out.old) (ports io.new out.new) }
+    {
+        if !is_up(&self.plan, &self.up, name) {
+            return answer_of(keep_bytes(&self.plan, &mut self.kept, name, blob.items()));
+        }
+        let done = set_bytes(
+            &self.plan,
+            &mut self.kept,
+            self.heap,
+            &mut self.link,
+            io,
+            out,
+            name,
+            blob.items(),
+        );
+        answer_of(done)
+    }
+
+    // What the firmware says of the control of this name, where its component is up.
+    fn read_on_use(&mut self, name: &Name44, io: &mut Inputs, out: &mut Outputs) -> Answer
+        requires mode { is_some self.old.up ≡ true }
+        requires room { HasRoom 983040 out.old }
+        ensures ran { JobRan P.means (read_up_fault self.old.plan (up_state_of P.means self.old) name.now) (up_job self.old.plan self.old.heap (up_state_of P.means self.old) (Command.Read name.now)) self.old self.new (ports io.old out.old) (ports io.new out.new) result }
+        ensures stays { Stays P.means self.old self.new (ports io.old out.old) (ports io.new out.new) }
+    {
+        if !is_up(&self.plan, &self.up, name) {
+            return Answer::Fault(down_fault(self.kept.power));
+        }
+        let told = read(
+            &self.plan,
+            &mut self.kept,
+            self.heap,
+            &mut self.link,
+            io,
+            out,
+            name,
+        );
+        told_answer(told)
+    }
+
+    // What the record says of the control of this name.
+    fn get_on_use(&mut self, name: &Name44, io: &mut Inputs, out: &mut Outputs) -> Answer
+        requires mode { is_some self.old.up ≡ true }
+        ensures ran { JobRan P.means (get_fault self.old.plan self.old.kept name.now) (up_job self.old.plan self.old.heap (up_state_of P.means self.old) (Command.Get name.now)) self.old self.new (ports io.old out.old) (ports io.new out.new) result }
+        ensures stays { Stays P.means self.old self.new (ports io.old out.old) (ports io.new out.new) }
+    {
+        let told = get(
+            &self.plan,
+            &mut self.kept,
+            self.heap,
+            &mut self.link,
+            io,
+            out,
+            name,
+        );
+        told_answer(told)
+    }
+
+    // Stops all that moves, and cuts the device.
+    fn suspend_on_use(&mut self, io: &mut Inputs, out: &mut Outputs) -> Answer
+        requires mode { is_some self.old.up ≡ true }
+        requires room { HasRoom 983040 out.old }
+        ensures ran { JobRan P.means (suspend_fault self.old.kept.power) (up_job self.old.plan self.old.heap (up_state_of P.means self.old) Command.Suspend) self.old self.new (ports io.old out.old) (ports io.new out.new) result }
+        ensures stays { Stays P.means self.old self.new (ports io.old out.old) (ports io.new out.new) }
+    {
+        let suspended = suspend(
+            &self.plan,
+            &mut self.kept,
+            self.heap,
+            &mut self.link,
+            io,
+            out,
+        );
+        answer_of(suspended)
+    }
+
+    // Gives the stream of this name parameters, or starts, stops, pauses or releases it.
+    fn ask_on_use(&mut self, name: &Name44, ask: Ask, io: &mut Inputs, out: &mut Outputs) -> Answer
+        requires mode { is_some self.old.up ≡ true }
+        requires sends { asks_for_power ask ≡ true }
+        requires room { HasRoom 983040 out.old }
+        ensures ran { JobRan P.means (early_fault self.old.plan self.old.kept name.now ask) (plain_job self.old.plan (up_state_of P.means self.old) (stream_order self.old.plan self.old.kept name.now ask)) self.old self.new (ports io.old out.old) (ports io.new out.new) result }
+        ensures stays { Stays P.means self.old self.new (ports io.old out.old) (ports io.new out.new) }
+    {
+        let answered = host_pcm::ask(
+            &self.plan,
+            &mut self.kept,
+            self.heap,
+            &mut self.link,
+            io,
+            out,
+            name,
+            ask,
+        );
+        answer_of(answered)
+    }
+
     /// Writes the k-th of the lines that say how everything stands, from 0, and answers whether there is one.
     pub fn show_line(&self, k: u32, line: &mut Line) -> bool
-        ensures line { IsLineAt (show_lines self.now.plan self.now.kept) k result line.new }
+        ensures line { IsLineAt (lines_in self.now.up self.now.plan self.now.kept) k result line.new }
         ensures short { result ≡ true → length line.new < 2304 }
     {
-        show_line(&self.plan, &self.kept, k, line)
+        match &self.up {
+            None => show_line(&self.plan, &self.kept, k, line),
+            Some(up) => show_up_line(&self.plan, &self.kept, up.items(), k, line),
+        }
     }
 
     /// What should be there.

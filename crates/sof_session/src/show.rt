@@ -1,13 +1,18 @@
 // The lines that say how everything stands.
-ghost use Rattle.std.specs.Prelude.{◌≡◌, ◌==◌, ◌<◌, true, length, find};
+ghost use Rattle.std.specs.Prelude.{◌≡◌, ◌==◌, ◌<◌, true, length, find, filter};
 ghost use Rattle.std.specs.Option.{option_copied};
 ghost use Rattle.stream_law.specs.Ways as ways;
+ghost use Rattle.stream_law.specs.Order.{is_among};
+ghost use Rattle.tplg_plan.specs.Sound.{IsSound};
 ghost use Rattle.host_widgets.specs.Acts.{pipe_by_id};
+ghost use Rattle.host_dynamic.specs.There.{shown_ids};
 ghost use Rattle.sof_session.specs.Show as show;
 ghost use Rattle.sof_session.specs.StateLines as state_lines;
 ghost use Rattle.sof_session.specs.ShownLines as shown_lines;
+ghost use Rattle.sof_session.specs.UpCommands as up_commands;
 
 use crate::words::{kind_words, say_end, say_found, say_params, write_power};
+use host_dynamic::{has, widget_index};
 use host_widgets::{ControlRec, Power, Record, StreamRec};
 use sof_script::{Line, say_bytes, say_values};
 use stream_law::{Comp, Edge, Pipe};
@@ -237,5 +242,86 @@ pub fn show_line(plan: &Plan, kept: &Record, k: u32, line: &mut Line) -> bool
     match kept.power {
         Power::Unloaded => false,
         _ => write_kth_loaded(plan, kept, k - 1, line),
+    }
+}
+
+// ---- what is up
+
+// The k-th of the widgets that are up, by id; or how many there are, where they are fewer.
+fn kth_widget(plan: &Plan, up: &[u32], k: usize) -> Result<u32, usize>
+    requires { IsSound plan.now }
+    ensures { result ≡ shown_lines.kth_in (shown_ids plan.now up.now) k }
+{
+    let mut count = 0;
+    for id in 0..plan.widgets.items().len() {
+        let id = id as u32;
+        if has(up, widget_index(plan, id)) {
+            if count == k {
+                return Ok(id);
+            }
+            count += 1;
+        }
+    }
+    Err(count)
+}
+
+// The same of the edges.
+fn kth_edge(plan: &Plan, up: &[u32], k: usize) -> Result<Edge, usize>
+    ensures { result ≡ shown_lines.kth_in (filter (λ e. is_among up.now e.pipe) plan.now.graph.edges) k }
+{
+    let mut count = 0;
+    for edge in plan.graph.edges.items() {
+        if has(up, edge.pipe) {
+            if count == k {
+                return Ok(*edge);
+            }
+            count += 1;
+        }
+    }
+    Err(count)
+}
+
+// Writes the k-th of the lines of the edges that are up and then of the streams and the controls, and answers whether there is one.
+fn write_kth_up_edge(plan: &Plan, kept: &Record, up: &[u32], k: usize, line: &mut Line) -> bool
+    ensures line { shown_lines.IsLineAt (up_commands.up_edge_lines plan.now kept.now up.now) k result line.new }
+    ensures short { result ≡ true → length line.new < 2304 }
+{
+    match kth_edge(plan, up, k) {
+        Ok(edge) => {
+            write_edge(&edge, line);
+            true
+        }
+        Err(count) => write_kth_state(plan, kept, k - count, line),
+    }
+}
+
+// The same of the lines of the widgets that are up and then of these.
+fn write_kth_up(plan: &Plan, kept: &Record, up: &[u32], k: usize, line: &mut Line) -> bool
+    requires { IsSound plan.now }
+    ensures line { shown_lines.IsLineAt (up_commands.up_lines plan.now kept.now up.now) k result line.new }
+    ensures short { result ≡ true → length line.new < 2304 }
+{
+    match kth_widget(plan, up, k) {
+        Ok(id) => {
+            write_widget(plan, id, line);
+            true
+        }
+        Err(count) => write_kth_up_edge(plan, kept, up, k - count, line),
+    }
+}
+
+/// Writes the k-th of the lines that say how everything stands where these indices are up, from 0, and answers whether there is one.
+pub fn show_up_line(plan: &Plan, kept: &Record, up: &[u32], k: u32, line: &mut Line) -> bool
+    requires { IsSound plan.now }
+    ensures line { shown_lines.IsLineAt (up_commands.up_show_lines plan.now kept.now up.now) k result line.new }
+    ensures short { result ≡ true → length line.new < 2304 }
+{
+    if k == 0 {
+        write_power(kept.power, line);
+        return true;
+    }
+    match kept.power {
+        Power::Unloaded => false,
+        _ => write_kth_up(plan, kept, up, (k - 1) as usize, line),
     }
 }

@@ -5,18 +5,18 @@ use Rattle.sof_session.proofs.session.Session.plan_fate.Goals as goal
 pub returns-clause-ran : goal.returns-clause-ran
 returns-clause-ran g c =
     let done = c.plan-planned in
-    rw (← c.self.view_is) record { outcome = done.result; planned = done.ensures; kept = refl; said = c.plan_answer.ensures }
+    rw (← c.self.view_is) record { outcome = done.result; planned = done.ensures; kept = refl; up = refl; said = c.plan_answer.ensures }
 
 pub returns-clause-stays : goal.returns-clause-stays
 returns-clause-stays g c =
     let inside = c.self.inside in
     let done = c.plan-planned in
     rw (← c.self.view_is)
-    (link-stays g.P.Dsp.means (record { link = inside.link; kept = inside.kept; plan = inside.plan; heap = inside.heap }) c.self.invariant done.new.self
-    (AreAgreed-planned g.P.Dsp.means (record { link = inside.link; kept = inside.kept; plan = inside.plan; heap = inside.heap }) c.self.invariant c.args.k c.args.fate c.requires.meant done.new.self done.result done.ensures))
+    (link-stays g.P.Dsp.means (record { link = inside.link; kept = inside.kept; plan = inside.plan; heap = inside.heap; up = inside.up }) c.self.invariant done.new.self
+    (AreAgreed-planned g.P.Dsp.means (record { link = inside.link; kept = inside.kept; plan = inside.plan; heap = inside.heap; up = inside.up }) c.self.invariant c.args.k c.args.fate c.requires.meant done.new.self done.result done.ensures))
 
 pub invariant_of-self : goal.invariant_of-self
 invariant_of-self g c =
     let inside = c.self.inside in
     let done = c.plan-planned in
-    AreAgreed-planned g.P.Dsp.means (record { link = inside.link; kept = inside.kept; plan = inside.plan; heap = inside.heap }) c.self.invariant c.args.k c.args.fate c.requires.meant done.new.self done.result done.ensures
+    AreAgreed-planned g.P.Dsp.means (record { link = inside.link; kept = inside.kept; plan = inside.plan; heap = inside.heap; up = inside.up }) c.self.invariant c.args.k c.args.fate c.requires.meant done.new.self done.result done.ensures

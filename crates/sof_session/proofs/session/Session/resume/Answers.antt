@@ -1,19 +1,25 @@
+use Rattle.std.proofs.Common.{refl}
 use Rattle.sof_session.specs.SessionCalls.{ports}
-use Rattle.sof_session.proofs.Agreement.{pending-room}
+use Rattle.sof_session.proofs.Agreement.{pending-room, same-up, seat-agrees}
 use Rattle.sof_session.proofs.CallStays.{resume-stays}
 use Rattle.sof_session.proofs.Stepping.{same-ports}
 use Rattle.sof_session.proofs.session.Session.resume.Goals as goal
 
+pub resume-resumed-requires-clause-agree : goal.resume-resumed-requires-clause-agree
+resume-resumed-requires-clause-agree g c =
+    let inside = c.self.inside in
+    seat-agrees g.P.Dsp.means (record { link = inside.link; kept = inside.kept; plan = inside.plan; heap = inside.heap; up = inside.up }) (same-up c.self.view_is c.requires.mode) c.self.invariant
+
 pub resume-resumed-requires-clause-room : goal.resume-resumed-requires-clause-room
 resume-resumed-requires-clause-room g c =
     let inside = c.self.inside in
-    pending-room g.P.Dsp.means (record { link = inside.link; kept = inside.kept; plan = inside.plan; heap = inside.heap }) c.self.invariant c.args.out.now c.requires
+    pending-room g.P.Dsp.means (record { link = inside.link; kept = inside.kept; plan = inside.plan; heap = inside.heap; up = inside.up }) c.self.invariant c.args.out.now c.requires.room
 
 pub returns-clause-ran : goal.returns-clause-ran
 returns-clause-ran g c =
     let done = c.resume-resumed in
     rw (← c.self.view_is) record {
-      call = record { outcome = done.result; tested = done.ensures.carried; said = c.answer_of.ensures };
+      call = record { outcome = done.result; tested = done.ensures.carried; said = c.answer_of.ensures; up = refl };
       left = done.ensures.left;
       same = same-ports c.args.io.now done.new.io c.args.out.now done.new.out done.ensures.inputs done.ensures.outputs;
     }
@@ -23,13 +29,13 @@ returns-clause-stays g c =
     let inside = c.self.inside in
     let done = c.resume-resumed in
     rw (← c.self.view_is)
-    (resume-stays g.P.Dsp.means (record { link = inside.link; kept = inside.kept; plan = inside.plan; heap = inside.heap }) done.new.dsp (ports c.args.io.now c.args.out.now) (ports done.new.io done.new.out) c.self.invariant done.new.kept done.ensures.agree done.result done.ensures.carried done.ensures.left
+    (resume-stays g.P.Dsp.means (record { link = inside.link; kept = inside.kept; plan = inside.plan; heap = inside.heap; up = inside.up }) done.new.dsp (ports c.args.io.now c.args.out.now) (ports done.new.io done.new.out) c.self.invariant (same-up c.self.view_is c.requires.mode) done.new.kept done.ensures.agree done.result done.ensures.carried done.ensures.left
     (same-ports c.args.io.now done.new.io c.args.out.now done.new.out done.ensures.inputs done.ensures.outputs))
 
 pub invariant_of-self : goal.invariant_of-self
 invariant_of-self g c =
     let inside = c.self.inside in
     let done = c.resume-resumed in
-    let stays = resume-stays g.P.Dsp.means (record { link = inside.link; kept = inside.kept; plan = inside.plan; heap = inside.heap }) done.new.dsp (ports c.args.io.now c.args.out.now) (ports done.new.io done.new.out) c.self.invariant done.new.kept done.ensures.agree done.result done.ensures.carried done.ensures.left
+    let stays = resume-stays g.P.Dsp.means (record { link = inside.link; kept = inside.kept; plan = inside.plan; heap = inside.heap; up = inside.up }) done.new.dsp (ports c.args.io.now c.args.out.now) (ports done.new.io done.new.out) c.self.invariant (same-up c.self.view_is c.requires.mode) done.new.kept done.ensures.agree done.result done.ensures.carried done.ensures.left
     (same-ports c.args.io.now done.new.io c.args.out.now done.new.out done.ensures.inputs done.ensures.outputs) in
     stays.later

@@ -1,282 +1,32 @@
-use Rattle.std.proofs.Common.{ℤ, refl, subst, sym, arith}
-use Rattle.mbox_link.specs.declared.fates.Fate.TheVariants.{Refuse, Drop, Lose}
-use Rattle.mbox_link.specs.Fates.{IsError}
-use Rattle.host_widgets.specs.declared.answers.Answer.{Answer}
-use Rattle.host_widgets.specs.declared.answers.Answer.TheVariants.{Done}
-use Rattle.sof_script.specs.declared.script.Command.{Command}
-use Rattle.sof_script.specs.declared.script.Command.TheVariants as commands
-use Rattle.host_widgets.specs.declared.trigger.Trigger.TheVariants as triggers
-use Rattle.host_pcm.specs.declared.asking.Ask.TheVariants.{Opening, Preparing, Triggering, Closing}
-use Rattle.sof_session.specs.SessionCalls.{PlanRan, ports}
-use Rattle.sof_session.proofs.ControlCalls.{set-call, bytes-call, get-call, read-call}
-use Rattle.sof_session.proofs.LoadSteps.{load_stepped}
-use Rattle.sof_session.proofs.PlanAgreement.{is-error}
-use Rattle.sof_session.proofs.PlanSteps.{plan_stepped, lag_stepped, show_stepped}
-use Rattle.sof_session.proofs.PowerSteps.{suspend_stepped}
-use Rattle.sof_session.proofs.ResumeSteps.{resume_stepped}
-use Rattle.sof_session.proofs.SentOrders.{stream-call}
-use Rattle.sof_session.proofs.StepCommands.{in-range-of, ahead-in, refuse-in, lag-in, as-is}
-use Rattle.sof_session.proofs.StepDone.{step-done, sent-done}
-use Rattle.sof_session.proofs.Stepping.{SteppedIn}
-use Rattle.sof_session.proofs.UnloadSteps.{unload_stepped}
-use Rattle.sof_session.proofs.Writings.{all-room}
+use Rattle.std.proofs.Common.{sym, ◌∙◌, arith}
+use Rattle.sof_session.specs.SessionCalls.{ports}
+use Rattle.sof_session.proofs.Agreement.{at, none-up, same-up}
+use Rattle.sof_session.proofs.ModeSteps.{load-step, use-step, load-most}
+use Rattle.sof_session.proofs.UpAgreement.{same-some}
 use Rattle.sof_session.proofs.session.Session.step.Goals as goal
 
-pub load-requires : goal.load-requires
-load-requires g c = all-room c.args.out.now c.requires.empty 983040 (omega arith)
+pub step_on_use-requires-clause-mode : goal.step_on_use-requires-clause-mode
+step_on_use-requires-clause-mode g c = same-some (sym c.self.view_is) (sym c.is_some.ensures ∙ c.if-is_some.true)
 
-pub suspend-requires : goal.suspend-requires
-suspend-requires g c = all-room c.args.out.now c.requires.empty 983040 (omega arith)
-
-pub resume-requires : goal.resume-requires
-resume-requires g c = all-room c.args.out.now c.requires.empty 983040 (omega arith)
-
-pub plan_fate-requires-clause-ahead : goal.plan_fate-requires-clause-ahead
-plan_fate-requires-clause-ahead g c = ahead-in c.in-Refuse.k (refuse-in c.in-Refuse.k c.in-Refuse.error (in-range-of c.args.command.now (commands.Refuse c.in-Refuse.k c.in-Refuse.error) c.in-Refuse.is c.requires.numbers)).0
-
-pub plan_fate-requires-clause-meant : goal.plan_fate-requires-clause-meant
-plan_fate-requires-clause-meant g c =
-    let error = c.in-Refuse.error in
-    let meant = is-error error (refuse-in c.in-Refuse.k error (in-range-of c.args.command.now (commands.Refuse c.in-Refuse.k error) c.in-Refuse.is c.requires.numbers)).1 in
-    subst IsError (sym (as-is error meant)) meant
-
-pub plan_fate-requires-in-Drop-clause-ahead : goal.plan_fate-requires-in-Drop-clause-ahead
-plan_fate-requires-in-Drop-clause-ahead g c = ahead-in c.in-Drop.k (in-range-of c.args.command.now (commands.Drop c.in-Drop.k) c.in-Drop.is c.requires.numbers)
-
-pub plan_fate-requires-in-Lose-clause-ahead : goal.plan_fate-requires-in-Lose-clause-ahead
-plan_fate-requires-in-Lose-clause-ahead g c = ahead-in c.in-Lose.k (in-range-of c.args.command.now (commands.Lose c.in-Lose.k) c.in-Lose.is c.requires.numbers)
-
-pub ask-requires : goal.ask-requires
-ask-requires g c = all-room c.args.out.now c.requires.empty 983040 (omega arith)
-
-pub ask-requires-in-Params : goal.ask-requires-in-Params
-ask-requires-in-Params g c = all-room c.args.out.now c.requires.empty 983040 (omega arith)
-
-pub ask-requires-in-Start : goal.ask-requires-in-Start
-ask-requires-in-Start g c = all-room c.args.out.now c.requires.empty 983040 (omega arith)
-
-pub ask-requires-in-Stop : goal.ask-requires-in-Stop
-ask-requires-in-Stop g c = all-room c.args.out.now c.requires.empty 983040 (omega arith)
-
-pub ask-requires-in-Pause : goal.ask-requires-in-Pause
-ask-requires-in-Pause g c = all-room c.args.out.now c.requires.empty 983040 (omega arith)
-
-pub ask-requires-in-Release : goal.ask-requires-in-Release
-ask-requires-in-Release g c = all-room c.args.out.now c.requires.empty 983040 (omega arith)
-
-pub ask-requires-in-Close : goal.ask-requires-in-Close
-ask-requires-in-Close g c = all-room c.args.out.now c.requires.empty 983040 (omega arith)
-
-pub set-requires : goal.set-requires
-set-requires g c = all-room c.args.out.now c.requires.empty 983040 (omega arith)
-
-pub set_bytes-requires : goal.set_bytes-requires
-set_bytes-requires g c = all-room c.args.out.now c.requires.empty 983040 (omega arith)
-
-pub read-requires : goal.read-requires
-read-requires g c = all-room c.args.out.now c.requires.empty 983040 (omega arith)
-
-pub plan_lag-requires-clause-ahead : goal.plan_lag-requires-clause-ahead
-plan_lag-requires-clause-ahead g c = (lag-in c.in-Lag.k c.in-Lag.ticks (in-range-of c.args.command.now (commands.Lag c.in-Lag.k c.in-Lag.ticks) c.in-Lag.is c.requires.numbers)).0
-
-pub plan_lag-requires-clause-short : goal.plan_lag-requires-clause-short
-plan_lag-requires-clause-short g c = (lag-in c.in-Lag.k c.in-Lag.ticks (in-range-of c.args.command.now (commands.Lag c.in-Lag.k c.in-Lag.ticks) c.in-Lag.is c.requires.numbers)).1
-
--- ---- calls that bring the device up or down
-
-pub returns-in-Load : goal.returns-in-Load
-returns-in-Load g c =
+pub returns-then-is_some-clause-stepped : goal.returns-then-is_some-clause-stepped
+returns-then-is_some-clause-stepped g c =
     let old = c.args.self.now in
-    let done = c.load in
-    let stays = done.ensures.stays in
-    let before = ports c.args.io.now c.args.out.now in
-    let after = ports done.new.io done.new.out in
-    assumption (step-done g.P.Dsp.means old done.new.self before after done.result stays c.requires.few c.args.command.now commands.Load c.in-Load.is
-    (load_stepped g.P.Dsp.means old done.new.self before after stays.agreed c.requires.few c.requires.empty done.result done.ensures.ran))
+    let done = c.step_on_use in
+    use-step g.P.Dsp.means c.args.command.now old done.new.self (at old.link (ports c.args.io.now c.args.out.now)) (at done.new.self.link (ports done.new.io done.new.out)) done.result
+    (same-some (sym c.self.view_is) (sym c.is_some.ensures ∙ c.if-is_some.true)) done.ensures.stepped
 
-pub returns-in-Unload : goal.returns-in-Unload
-returns-in-Unload g c =
+pub step_at_load-requires-clause-mode : goal.step_at_load-requires-clause-mode
+step_at_load-requires-clause-mode g c = same-up (sym c.self.view_is) (none-up c.self.inside.up (sym c.is_some.ensures ∙ c.if-is_some.false))
+
+pub returns-clause-stepped : goal.returns-clause-stepped
+returns-clause-stepped g c =
     let old = c.args.self.now in
-    let done = c.unload in
-    let stays = done.ensures.stays in
-    let before = ports c.args.io.now c.args.out.now in
-    let after = ports done.new.io done.new.out in
-    assumption (step-done g.P.Dsp.means old done.new.self before after done.result stays c.requires.few c.args.command.now commands.Unload c.in-Unload.is
-    (unload_stepped g.P.Dsp.means old done.new.self before after stays.agreed c.requires.few c.requires.empty done.result done.ensures.ran))
+    let done = c.step_at_load in
+    load-step g.P.Dsp.means c.args.command.now old done.new.self (at old.link (ports c.args.io.now c.args.out.now)) (at done.new.self.link (ports done.new.io done.new.out)) done.result
+    (same-up (sym c.self.view_is) (none-up c.self.inside.up (sym c.is_some.ensures ∙ c.if-is_some.false))) done.ensures.mode done.ensures.stepped
 
-pub returns-in-Suspend : goal.returns-in-Suspend
-returns-in-Suspend g c =
+pub returns-clause-sent : goal.returns-clause-sent
+returns-clause-sent g c =
     let old = c.args.self.now in
-    let done = c.suspend in
-    let stays = done.ensures.stays in
-    let before = ports c.args.io.now c.args.out.now in
-    let after = ports done.new.io done.new.out in
-    assumption (step-done g.P.Dsp.means old done.new.self before after done.result stays c.requires.few c.args.command.now commands.Suspend c.in-Suspend.is
-    (suspend_stepped g.P.Dsp.means old done.new.self before after stays.agreed c.requires.few c.requires.empty done.result done.ensures.ran))
-
-pub returns-in-Resume : goal.returns-in-Resume
-returns-in-Resume g c =
-    let old = c.args.self.now in
-    let done = c.resume in
-    let stays = done.ensures.stays in
-    let before = ports c.args.io.now c.args.out.now in
-    let after = ports done.new.io done.new.out in
-    assumption (step-done g.P.Dsp.means old done.new.self before after done.result stays c.requires.few c.args.command.now commands.Resume c.in-Resume.is
-    (resume_stepped g.P.Dsp.means old done.new.self before after stays.agreed c.requires.few c.requires.empty done.result done.ensures.ran))
-
--- ---- calls on streams
-
-pub returns-in-Open : goal.returns-in-Open
-returns-in-Open g c =
-    let old = c.args.self.now in
-    let done = c.ask in
-    let agreed = done.ensures.stays.agreed in
-    assumption (sent-done g.P.Dsp.means old done.new.self (ports c.args.io.now c.args.out.now) (ports done.new.io done.new.out) done.result done.ensures.stays c.requires.few c.requires.empty c.args.command.now (commands.Open c.in-Open.name) c.in-Open.is refl
-    (stream-call old.plan agreed.sound old.kept agreed.agree.record_is c.in-Open.name Opening) done.ensures.ran)
-
-pub returns-in-Params : goal.returns-in-Params
-returns-in-Params g c =
-    let old = c.args.self.now in
-    let done = c.ask-in-Params in
-    let agreed = done.ensures.stays.agreed in
-    assumption (sent-done g.P.Dsp.means old done.new.self (ports c.args.io.now c.args.out.now) (ports done.new.io done.new.out) done.result done.ensures.stays c.requires.few c.requires.empty c.args.command.now (commands.Params c.in-Params.name c.in-Params.params) c.in-Params.is refl
-    (stream-call old.plan agreed.sound old.kept agreed.agree.record_is c.in-Params.name (Preparing c.in-Params.params)) done.ensures.ran)
-
-pub returns-in-Start : goal.returns-in-Start
-returns-in-Start g c =
-    let old = c.args.self.now in
-    let done = c.ask-in-Start in
-    let agreed = done.ensures.stays.agreed in
-    assumption (sent-done g.P.Dsp.means old done.new.self (ports c.args.io.now c.args.out.now) (ports done.new.io done.new.out) done.result done.ensures.stays c.requires.few c.requires.empty c.args.command.now (commands.Start c.in-Start.name) c.in-Start.is refl
-    (stream-call old.plan agreed.sound old.kept agreed.agree.record_is c.in-Start.name (Triggering triggers.Start)) done.ensures.ran)
-
-pub returns-in-Stop : goal.returns-in-Stop
-returns-in-Stop g c =
-    let old = c.args.self.now in
-    let done = c.ask-in-Stop in
-    let agreed = done.ensures.stays.agreed in
-    assumption (sent-done g.P.Dsp.means old done.new.self (ports c.args.io.now c.args.out.now) (ports done.new.io done.new.out) done.result done.ensures.stays c.requires.few c.requires.empty c.args.command.now (commands.Stop c.in-Stop.name) c.in-Stop.is refl
-    (stream-call old.plan agreed.sound old.kept agreed.agree.record_is c.in-Stop.name (Triggering triggers.Stop)) done.ensures.ran)
-
-pub returns-in-Pause : goal.returns-in-Pause
-returns-in-Pause g c =
-    let old = c.args.self.now in
-    let done = c.ask-in-Pause in
-    let agreed = done.ensures.stays.agreed in
-    assumption (sent-done g.P.Dsp.means old done.new.self (ports c.args.io.now c.args.out.now) (ports done.new.io done.new.out) done.result done.ensures.stays c.requires.few c.requires.empty c.args.command.now (commands.Pause c.in-Pause.name) c.in-Pause.is refl
-    (stream-call old.plan agreed.sound old.kept agreed.agree.record_is c.in-Pause.name (Triggering triggers.Pause)) done.ensures.ran)
-
-pub returns-in-Release : goal.returns-in-Release
-returns-in-Release g c =
-    let old = c.args.self.now in
-    let done = c.ask-in-Release in
-    let agreed = done.ensures.stays.agreed in
-    assumption (sent-done g.P.Dsp.means old done.new.self (ports c.args.io.now c.args.out.now) (ports done.new.io done.new.out) done.result done.ensures.stays c.requires.few c.requires.empty c.args.command.now (commands.Release c.in-Release.name) c.in-Release.is refl
-    (stream-call old.plan agreed.sound old.kept agreed.agree.record_is c.in-Release.name (Triggering triggers.Release)) done.ensures.ran)
-
-pub returns-in-Close : goal.returns-in-Close
-returns-in-Close g c =
-    let old = c.args.self.now in
-    let done = c.ask-in-Close in
-    let agreed = done.ensures.stays.agreed in
-    assumption (sent-done g.P.Dsp.means old done.new.self (ports c.args.io.now c.args.out.now) (ports done.new.io done.new.out) done.result done.ensures.stays c.requires.few c.requires.empty c.args.command.now (commands.Close c.in-Close.name) c.in-Close.is refl
-    (stream-call old.plan agreed.sound old.kept agreed.agree.record_is c.in-Close.name Closing) done.ensures.ran)
-
--- ---- calls on controls
-
-pub returns-in-Set : goal.returns-in-Set
-returns-in-Set g c =
-    let old = c.args.self.now in
-    let done = c.set in
-    let agreed = done.ensures.stays.agreed in
-    assumption (sent-done g.P.Dsp.means old done.new.self (ports c.args.io.now c.args.out.now) (ports done.new.io done.new.out) done.result done.ensures.stays c.requires.few c.requires.empty c.args.command.now (commands.Set c.in-Set.name c.in-Set.values) c.in-Set.is refl
-    (set-call old.plan agreed.sound old.kept agreed.agree.record_is c.in-Set.name c.in-Set.values) done.ensures.ran)
-
-pub returns-in-Bytes : goal.returns-in-Bytes
-returns-in-Bytes g c =
-    let old = c.args.self.now in
-    let done = c.set_bytes in
-    let agreed = done.ensures.stays.agreed in
-    assumption (sent-done g.P.Dsp.means old done.new.self (ports c.args.io.now c.args.out.now) (ports done.new.io done.new.out) done.result done.ensures.stays c.requires.few c.requires.empty c.args.command.now (commands.Bytes c.in-Bytes.name c.in-Bytes.blob) c.in-Bytes.is refl
-    (bytes-call old.plan agreed.sound old.kept agreed.agree.record_is c.in-Bytes.name c.in-Bytes.blob) done.ensures.ran)
-
-pub returns-in-Get : goal.returns-in-Get
-returns-in-Get g c =
-    let old = c.args.self.now in
-    let done = c.get in
-    let agreed = done.ensures.stays.agreed in
-    assumption (sent-done g.P.Dsp.means old done.new.self (ports c.args.io.now c.args.out.now) (ports done.new.io done.new.out) done.result done.ensures.stays c.requires.few c.requires.empty c.args.command.now (commands.Get c.in-Get.name) c.in-Get.is refl
-    (get-call old.plan agreed.sound old.kept agreed.agree.record_is c.in-Get.name) done.ensures.ran)
-
-pub returns-in-Read : goal.returns-in-Read
-returns-in-Read g c =
-    let old = c.args.self.now in
-    let done = c.read in
-    let agreed = done.ensures.stays.agreed in
-    assumption (sent-done g.P.Dsp.means old done.new.self (ports c.args.io.now c.args.out.now) (ports done.new.io done.new.out) done.result done.ensures.stays c.requires.few c.requires.empty c.args.command.now (commands.Read c.in-Read.name) c.in-Read.is refl
-    (read-call old.plan agreed.sound old.kept agreed.agree.record_is c.in-Read.name) done.ensures.ran)
-
--- ---- what later messages meet
-
-pub returns-in-Refuse : goal.returns-in-Refuse
-returns-in-Refuse g c =
-    let old = c.args.self.now in
-    let done = c.plan_fate in
-    let io = ports c.args.io.now c.args.out.now in
-    let k = c.in-Refuse.k in
-    let error = c.in-Refuse.error in
-    let meant = is-error error (refuse-in k error (in-range-of c.args.command.now (commands.Refuse k error) c.in-Refuse.is c.requires.numbers)).1 in
-    assumption (step-done g.P.Dsp.means old done.new.self io io done.result (done.ensures.stays io) c.requires.few c.args.command.now (commands.Refuse k error) c.in-Refuse.is
-    (plan_stepped g.P.Dsp.means old done.new.self io c.requires.empty k (Refuse error) (commands.Refuse k error) (λ doing. refl) refl done.result
-    (subst (λ (e : ℤ). PlanRan k (Refuse e) old done.new.self done.result) (as-is error meant) done.ensures.ran)))
-
-pub returns-in-Drop : goal.returns-in-Drop
-returns-in-Drop g c =
-    let old = c.args.self.now in
-    let done = c.plan_fate-in-Drop in
-    let io = ports c.args.io.now c.args.out.now in
-    let k = c.in-Drop.k in
-    assumption (step-done g.P.Dsp.means old done.new.self io io done.result (done.ensures.stays io) c.requires.few c.args.command.now (commands.Drop k) c.in-Drop.is
-    (plan_stepped g.P.Dsp.means old done.new.self io c.requires.empty k Drop (commands.Drop k) (λ doing. refl) refl done.result done.ensures.ran))
-
-pub returns-in-Lose : goal.returns-in-Lose
-returns-in-Lose g c =
-    let old = c.args.self.now in
-    let done = c.plan_fate-in-Lose in
-    let io = ports c.args.io.now c.args.out.now in
-    let k = c.in-Lose.k in
-    assumption (step-done g.P.Dsp.means old done.new.self io io done.result (done.ensures.stays io) c.requires.few c.args.command.now (commands.Lose k) c.in-Lose.is
-    (plan_stepped g.P.Dsp.means old done.new.self io c.requires.empty k Lose (commands.Lose k) (λ doing. refl) refl done.result done.ensures.ran))
-
-pub returns-in-Lag : goal.returns-in-Lag
-returns-in-Lag g c =
-    let old = c.args.self.now in
-    let done = c.plan_lag in
-    let io = ports c.args.io.now c.args.out.now in
-    let k = c.in-Lag.k in
-    let ticks = c.in-Lag.ticks in
-    assumption (step-done g.P.Dsp.means old done.new.self io io done.result (done.ensures.stays io) c.requires.few c.args.command.now (commands.Lag k ticks) c.in-Lag.is
-    (lag_stepped g.P.Dsp.means old done.new.self io c.requires.empty k ticks done.result done.ensures.ran))
-
--- ---- a tick, and a show
-
-pub returns-in-Tick-clause-stepped : goal.returns-in-Tick-clause-stepped
-returns-in-Tick-clause-stepped g c =
-    let means = g.P.Dsp.means in
-    let old = c.args.self.now in
-    let done = c.tick in
-    let before = ports c.args.io.now c.args.out.now in
-    let after = ports done.new.io done.new.out in
-    subst (SteppedIn means old done.new.self before after Done) (sym c.in-Tick.is) (done.ensures.stepped c.in-Tick.field-0)
-
-pub returns-in-Tick-clause-moved : goal.returns-in-Tick-clause-moved
-returns-in-Tick-clause-moved g c slot = let moved = c.tick.ensures.moved slot in omega (arith, moved)
-
-pub returns-in-Show-clause-stepped : goal.returns-in-Show-clause-stepped
-returns-in-Show-clause-stepped g c =
-    let old = c.args.self.now in
-    let io = ports c.args.io.now c.args.out.now in
-    subst (λ (x : Command × Answer). SteppedIn g.P.Dsp.means old old io io x.1 x.0) (λ i. (sym c.in-Show.is i, sym c.show.ensures.shown i)) (show_stepped g.P.Dsp.means old io c.requires.empty)
-
-pub returns-in-Show-clause-moved : goal.returns-in-Show-clause-moved
-returns-in-Show-clause-moved g c slot = omega arith
+    let none = same-up (sym c.self.view_is) (none-up c.self.inside.up (sym c.is_some.ensures ∙ c.if-is_some.false)) in
+    omega (arith, c.step_at_load.ensures.sent, load-most old.up none c.args.command.now)

@@ -1,8 +1,8 @@
-use Rattle.std.proofs.Common.{sym, subst, refl, arith, ap, ℕ, Bool, List}
+use Rattle.std.proofs.Common.{sym, subst, arith, ap, ℕ, Bool, List}
 use Rattle.host_widgets.specs.declared.kept.Power.{Power}
 use Rattle.sof_session.specs.SessionCalls.{ports}
 use Rattle.sof_session.proofs.TickAgreement.{TickedBy, off-ticked, AreAgreed-ticked, ticked-ends}
-use Rattle.sof_session.proofs.TickSteps.{tick_stepped}
+use Rattle.sof_session.proofs.TickModes.{ticked-step}
 use Rattle.sof_session.proofs.Writings.{all-room}
 use Rattle.sof_session.proofs.session.Session.tick.Goals as goal
 
@@ -17,7 +17,7 @@ invariant_of-self g c =
     let before = ports c.args.io.now c.args.out.now in
     let after = ports done.new.io done.new.out in
     let tick = subst (λ (power : Power). TickedBy means power inside.link done.new.self before after) (sym c.in-On.is) done.ensures in
-    AreAgreed-ticked means (record { link = inside.link; kept = inside.kept; plan = inside.plan; heap = inside.heap }) done.new.self before after c.self.invariant tick
+    AreAgreed-ticked means (record { link = inside.link; kept = inside.kept; plan = inside.plan; heap = inside.heap; up = inside.up }) done.new.self before after c.self.invariant tick
 
 -- ---- a device that is on
 
@@ -30,7 +30,7 @@ returns-in-On-clause-stepped g c =
     let after = ports done.new.io done.new.out in
     let tick = subst (λ (power : Power). TickedBy means power inside.link done.new.self before after) (sym c.in-On.is) done.ensures in
     rw (← c.self.view_is)
-    (tick_stepped means (record { link = inside.link; kept = inside.kept; plan = inside.plan; heap = inside.heap }) (record { link = done.new.self; kept = inside.kept; plan = inside.plan; heap = inside.heap }) before after c.requires.empty c.self.invariant refl tick)
+    (ticked-step means (record { link = inside.link; kept = inside.kept; plan = inside.plan; heap = inside.heap; up = inside.up }) done.new.self before after c.requires.empty c.self.invariant tick)
 
 pub returns-in-On-clause-agreed : goal.returns-in-On-clause-agreed
 returns-in-On-clause-agreed g c =
@@ -40,7 +40,7 @@ returns-in-On-clause-agreed g c =
     let before = ports c.args.io.now c.args.out.now in
     let after = ports done.new.io done.new.out in
     let tick = subst (λ (power : Power). TickedBy means power inside.link done.new.self before after) (sym c.in-On.is) done.ensures in
-    AreAgreed-ticked means (record { link = inside.link; kept = inside.kept; plan = inside.plan; heap = inside.heap }) done.new.self before after c.self.invariant tick
+    AreAgreed-ticked means (record { link = inside.link; kept = inside.kept; plan = inside.plan; heap = inside.heap; up = inside.up }) done.new.self before after c.self.invariant tick
 
 pub returns-in-On-clause-slots : goal.returns-in-On-clause-slots
 returns-in-On-clause-slots g c =
@@ -50,7 +50,7 @@ returns-in-On-clause-slots g c =
     let before = ports c.args.io.now c.args.out.now in
     let after = ports done.new.io done.new.out in
     let tick = subst (λ (power : Power). TickedBy means power inside.link done.new.self before after) (sym c.in-On.is) done.ensures in
-    ap (λ (x : List ℕ × List (ℕ × Bool)). x.0) (ticked-ends means (record { link = inside.link; kept = inside.kept; plan = inside.plan; heap = inside.heap }) done.new.self before after c.self.invariant tick)
+    ap (λ (x : List ℕ × List (ℕ × Bool)). x.0) (ticked-ends means (record { link = inside.link; kept = inside.kept; plan = inside.plan; heap = inside.heap; up = inside.up }) done.new.self before after c.self.invariant tick)
 
 pub returns-in-On-clause-ends : goal.returns-in-On-clause-ends
 returns-in-On-clause-ends g c =
@@ -60,7 +60,7 @@ returns-in-On-clause-ends g c =
     let before = ports c.args.io.now c.args.out.now in
     let after = ports done.new.io done.new.out in
     let tick = subst (λ (power : Power). TickedBy means power inside.link done.new.self before after) (sym c.in-On.is) done.ensures in
-    ap (λ (x : List ℕ × List (ℕ × Bool)). x.1) (ticked-ends means (record { link = inside.link; kept = inside.kept; plan = inside.plan; heap = inside.heap }) done.new.self before after c.self.invariant tick)
+    ap (λ (x : List ℕ × List (ℕ × Bool)). x.1) (ticked-ends means (record { link = inside.link; kept = inside.kept; plan = inside.plan; heap = inside.heap; up = inside.up }) done.new.self before after c.self.invariant tick)
 
 -- ---- one that is off
 
@@ -70,7 +70,7 @@ returns-in-Unloaded-clause-stepped g c =
     let inside = c.self.inside in
     let io = ports c.args.io.now c.args.out.now in
     rw (← c.self.view_is)
-    (tick_stepped means (record { link = inside.link; kept = inside.kept; plan = inside.plan; heap = inside.heap }) (record { link = inside.link; kept = inside.kept; plan = inside.plan; heap = inside.heap }) io io c.requires.empty c.self.invariant refl (off-ticked means inside.kept.power inside.link io c.in-Unloaded.is))
+    (ticked-step means (record { link = inside.link; kept = inside.kept; plan = inside.plan; heap = inside.heap; up = inside.up }) inside.link io io c.requires.empty c.self.invariant (off-ticked means inside.kept.power inside.link io c.in-Unloaded.is))
 
 -- ---- how far the inputs moved
 

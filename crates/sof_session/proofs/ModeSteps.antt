@@ -1,0 +1,73 @@
+-- Steps of a session by its mode.
+use Rattle.std.proofs.Common.{◌≡◌, refl, sym, ap, ◌∙◌, subst, ℕ, List, Option, Some, None, true}
+use Rattle.std.specs.Prelude.{is_some}
+use Rattle.std.proofs.lemmas.Bool.{false≢true}
+use Rattle.mbox_link.specs.Calls.{World, Meaning}
+use Rattle.mbox_link.specs.Wire.{Wire}
+use Rattle.host_widgets.specs.declared.answers.Answer.{Answer}
+use Rattle.sof_script.specs.declared.script.Command.{Command}
+use Rattle.sof_script.specs.declared.script.Command.TheVariants as commands
+use Rattle.sof_session.specs.CommandRanges.{most_sent}
+use Rattle.sof_session.specs.Commands.{command_rules}
+use Rattle.sof_session.specs.Modes.{made_on_use, CommandDoneIn, DoneWith, SteppedBy, most_sent_by}
+use Rattle.sof_session.specs.Seat.{Seat}
+use Rattle.sof_session.specs.SessionStep.{CommandDone}
+use Rattle.sof_session.proofs.Agreement.{none-up}
+use Rattle.sof_session.proofs.LoadMode.{load-stepped}
+use Rattle.sof_session.proofs.UpMode.{up-stepped}
+
+module _ {P : Type 0} (means : Meaning P) (command : Command) (old new : Seat P) (w v : World (Wire P)) (answer : Answer) where
+  abbrev Stepped : Type 0
+  Stepped = SteppedBy means command old new w v answer
+
+  -- where all pipelines are made at a load
+  pub load-step : old.up ≡ None → new.up ≡ None → CommandDone means (command_rules old.plan old.heap) old.heap command old.kept new.kept w v answer → Stepped
+  load-step none stays done = record {
+    doing = done.doing;
+    did = subst (λ (up : Option (List ℕ)). DoneWith means done.doing up command old new w v answer) (sym none) (record { done = done; stays = ap (λ (up : Option (List ℕ)). is_some up) stays }, refl);
+  }
+
+  pub load-done : old.up ≡ None → Stepped → CommandDone means (command_rules old.plan old.heap) old.heap command old.kept new.kept w v answer
+  load-done none stepped = (load-stepped means command old new w v answer stepped (ap (λ (up : Option (List ℕ)). is_some up) none)).0.done
+
+  pub load-remains : old.up ≡ None → Stepped → new.up ≡ None
+  load-remains none stepped = none-up new.up (load-stepped means command old new w v answer stepped (ap (λ (up : Option (List ℕ)). is_some up) none)).0.stays
+
+  -- where they are made on use
+  pub use-step : is_some old.up ≡ true → CommandDoneIn means (made_on_use means) command old new w v answer → Stepped
+  use-step some done = by old.up refl some
+    where
+      by : (up : Option (List ℕ)) → old.up ≡ up → is_some up ≡ true → Stepped
+      by None at is = absurd (false≢true is)
+      by (Some up) at is = record { doing = done.done.doing; did = subst (λ (o : Option (List ℕ)). DoneWith means done.done.doing o command old new w v answer) (sym at) (done, refl) }
+
+  pub use-done-in : is_some old.up ≡ true → Stepped → CommandDoneIn means (made_on_use means) command old new w v answer
+  use-done-in some stepped = (up-stepped means command old new w v answer stepped some).0
+
+-- ---- how many messages are sent at most
+
+load-most-of : (command : Command) → most_sent_by None command ≡ most_sent command
+load-most-of commands.Load = refl
+load-most-of commands.Unload = refl
+load-most-of commands.Suspend = refl
+load-most-of commands.Resume = refl
+load-most-of commands.Show = refl
+load-most-of (commands.Open n) = refl
+load-most-of (commands.Start n) = refl
+load-most-of (commands.Stop n) = refl
+load-most-of (commands.Pause n) = refl
+load-most-of (commands.Release n) = refl
+load-most-of (commands.Close n) = refl
+load-most-of (commands.Get n) = refl
+load-most-of (commands.Read n) = refl
+load-most-of (commands.Params n p) = refl
+load-most-of (commands.Set n v) = refl
+load-most-of (commands.Bytes n b) = refl
+load-most-of (commands.Tick t) = refl
+load-most-of (commands.Refuse k e) = refl
+load-most-of (commands.Drop k) = refl
+load-most-of (commands.Lose k) = refl
+load-most-of (commands.Lag k t) = refl
+
+pub load-most : (up : Option (List ℕ)) → up ≡ None → (command : Command) → most_sent_by up command ≡ most_sent command
+load-most up none command = ap (λ (o : Option (List ℕ)). most_sent_by o command) none ∙ load-most-of command

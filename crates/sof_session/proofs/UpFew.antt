@@ -1,0 +1,381 @@
+-- How many messages a command sends at most where pipelines are made on use, and that none of its last moments is a boot.
+use Rattle.std.proofs.Common.{◌≡◌, refl, sym, ◌∙◌, subst, ℕ, ◌+◌, ◌≤◌, ◌-◌, ◌++◌, ◌==◌, length, map, filter, Bool, true, false, not, cond, List, [], ◌∷◌, Option, Some, None, Ok, Err, inl, inr, arith}
+use Rattle.std.specs.Option.{option_map_or, option_or}
+use Rattle.std.specs.List.{flat_map, zip}
+use Rattle.std.proofs.lemmas.Bool.{eqb-true, false≢true}
+use Rattle.std.proofs.lemmas.List.{length-append, length-map}
+use Rattle.stream_law.specs.Order.{is_among}
+use Rattle.stream_law.specs.Ways.{buffers, components}
+use Rattle.stream_law.specs.declared.graph.Join.{Join}
+use Rattle.stream_law.specs.declared.graph.Pipe.{Pipe}
+use Rattle.stream_law.proofs.Members.{IsIn}
+use Rattle.mbox_link.specs.Meetings.{Meeting}
+use Rattle.tplg_plan.specs.declared.plans.Plan.{Plan}
+use Rattle.tplg_plan.specs.Sound.{IsSound}
+use Rattle.host_widgets.specs.declared.answers.HostFault.{HostFault}
+use Rattle.host_widgets.specs.declared.answers.HostFault.TheVariants as faults
+use Rattle.host_widgets.specs.declared.kept.Found.{Found}
+use Rattle.host_widgets.specs.declared.kept.Found.TheVariants as founds
+use Rattle.host_widgets.specs.declared.kept.Power.{Power}
+use Rattle.host_widgets.specs.declared.kept.Power.TheVariants as powers
+use Rattle.host_widgets.specs.declared.kept.Record.{Record}
+use Rattle.host_widgets.specs.Acts.{widget_ids, widget_words}
+use Rattle.host_widgets.specs.ActLists.{control_acts, prepare_acts, close_by}
+use Rattle.host_widgets.specs.Host.{Outcome, IsRecordOf}
+use Rattle.host_widgets.specs.HostActs.{Act, Make, Finish}
+use Rattle.host_widgets.specs.HostActs as acts
+use Rattle.host_widgets.specs.Orders.{Order}
+use Rattle.host_widgets.specs.Routines.{Routine}
+use Rattle.host_widgets.specs.Walk.{walk}
+use Rattle.host_widgets.proofs.FewJoins.{few-brought}
+use Rattle.host_dynamic.specs.DynamicActs.{DynamicAct, Ordinary, Unmake, widgets_of, is_control_of, finish_ids, making_acts, pipe_ids, unmade_order, unmaking_acts}
+use Rattle.host_dynamic.specs.Dynamic.{UpState, up_act_rules, plain_job, lacking, after_unmaking, unmade, after_making, opening_by, after_closing, closing_by, after_resuming, resuming_job, control_order, is_control_up, unsent, with_stream_shut, parting}
+use Rattle.host_dynamic.specs.There.{ids_there_of}
+use Rattle.host_dynamic.specs.Need.{is_needed, need_in, pipe_indices}
+use Rattle.host_dynamic.specs.Up.{join_index, is_join_at, buffer_joins}
+use Rattle.host_dynamic.specs.UpStates.{IsUpState}
+use Rattle.host_dynamic.proofs.Sublists.{AreOnce, once-filter, distinct-once}
+use Rattle.sof_script.specs.declared.script.Command.{Command}
+use Rattle.sof_script.specs.declared.script.Command.TheVariants as commands
+use Rattle.sof_session.specs.CommandRanges.{most_sent}
+use Rattle.sof_session.specs.Commands.{order_of, is_plan}
+use Rattle.sof_session.specs.CommandTests.{fault_of}
+use Rattle.sof_session.specs.UpCommands.{up_fault, up_job}
+use Rattle.sof_session.proofs.FewOrders.{few-order}
+use Rattle.sof_session.proofs.ResumeSteps.{few-prepares}
+use Rattle.sof_session.proofs.PowerSteps.{few-streams}
+use Rattle.sof_session.proofs.RoutineBoots.{NoneBoots}
+use Rattle.sof_session.proofs.RoutineNumbers.{SendsWithin}
+use Rattle.sof_session.proofs.RunBoots.{none-ended}
+use Rattle.sof_session.proofs.SameNext.{due}
+
+-- ---- what passes a test is no more
+
+few-filter : {X : Type 0} (p : X → Bool) (xs : List X) → length (filter p xs) ≤ length xs
+few-filter p [] = omega arith
+few-filter {X} p (x ∷ xs) = by (p x) (few-filter p xs)
+  where
+    by : (b : Bool) → length (filter p xs) ≤ length xs → length (cond b (x ∷ filter p xs) (filter p xs)) ≤ length (x ∷ xs)
+    by true few = omega (arith, few)
+    by false few = omega (arith, few)
+
+few-flat : {X Y : Type 0} (f : X → List Y) (p : X → Bool) (xs : List X) → length (flat_map f (filter p xs)) ≤ length (flat_map f xs)
+few-flat f p [] = omega arith
+few-flat {X} f p (x ∷ xs) = by (p x) (few-flat f p xs)
+  where
+    by : (b : Bool) → length (flat_map f (filter p xs)) ≤ length (flat_map f xs) → length (flat_map f (cond b (x ∷ filter p xs) (filter p xs))) ≤ length (f x ++ flat_map f xs)
+    by true few = omega (arith, few, length-append (f x) (flat_map f (filter p xs)), length-append (f x) (flat_map f xs))
+    by false few = omega (arith, few, length-append (f x) (flat_map f xs))
+
+-- ---- what is listed by numbers, each no more than once
+
+module _ {X : Type 0} (test : ℕ → X → Bool) (one : (x : X) (i j : ℕ) → test i x ≡ true → test j x ≡ true → i ≡ j) where
+  abbrev listed : List ℕ → List X → List X
+  listed ns xs = flat_map (λ (i : ℕ). filter (test i) xs) ns
+
+  -- the numbers at which it is
+  abbrev hits : X → List ℕ → List ℕ
+  hits x ns = filter (λ (i : ℕ). test i x) ns
+
+  listed-none : (ns : List ℕ) → length (listed ns []) ≡ 0
+  listed-none [] = refl
+  listed-none (n ∷ ns) = listed-none ns
+
+  listed-more : (x : X) (xs : List X) (ns : List ℕ) → length (listed ns (x ∷ xs)) ≡ length (hits x ns) + length (listed ns xs)
+  listed-more x xs [] = refl
+  listed-more x xs (n ∷ ns) = by (test n x) (listed-more x xs ns)
+    where
+      by : (b : Bool) → length (listed ns (x ∷ xs)) ≡ length (hits x ns) + length (listed ns xs) →
+          length (cond b (x ∷ filter (test n) xs) (filter (test n) xs) ++ listed ns (x ∷ xs)) ≡ length (cond b (n ∷ hits x ns) (hits x ns)) + length (filter (test n) xs ++ listed ns xs)
+      by true rest = omega (arith, rest, length-append (filter (test n) xs) (listed ns (x ∷ xs)), length-append (filter (test n) xs) (listed ns xs))
+      by false rest = omega (arith, rest, length-append (filter (test n) xs) (listed ns (x ∷ xs)), length-append (filter (test n) xs) (listed ns xs))
+
+  none-hits : (x : X) (n : ℕ) (ns : List ℕ) → test n x ≡ true → (IsIn n ns → ⊥) → length (hits x ns) ≡ 0
+  none-hits x n [] at gone = refl
+  none-hits x n (m ∷ ns) at gone = by (test m x) refl (none-hits x n ns at (λ there. gone (inr there)))
+    where
+      by : (b : Bool) → test m x ≡ b → length (hits x ns) ≡ 0 → length (cond b (m ∷ hits x ns) (hits x ns)) ≡ 0
+      by true here rest = absurd (gone (inl (one x n m at here)))
+      by false here rest = rest
+
+  few-hits : (x : X) (ns : List ℕ) → AreOnce ns → length (hits x ns) ≤ 1
+  few-hits x [] once = omega arith
+  few-hits x (n ∷ ns) once = by (test n x) refl (few-hits x ns once.1)
+    where
+      by : (b : Bool) → test n x ≡ b → length (hits x ns) ≤ 1 → length (cond b (n ∷ hits x ns) (hits x ns)) ≤ 1
+      by true here rest = omega (arith, none-hits x n ns here once.0)
+      by false here rest = rest
+
+  few-listed : (xs : List X) (ns : List ℕ) → AreOnce ns → length (listed ns xs) ≤ length xs
+  few-listed [] ns once = omega (arith, listed-none ns)
+  few-listed (x ∷ xs) ns once = omega (arith, listed-more x xs ns, few-hits x ns once, few-listed xs ns once)
+
+-- ---- making and unmaking
+
+module _ (plan : Plan) (sound : IsSound plan) where
+  one-index : (id i j : ℕ) → ((widget_words plan id).pipe == i) ≡ true → ((widget_words plan id).pipe == j) ≡ true → i ≡ j
+  one-index id i j first second = sym (eqb-true (widget_words plan id).pipe i first) ∙ eqb-true (widget_words plan id).pipe j second
+
+  one-buffer : (x : Join) (i j : ℕ) → is_join_at plan.graph i x ≡ true → is_join_at plan.graph j x ≡ true → i ≡ j
+  one-buffer x i j first second = by (join_index plan.graph x) first second
+    where
+      by : (o : Option ℕ) → option_map_or (λ (k : ℕ). k == i) o false ≡ true → option_map_or (λ (k : ℕ). k == j) o false ≡ true → i ≡ j
+      by None first second = absurd (false≢true first)
+      by (Some k) first second = sym (eqb-true k i first) ∙ eqb-true k j second
+
+  -- no more messages than bring all up
+  pub few-making : (kept : Record) (n : List ℕ) → AreOnce n → IsRecordOf plan kept → length (making_acts plan kept n) ≤ 832
+  few-making kept n once is =
+      let widgets = few-listed (λ (i id : ℕ). (widget_words plan id).pipe == i) one-index (widget_ids plan) n once in
+      let joins = few-listed (is_join_at plan.graph) one-buffer plan.graph.joins n once in
+      let puts = few-flat control_acts (is_control_of plan n) (zip plan.controls kept.controls) in
+      let pipes = few-filter (λ (p : Pipe). is_among n p.index) plan.graph.pipes in
+      let a : List Act = map Make (widgets_of plan n) in
+      let b : List Act = map (λ (j : Join). acts.Join j.source j.sink) (flat_map (buffer_joins plan.graph) n) in
+      let c : List Act = flat_map control_acts (filter (is_control_of plan n) (zip plan.controls kept.controls)) in
+      let d : List Act = map Finish (finish_ids plan.graph n) in
+      let a' : List Act = map Make (widget_ids plan) in
+      let b' : List Act = map (λ (j : Join). acts.Join j.source j.sink) plan.graph.joins in
+      let c' : List Act = flat_map control_acts (zip plan.controls kept.controls) in
+      let d' : List Act = map (λ (p : Pipe). Finish p.id) plan.graph.pipes in
+      omega (
+        arith,
+        widgets,
+        joins,
+        puts,
+        pipes,
+        length-append a (b ++ (c ++ d)),
+        length-append b (c ++ d),
+        length-append c d,
+        length-append a' (b' ++ (c' ++ d')),
+        length-append b' (c' ++ d'),
+        length-append c' d',
+        length-map (widgets_of plan n) Make,
+        length-map (flat_map (buffer_joins plan.graph) n) (λ (j : Join). acts.Join j.source j.sink),
+        length-map (finish_ids plan.graph n) Finish,
+        length-map (filter (λ (p : Pipe). is_among n p.index) plan.graph.pipes) (λ (p : Pipe). p.id),
+        length-map (widget_ids plan) Make,
+        length-map plan.graph.joins (λ (j : Join). acts.Join j.source j.sink),
+        length-map plan.graph.pipes (λ (p : Pipe). Finish p.id),
+        few-brought plan kept sound is.controls,
+      )
+
+  pub few-unmaking : (ids : List ℕ) → length (unmaking_acts plan ids) ≤ 288
+  few-unmaking ids =
+      let all : List ℕ = pipe_ids plan.graph ++ (buffers plan.graph ++ components plan.graph) in
+      omega (
+        arith,
+        length-map (unmade_order plan.graph ids) Unmake,
+        few-filter (is_among ids) all,
+        length-append (pipe_ids plan.graph) (buffers plan.graph ++ components plan.graph),
+        length-append (buffers plan.graph) (components plan.graph),
+        length-map plan.graph.pipes (λ p. p.id),
+        length-map plan.graph.edges (λ e. e.buffer),
+        length-map plan.graph.comps (λ c. c.id),
+        sound.comps,
+        sound.edges,
+        sound.pipes,
+      )
+
+-- ---- routines
+
+module _ (plan : Plan) (sound : IsSound plan) {Q : Type 0} (next : Q → Meeting × Q) where
+  abbrev Sends : ℕ → UpState → Q → Routine UpState DynamicAct → Type 0
+  Sends n s q routine = SendsWithin (up_act_rules plan) next n s q routine
+
+  unmaking-ends : (done : UpState → UpState) (now : UpState) (q : Q) (n : ℕ) (o : Outcome) → Sends n now q (after_unmaking done now o)
+  unmaking-ends done now q n (Ok passed) = tt
+  unmaking-ends done now q n (Err fault) = tt
+
+  -- what is unmade has no more than 288 ids
+  unmade-few : (ids : List ℕ) (done : UpState → UpState) (now : UpState) (q : Q) (n : ℕ) → 288 ≤ n → Sends n now q (unmade plan ids done now)
+  unmade-few ids done now q n most = (
+    omega (arith, most, few-unmaking plan sound (ids_there_of plan ids now.there)),
+    unmaking-ends done _ _ _ _,
+  )
+
+  making-ends : (host : ℕ) (ns : List ℕ) (now : UpState) (q : Q) (n : ℕ) → 288 ≤ n → (o : Outcome) → Sends n now q (after_making plan host ns now o)
+  making-ends host ns now q n most (Ok passed) = tt
+  making-ends host ns now q n most (Err (faults.Refused e)) = unmade-few ns (λ x. x) now q n most
+  making-ends host ns now q n most (Err faults.NotLoaded) = tt
+  making-ends host ns now q n most (Err faults.Loaded) = tt
+  making-ends host ns now q n most (Err (faults.NoSuch name)) = tt
+  making-ends host ns now q n most (Err (faults.State found)) = tt
+  making-ends host ns now q n most (Err faults.Off) = tt
+  making-ends host ns now q n most (Err (faults.Range k)) = tt
+  making-ends host ns now q n most (Err faults.LinkDown) = tt
+  making-ends host ns now q n most (Err (faults.Blob k)) = tt
+
+  lacking-once : (up : List ℕ) (host : ℕ) → AreOnce (lacking plan up host)
+  lacking-once up host = once-filter (λ (i : ℕ). not (is_among up i)) (need_in plan.graph host) (once-filter (is_needed plan.graph host) (pipe_indices plan.graph) (distinct-once (pipe_indices plan.graph) sound.indices))
+
+  opening-few : (s : UpState) → IsRecordOf plan s.kept → (q : Q) (host : ℕ) (power : Power) → Sends 1200 s q (opening_by power plan host (lacking plan s.up host) s)
+  opening-few s is q host powers.On =
+      let ns = lacking plan s.up host in
+      let made = few-making plan sound s.kept ns (lacking-once s.up host) is in
+      let same = length-map (making_acts plan s.kept ns) Ordinary in
+      (omega (arith, made, same), making-ends host ns _ _ _ (omega (arith, made, same)) _)
+  opening-few s is q host powers.Off = tt
+  opening-few s is q host powers.Unloaded = tt
+
+  closing-ends : (host : ℕ) (now : UpState) (q : Q) (n : ℕ) → 288 ≤ n → (o : Outcome) → Sends n now q (after_closing plan host now o)
+  closing-ends host now q n most (Ok passed) = unmade-few (parting plan host now) (with_stream_shut plan host) now q n most
+  closing-ends host now q n most (Err (faults.Refused e)) = tt
+  closing-ends host now q n most (Err faults.NotLoaded) = tt
+  closing-ends host now q n most (Err faults.Loaded) = tt
+  closing-ends host now q n most (Err (faults.NoSuch name)) = tt
+  closing-ends host now q n most (Err (faults.State found)) = tt
+  closing-ends host now q n most (Err faults.Off) = tt
+  closing-ends host now q n most (Err (faults.Range k)) = tt
+  closing-ends host now q n most (Err faults.LinkDown) = tt
+  closing-ends host now q n most (Err (faults.Blob k)) = tt
+
+  few-close : (host : ℕ) (found : Found) → length (close_by host found) ≤ 2
+  few-close host founds.Running = omega arith
+  few-close host founds.Paused = omega arith
+  few-close host founds.Prepared = omega arith
+  few-close host founds.Open = omega arith
+  few-close host founds.Closed = omega arith
+  few-close host founds.On = omega arith
+
+  closing-few : (s : UpState) (q : Q) (host : ℕ) (found : Found) (power : Power) → Sends 1200 s q (closing_by power plan host found s)
+  closing-few s q host found powers.On =
+      let few = few-close host found in
+      let same = length-map (close_by host found) Ordinary in
+      let w = walk (up_act_rules plan) false next s q (map Ordinary (close_by host found)) in
+      (omega (arith, few, same), closing-ends host w.kept w.queue (1200 - length (map Ordinary (close_by host found))) (omega (arith, few, same)) w.outcome)
+  closing-few s q host found powers.Off = tt
+  closing-few s q host found powers.Unloaded = tt
+
+  resuming-ends : (before now : UpState) (q : Q) (n : ℕ) (o : Outcome) → Sends n now q (after_resuming before now o)
+  resuming-ends before now q n (Ok passed) = tt
+  resuming-ends before now q n (Err fault) = tt
+
+  resuming-few : (heap : ℕ) (s : UpState) → IsUpState plan s → (q : Q) → Sends 1200 (resuming_job plan heap s).from q (resuming_job plan heap s).routine
+  resuming-few heap s is q =
+      let making = making_acts plan s.kept s.up in
+      let prepares = flat_map prepare_acts (zip plan.streams s.kept.streams) in (
+        omega (
+          arith,
+          few-making plan sound s.kept s.up (distinct-once s.up is.once) is.record_is,
+          few-prepares plan.streams s.kept.streams,
+          few-streams plan sound,
+          length-append making prepares,
+          length-map (making ++ prepares) Ordinary,
+        ),
+        resuming-ends s _ _ _ _,
+      )
+
+  -- one that sends what the ordinary host does
+  plain-few : (s : UpState) (q : Q) (n : ℕ) (o : Order) → length o.acts ≤ n → Sends n s q (plain_job plan s o).routine
+  plain-few s q n o few = (omega (arith, few, length-map o.acts Ordinary), tt)
+
+  control-few : (b : Bool) (s : UpState) (q : Q) (o : Order) → length o.acts ≤ 1200 → Sends 1200 s q (plain_job plan s (cond b o (unsent o))).routine
+  control-few true s q o few = plain-few s q 1200 o few
+  control-few false s q o few = plain-few s q 1200 (unsent o) (omega arith)
+
+-- ---- commands
+
+-- a tick sends none
+abbrev pub up_most : Command → ℕ
+up_most (commands.Tick n) = 0
+up_most command = 1200
+
+pub most-few : (command : Command) → up_most command ≤ 1200
+most-few (commands.Tick n) = omega arith
+most-few command = omega arith
+
+pub first-none : (a b : Option HostFault) → option_or a b ≡ None → a ≡ None
+first-none None b none = refl
+first-none (Some fault) b none = absurd (cc none)
+
+module _ (plan : Plan) (sound : IsSound plan) (heap : ℕ) (s : UpState) (is : IsUpState plan s) {Q : Type 0} (next : Q → Meeting × Q) (q : Q) where
+  -- an ordinary order has few acts
+  order-few : (command : Command) → fault_of plan s.kept command ≡ None → length (order_of plan s.kept command).acts ≤ most_sent command
+  order-few command none = subst (λ (f : Option HostFault). length (due (order_of plan s.kept command) f) ≤ most_sent command) none (few-order plan sound command s.kept is.record_is)
+
+  pub up-few : (command : Command) → is_plan command ≡ false → up_fault plan s command ≡ None → SendsWithin (up_act_rules plan) next (up_most command) (up_job plan heap s command).from q (up_job plan heap s command).routine
+  up-few commands.Load plans none = tt
+  up-few commands.Unload plans none = tt
+  up-few commands.Resume plans none = resuming-few plan sound next heap s is q
+  up-few (commands.Open name) plans none = opening-few plan sound next s is.record_is q _ s.kept.power
+  up-few (commands.Close name) plans none = closing-few plan sound next s q _ _ s.kept.power
+  up-few (commands.Set name values) plans none =
+      let few = order-few (commands.Set name values) none in control-few plan sound next (is_control_up plan s.up name) s q (order_of plan s.kept (commands.Set name values)) (omega (arith, few))
+  up-few (commands.Bytes name blob) plans none =
+      let few = order-few (commands.Bytes name blob) none in control-few plan sound next (is_control_up plan s.up name) s q (order_of plan s.kept (commands.Bytes name blob)) (omega (arith, few))
+  up-few (commands.Read name) plans none = let few = order-few (commands.Read name) (first-none _ _ none) in plain-few plan sound next s q 1200 (order_of plan s.kept (commands.Read name)) (omega (arith, few))
+  up-few commands.Suspend plans none = let few = order-few commands.Suspend none in plain-few plan sound next s q 1200 (order_of plan s.kept commands.Suspend) (omega (arith, few))
+  up-few commands.Show plans none = plain-few plan sound next s q 1200 (order_of plan s.kept commands.Show) (omega arith)
+  up-few (commands.Tick n) plans none = plain-few plan sound next s q 0 (order_of plan s.kept (commands.Tick n)) (omega arith)
+  up-few (commands.Get name) plans none = let few = order-few (commands.Get name) none in plain-few plan sound next s q 1200 (order_of plan s.kept (commands.Get name)) (omega (arith, few))
+  up-few (commands.Params name p) plans none = let few = order-few (commands.Params name p) none in plain-few plan sound next s q 1200 (order_of plan s.kept (commands.Params name p)) (omega (arith, few))
+  up-few (commands.Start name) plans none = let few = order-few (commands.Start name) none in plain-few plan sound next s q 1200 (order_of plan s.kept (commands.Start name)) (omega (arith, few))
+  up-few (commands.Stop name) plans none = let few = order-few (commands.Stop name) none in plain-few plan sound next s q 1200 (order_of plan s.kept (commands.Stop name)) (omega (arith, few))
+  up-few (commands.Pause name) plans none = let few = order-few (commands.Pause name) none in plain-few plan sound next s q 1200 (order_of plan s.kept (commands.Pause name)) (omega (arith, few))
+  up-few (commands.Release name) plans none = let few = order-few (commands.Release name) none in plain-few plan sound next s q 1200 (order_of plan s.kept (commands.Release name)) (omega (arith, few))
+  up-few (commands.Refuse k e) plans none = absurd (cc plans)
+  up-few (commands.Drop k) plans none = absurd (cc plans)
+  up-few (commands.Lose k) plans none = absurd (cc plans)
+  up-few (commands.Lag k ticks) plans none = absurd (cc plans)
+
+-- ---- no last moment of a job is a boot
+
+module _ (plan : Plan) where
+  abbrev None_boots : Routine UpState DynamicAct → Type 0
+  None_boots routine = NoneBoots (up_act_rules plan) routine
+
+  unmaking-none : (done : UpState → UpState) (now : UpState) (o : Outcome) → None_boots (after_unmaking done now o)
+  unmaking-none done now (Ok passed) = refl
+  unmaking-none done now (Err fault) = refl
+
+  making-none : (host : ℕ) (ns : List ℕ) (now : UpState) (o : Outcome) → None_boots (after_making plan host ns now o)
+  making-none host ns now (Ok passed) = refl
+  making-none host ns now (Err (faults.Refused e)) = λ x p. unmaking-none (λ y. y) x p
+  making-none host ns now (Err faults.NotLoaded) = refl
+  making-none host ns now (Err faults.Loaded) = refl
+  making-none host ns now (Err (faults.NoSuch name)) = refl
+  making-none host ns now (Err (faults.State found)) = refl
+  making-none host ns now (Err faults.Off) = refl
+  making-none host ns now (Err (faults.Range k)) = refl
+  making-none host ns now (Err faults.LinkDown) = refl
+  making-none host ns now (Err (faults.Blob k)) = refl
+
+  opening-none : (s : UpState) (host : ℕ) (ns : List ℕ) (power : Power) → None_boots (opening_by power plan host ns s)
+  opening-none s host ns powers.On = λ now o. making-none host ns now o
+  opening-none s host ns powers.Off = refl
+  opening-none s host ns powers.Unloaded = refl
+
+  closed-none : (host : ℕ) (now : UpState) (o : Outcome) → None_boots (after_closing plan host now o)
+  closed-none host now (Ok passed) = λ x p. unmaking-none (with_stream_shut plan host) x p
+  closed-none host now (Err (faults.Refused e)) = refl
+  closed-none host now (Err faults.NotLoaded) = refl
+  closed-none host now (Err faults.Loaded) = refl
+  closed-none host now (Err (faults.NoSuch name)) = refl
+  closed-none host now (Err (faults.State found)) = refl
+  closed-none host now (Err faults.Off) = refl
+  closed-none host now (Err (faults.Range k)) = refl
+  closed-none host now (Err faults.LinkDown) = refl
+  closed-none host now (Err (faults.Blob k)) = refl
+
+  closing-none : (s : UpState) (host : ℕ) (found : Found) (power : Power) → None_boots (closing_by power plan host found s)
+  closing-none s host found powers.On = λ now o. closed-none host now o
+  closing-none s host found powers.Off = refl
+  closing-none s host found powers.Unloaded = refl
+
+  resuming-none : (before now : UpState) (o : Outcome) → None_boots (after_resuming before now o)
+  resuming-none before now (Ok passed) = refl
+  resuming-none before now (Err fault) = refl
+
+  plain-none : (s : UpState) (o : Order) → None_boots (plain_job plan s o).routine
+  plain-none s o now outcome = none-ended o.manner plan o.done s.kept now.kept outcome
+
+  pub up-none : (heap : ℕ) (s : UpState) (command : Command) → None_boots (up_job plan heap s command).routine
+  up-none heap s commands.Load = refl
+  up-none heap s commands.Unload = refl
+  up-none heap s commands.Resume = λ now o. resuming-none s now o
+  up-none heap s (commands.Open name) = opening-none s _ _ s.kept.power
+  up-none heap s (commands.Close name) = closing-none s _ _ s.kept.power
+  up-none heap s (commands.Set name values) = plain-none s (control_order plan s.up name (order_of plan s.kept (commands.Set name values)))
+  up-none heap s (commands.Bytes name blob) = plain-none s (control_order plan s.up name (order_of plan s.kept (commands.Bytes name blob)))
+  up-none heap s command = plain-none s (order_of plan s.kept command)

@@ -1,0 +1,245 @@
+-- A resume leads on: all that is up is made as if each stream were closed, and then each prepared stream has its parameters again.
+use Rattle.std.proofs.Common.{◌≡◌, refl, sym, ap, ◌∙◌, subst, ℕ, Bool, true, false, not, List, [], ◌∷◌, ◌++◌, map, filter, inl, inr, ◌⊎◌, ◌&&◌, Some, None, Ok, Err, append_assoc}
+use Rattle.std.specs.Prelude.{Option, IsTrue}
+use Rattle.std.specs.List.{zip, flat_map, list_any, list_all, AllByRecursion}
+use Rattle.std.proofs.lemmas.Bool.{true≢false, false≢true, false_from_ne_true}
+use Rattle.sof_base.specs.declared.format.Params.{Params}
+use Rattle.stream_law.specs.declared.graph.Graph.{Graph}
+use Rattle.stream_law.specs.declared.stream.Phase.{Phase}
+use Rattle.stream_law.specs.declared.stream.Phase.TheVariants as phases
+use Rattle.stream_law.specs.declared.stream.StreamView.{StreamView}
+use Rattle.stream_law.specs.State.{FwState, HeapView, View, view_of}
+use Rattle.stream_law.specs.Past.{Now}
+use Rattle.stream_law.specs.Silence.{is_silent}
+use Rattle.stream_law.specs.Viewing.{IsPlayable}
+use Rattle.stream_law.specs.Ways.{agree, active, is_live_phase, is_running_phase, on_way}
+use Rattle.stream_law.proofs.Members.{IsIn, any-in, kept-in}
+use Rattle.mbox_link.specs.Step.{row}
+use Rattle.tplg_plan.specs.declared.plans.Plan.{Plan}
+use Rattle.tplg_plan.specs.declared.plans.StreamPlan.{StreamPlan}
+use Rattle.tplg_plan.specs.Sound.{IsSound}
+use Rattle.host_widgets.specs.declared.answers.HostFault.TheVariants as faults
+use Rattle.host_widgets.specs.declared.kept.Found.{Found}
+use Rattle.host_widgets.specs.declared.kept.Found.TheVariants as founds
+use Rattle.host_widgets.specs.declared.kept.Power.TheVariants as powers
+use Rattle.host_widgets.specs.declared.kept.Record.{Record}
+use Rattle.host_widgets.specs.declared.kept.StreamRec.{StreamRec}
+use Rattle.host_widgets.specs.ActCalls.{next_of}
+use Rattle.host_widgets.specs.ActLists.{prepare_acts, prepare_by}
+use Rattle.host_widgets.specs.ActMessages.{act_message}
+use Rattle.host_widgets.specs.Expected.{stream_view, phase_of}
+use Rattle.host_widgets.specs.Host.{Outcome}
+use Rattle.host_widgets.specs.HostActs.{Act, Prepare}
+use Rattle.host_widgets.specs.HostRecord.{closed, may_have}
+use Rattle.host_widgets.specs.IdleStreams.{idle_view}
+use Rattle.host_widgets.specs.Walk.{walk}
+use Rattle.host_widgets.proofs.StandingOn.{LeadsOn}
+use Rattle.host_widgets.proofs.WalksHold.{ByLink}
+use Rattle.host_dynamic.specs.DynamicActs.{Ordinary, making_acts}
+use Rattle.host_dynamic.specs.There.{There, there_in, there_view, there_after, booted}
+use Rattle.host_dynamic.specs.Dynamic.{UpState, up_act_rules, after_resuming, resuming_job}
+use Rattle.host_dynamic.specs.UpStates.{IsUpState}
+use Rattle.host_dynamic.proofs.Needs.{in-left, in-right, in-either}
+use Rattle.host_dynamic.proofs.StageStays.{from-map}
+use Rattle.host_dynamic.proofs.UpContext.{IsServing}
+use Rattle.host_dynamic.proofs.UpLoading.{empty-stage}
+use Rattle.host_dynamic.proofs.UpMaking.{IsMaking, makes-up}
+use Rattle.host_dynamic.proofs.UpResuming.{LeavesStreams, making-leaves, other, over, kept-over, own-over, prepares-loose, none-closed, none-open, serves, brought, amid, rested, bare, bare-serves, bare_at, apart, once, Made, left, partly, partly-in, some-agree, still, may-be, stays-idle, rest-shown, next-in, prepared-there, own-prepared, kept-same, real, resuming-loose}
+use Rattle.host_dynamic.proofs.UpSending.{StagedFirst}
+use Rattle.host_dynamic.proofs.UpStages.{StreamPair, stage_graph, stage_streams, IsStage, up_stage}
+use Rattle.host_dynamic.proofs.UpWalks.{Runs}
+use Rattle.sof_session.proofs.UpStandsWalks.{AreLed, RowLeads, LeadsBy, IsCutThen, LeadsOver}
+use Rattle.sof_session.proofs.UpStandsLists.{PlaysAtStages, RowsAtStages, row-takes, making-led}
+
+-- parameters that are given again while nothing is Live leave what stood standing
+abbrev pub QuietRows : Plan → Type 0
+QuietRows plan = (host : ℕ) (params : Params) (f g : FwState) → IsTrue (is_silent (view_of f)) → IsTrue (is_silent (view_of g)) → agree (view_of g) ≡ true → row f (act_message plan (Prepare host params)) ≡ Ok g →
+    LeadsOn (Some f) (Some g) (Now (view_of g) None ∷ [])
+
+-- ---- nothing is Live
+
+none-any : {X : Type 0} (p : X → Bool) (xs : List X) → ((x : X) → IsIn x xs → p x ≡ false) → list_any p xs ≡ false
+none-any p xs each = false_from_ne_true (list_any p xs) (λ some. let r = any-in p xs some in true≢false (sym r.2 ∙ each r.0 r.1))
+
+is-quiet : (v : View) → ((s : StreamView) → IsIn s v.streams → is_live_phase s.phase ≡ false) → IsTrue (is_silent v)
+is-quiet v each = ap not (none-any (λ (s : StreamView). is_live_phase s.phase) v.streams each)
+
+running-live : (p : Phase) → is_live_phase p ≡ false → is_running_phase p ≡ false
+running-live phases.Running dead = dead
+running-live phases.Paused dead = refl
+running-live phases.Prepared dead = refl
+running-live phases.Idle dead = refl
+
+none-active : (v : View) (x : ℕ) → ((s : StreamView) → IsIn s v.streams → is_live_phase s.phase ≡ false) → active v x ≡ false
+unfolding active
+none-active v x each = none-any (λ (s : StreamView). is_running_phase s.phase && on_way v.graph s.host x) v.streams (λ s there.
+    ap (λ (b : Bool). b && on_way v.graph s.host x) (running-live s.phase (each s there)))
+
+-- a graph that is playable with some streams is so with streams that are not Live
+quiet-plays : (g : Graph) (before ss : List StreamView) → IsPlayable (record { graph = g; streams = before }) → ((s : StreamView) → IsIn s ss → is_live_phase s.phase ≡ false) → IsPlayable (record { graph = g; streams = ss })
+quiet-plays g before ss plays each = record {
+  ends = plays.ends;
+  ordered = plays.ordered;
+  fits = λ c among runs. absurd (true≢false (sym runs ∙ none-active (record { graph = g; streams = ss }) c each));
+}
+
+-- ---- acts over a record with other streams
+
+-- what leads on over the one does over the other, and so do those behind it
+led-over : (plan : Plan) (kept : Record) (streams : List StreamRec) (up : List ℕ) (Mid End : There → Type 0) (xs more : List Act) → AllByRecursion LeavesStreams xs → (t : There) →
+    AreLed plan false (over plan kept streams up (other plan kept streams up) t) (map Ordinary xs) → Runs plan Mid (over plan kept streams up (other plan kept streams up) t) (map Ordinary xs) End →
+    ((f : FwState) → StagedFirst (map Ordinary more) f) → ((x : There) → End x → AreLed plan false (over plan kept streams up kept x) (map Ordinary more)) → AreLed plan false (over plan kept streams up kept t) (map Ordinary (xs ++ more))
+led-over plan kept streams up Mid End [] more leaves t led runs loose then = then t runs
+led-over plan kept streams up Mid End (act ∷ xs) more leaves t led runs loose then = (
+  led.0,
+  λ f g same staged free done.
+      (let r : RowLeads plan false (over plan kept streams up (other plan kept streams up) t) (Ordinary act) (map Ordinary xs) g f = led.1 f g same staged (own-over plan kept streams up act leaves.0 t ∙ free) done in
+      record { there = r.there; leads = r.leads; staged = first xs g r.staged }),
+  λ free.
+      subst (λ (r : Record). AreLed plan false (over plan kept streams up r (there_after plan (Ordinary act) t)) (map Ordinary (xs ++ more))) (sym (kept-over plan kept streams up act leaves.0 runs.1))
+      (led-over plan kept streams up Mid End xs more leaves.1 (there_after plan (Ordinary act) t)
+      (subst (λ (r : Record). AreLed plan false (over plan kept streams up r (there_after plan (Ordinary act) t)) (map Ordinary xs)) runs.1 (led.2 (own-over plan kept streams up act leaves.0 t ∙ free)))
+      (runs.2 (own-over plan kept streams up act leaves.0 t ∙ free)) loose then),
+  λ on. absurd (false≢true on),
+)
+  where
+    first : (ys : List Act) (g : FwState) → StagedFirst (map Ordinary ys) g → StagedFirst (map Ordinary (ys ++ more)) g
+    first [] g staged = loose g
+    first (y ∷ ys) g staged = staged
+
+-- ---- a resume
+
+module _ (plan : Plan) (sound : IsSound plan) (s : UpState) (is : IsUpState plan s) (off : s.kept.power ≡ powers.Off) (plays : PlaysAtStages plan) (stage-rows : RowsAtStages plan) (quiet-rows : QuietRows plan) where
+  abbrev ps : List StreamPair
+  ps = zip plan.streams s.kept.streams
+
+  abbrev k : Graph
+  k = stage_graph plan s.kept (up_stage plan s.up)
+
+  abbrev some_of : List StreamPair → List StreamPair → List StreamView
+  some_of done rest = partly plan sound s is off done rest
+
+  -- none of the streams moves
+  some-still : (done rest : List StreamPair) → ((p : StreamPair) → IsIn p done → IsIn p ps) → (v : StreamView) → IsIn v (some_of done rest) → is_live_phase v.phase ≡ false
+  some-still done rest within v there = by (in-either (map stream_view (filter left_now done)) (map (λ (q : StreamPair). idle_view q.0.host) (filter left_now rest)) v there)
+    where
+      left_now : StreamPair → Bool
+      left_now = left plan sound s is off
+
+      by : IsIn v (map stream_view (filter left_now done)) ⊎ IsIn v (map (λ (q : StreamPair). idle_view q.0.host) (filter left_now rest)) → is_live_phase v.phase ≡ false
+      by (inl a) = let r = from-map stream_view (filter left_now done) v a in ap (λ (x : StreamView). is_live_phase x.phase) r.2 ∙ still plan sound s is off r.0 (within r.0 (kept-in left_now done r.0 r.1).0)
+      by (inr b) = let r = from-map (λ (q : StreamPair). idle_view q.0.host) (filter left_now rest) v b in ap (λ (x : StreamView). is_live_phase x.phase) r.2
+
+  whole-plays : IsPlayable (record { graph = k; streams = stage_streams plan s.kept (up_stage plan s.up) })
+  whole-plays = plays s.kept s.up [] (serves plan sound s is off) is.record_is.each (up_stage plan s.up) (amid plan sound s is off)
+
+  module _ (h : HeapView) where
+    abbrev at_part : List StreamPair → List StreamPair → There
+    at_part done rest = record { heap = h; graph = k; streams = some_of done rest }
+
+    part-plays : (done rest : List StreamPair) → ((p : StreamPair) → IsIn p done → IsIn p ps) → (t : There) → t ≡ at_part done rest → IsPlayable (there_view t)
+    part-plays done rest within t at =
+        subst IsPlayable (sym (ap there_view at)) (quiet-plays (stage_graph plan s.kept (up_stage plan s.up)) (stage_streams plan s.kept (up_stage plan s.up)) (some_of done rest) whole-plays (some-still done rest within))
+
+    part-silent : (done rest : List StreamPair) → ((p : StreamPair) → IsIn p done → IsIn p ps) → (f : FwState) → there_in f ≡ at_part done rest → IsTrue (is_silent (view_of f))
+    part-silent done rest within f at = subst (λ (t : There). IsTrue (is_silent (there_view t))) (sym at) (is-quiet (there_view (at_part done rest)) (some-still done rest within))
+
+    part-agrees : (done rest : List StreamPair) → ((p : StreamPair) → IsIn p done → IsIn p ps) → (f : FwState) → there_in f ≡ at_part done rest → agree (view_of f) ≡ true
+    part-agrees done rest within f at = ap (λ (t : There). agree (there_view t)) at ∙ some-agree plan sound s is off (some_of done rest) (partly-in plan sound s is off done rest within)
+
+    abbrev Next : List StreamPair → List StreamPair → StreamPair → Type 0
+    Next done rest q = (x : There) → x ≡ at_part (done ++ q ∷ []) rest → AreLed plan false (real plan sound s is off x) (map Ordinary (flat_map prepare_acts rest))
+
+    prepares-led : (done rest : List StreamPair) (t : There) → zip plan.streams s.kept.streams ≡ done ++ rest → t ≡ at_part done rest → AreLed plan false (real plan sound s is off t) (map Ordinary (flat_map prepare_acts rest))
+    prepares-led done [] t cut at = tt
+    prepares-led done (q ∷ rest) t cut at = by q.1.found q.1.params refl refl (λ x x_at. prepares-led (done ++ q ∷ []) rest x (cut ∙ sym (append_assoc done (q ∷ []) rest)) x_at)
+      where
+        q-there : IsIn q ps
+        q-there = subst (IsIn q) (sym cut) (in-right done (q ∷ rest) q (inl refl))
+
+        within : (p : StreamPair) → IsIn p done → IsIn p ps
+        within p there = subst (IsIn p) (sym cut) (in-left done (q ∷ rest) p there)
+
+        idly : (f : Found) → q.1.found ≡ f → phase_of f ≡ phases.Idle → ((o : Option Params) → may_have f o ≡ true → o ≡ None) → Next done rest q → AreLed plan false (real plan sound s is off t) (map Ordinary (flat_map prepare_acts rest))
+        idly f e at_rest none go =
+            let same : stream_view q ≡ idle_view q.0.host = λ i. record { host = q.0.host; phase = (ap phase_of e ∙ at_rest) i; params = none q.1.params (ap (λ (x : Found). may_have x q.1.params) (sym e) ∙ may-be plan sound s is off q q-there) i } in
+            go t (at ∙ (λ i. record { heap = h; graph = k; streams = stays-idle plan sound s is off done rest q same i }))
+
+        by : (f : Found) (o : Option Params) → q.1.found ≡ f → q.1.params ≡ o → Next done rest q → AreLed plan false (real plan sound s is off t) (map Ordinary (prepare_by q.0.host f o ++ flat_map prepare_acts rest))
+        by founds.Prepared (Some params) e p go = (
+          part-plays done (q ∷ rest) within t at,
+          λ f g same staged free passed.
+              (let taken : there_in g ≡ there_after plan (Ordinary (Prepare q.0.host params)) t = row-takes plan (real plan sound s is off t) (Ordinary (Prepare q.0.host params)) f g (own-prepared plan sound s is off done rest q cut params e p h t at f same) free passed in
+              let now : there_in g ≡ at_part (done ++ q ∷ []) rest = taken ∙ next-at in
+              record {
+                there = taken;
+                leads = subst (λ (x : There). LeadsOn (Some f) (Some g) (Now (there_view x) None ∷ [])) taken
+                    (quiet-rows q.0.host params f g (part-silent done (q ∷ rest) within f (same ∙ at)) (part-silent (done ++ q ∷ []) rest within-then g now) (part-agrees (done ++ q ∷ []) rest within-then g now) passed);
+                staged = prepares-loose rest g;
+              }),
+          λ free.
+              subst (λ (kept : Record). AreLed plan false (record { kept = kept; up = s.up; there = there_after plan (Ordinary (Prepare q.0.host params)) t }) (map Ordinary (flat_map prepare_acts rest))) (sym (kept-same plan sound s is off done rest q cut params e p))
+              (go (there_after plan (Ordinary (Prepare q.0.host params)) t) next-at),
+          λ on. absurd (false≢true on),
+        )
+          where
+            within-then : (x : StreamPair) → IsIn x (done ++ q ∷ []) → IsIn x ps
+            within-then = next-in plan sound s is off done rest q cut params e p
+
+            next-at : there_after plan (Ordinary (Prepare q.0.host params)) t ≡ at_part (done ++ q ∷ []) rest
+            next-at = ap (there_after plan (Ordinary (Prepare q.0.host params))) at ∙ prepared-there plan sound s is off done rest q cut params e p h
+        by founds.Prepared None e p go = absurd (false≢true ((λ i. may_have (sym e i) (sym p i)) ∙ may-be plan sound s is off q q-there))
+        by founds.Closed o e p go = idly founds.Closed e refl none-closed go
+        by founds.Open o e p go = idly founds.Open e refl none-open go
+        by founds.Running o e p go = absurd (true≢false (ap (λ (x : Found). is_live_phase (phase_of x)) (sym e) ∙ still plan sound s is off q q-there))
+        by founds.Paused o e p go = absurd (true≢false (ap (λ (x : Found). is_live_phase (phase_of x)) (sym e) ∙ still plan sound s is off q q-there))
+        by founds.On o e p go = absurd (false≢true (ap (λ (x : Found). may_have x q.1.params) (sym e) ∙ may-be plan sound s is off q q-there))
+
+  ready-led : (t : There) → Made plan sound s is off t → AreLed plan false (real plan sound s is off t) (map Ordinary (flat_map prepare_acts (zip plan.streams s.kept.streams)))
+  ready-led t at = prepares-led t.heap [] ps t refl (at.is ∙ (λ i. record { heap = t.heap; graph = k; streams = rest-shown plan sound s is off plan.streams s.kept.streams is.record_is.streams i }))
+
+  -- each stream may have no parameters
+  all-closed : (ss : List StreamPlan) → list_all (λ (r : StreamRec). may_have r.found r.params) (map (λ (x : StreamPlan). closed) ss) ≡ true
+  all-closed [] = refl
+  all-closed (x ∷ ss) = all-closed ss
+
+  all-led : (heap : ℕ) → AreLed plan false (real plan sound s is off (booted heap)) (map Ordinary (making_acts plan s.kept s.up ++ flat_map prepare_acts (zip plan.streams s.kept.streams)))
+  all-led heap =
+      led-over plan s.kept (rested plan sound s is off) s.up (IsMaking plan sound bare_now [] s.up bare-now-serves (apart plan sound s is off) (brought plan sound s is off) (once plan sound s is off)) (Made plan sound s is off) (making_acts plan s.kept s.up) (flat_map prepare_acts (zip plan.streams s.kept.streams))
+      (making-leaves plan s.kept s.up) (booted heap)
+      (making-led plan plays stage-rows sound bare_now [] s.up bare-now-serves (all-closed plan.streams) (apart plan sound s is off) (brought plan sound s is off) (once plan sound s is off) begun)
+      (makes-up plan sound bare_now [] s.up bare-now-serves (apart plan sound s is off) (brought plan sound s is off) (once plan sound s is off) begun)
+      (prepares-loose ps) ready-led
+    where
+      bare_now : UpState
+      bare_now = bare_at plan sound s is off (booted heap)
+
+      bare-now-serves : IsServing plan (bare plan sound s is off) []
+      bare-now-serves = bare-serves plan sound s is off
+
+      begun : IsStage plan (bare plan sound s is off) (up_stage plan []) (booted heap)
+      begun = empty-stage plan sound (bare plan sound s is off) heap
+
+  -- it ends once all passed, or the device is cut
+  resuming-ends : (now : UpState) (o : Outcome) → ByLink o (LeadsBy plan now (after_resuming s now o)) (IsCutThen (after_resuming s now o))
+  resuming-ends now (Ok passed) = inl refl
+  resuming-ends now (Err faults.LinkDown) = refl
+  resuming-ends now (Err faults.NotLoaded) = inr refl
+  resuming-ends now (Err faults.Loaded) = inr refl
+  resuming-ends now (Err (faults.NoSuch name)) = inr refl
+  resuming-ends now (Err (faults.State found)) = inr refl
+  resuming-ends now (Err faults.Off) = inr refl
+  resuming-ends now (Err (faults.Range n)) = inr refl
+  resuming-ends now (Err (faults.Refused e)) = inr refl
+  resuming-ends now (Err (faults.Blob n)) = inr refl
+
+  pub resuming-leads : (heap : ℕ) → LeadsBy plan (resuming_job plan heap s).from (resuming_job plan heap s).routine
+  resuming-leads heap = (
+    all-led heap,
+    resuming-loose plan sound s is off,
+    λ ms. let w = walk (up_act_rules plan) false next_of (real plan sound s is off (booted heap)) ms (map Ordinary (making_acts plan s.kept s.up ++ flat_map prepare_acts (zip plan.streams s.kept.streams))) in resuming-ends w.kept w.outcome,
+  )
+
+  -- over any device
+  pub resume-leads : (heap : ℕ) (device : Option FwState) → LeadsOver plan heap device (resuming_job plan heap s)
+  resume-leads heap device = inr (inl (refl, refl, resuming-leads heap))

@@ -23,6 +23,8 @@ pub const ROOM: u32 = 16777216;
 const HELP: &str = "\
 Forms:
   sof play HEAP TOPOLOGY SCRIPT   plays a script over the graph of a topology
+  sof dynamic HEAP TOPOLOGY SCRIPT
+                                  plays a script, with pipelines in the heap while streams need them
   sof check TOPOLOGY              tells what a topology has and needs
   sof graph TOPOLOGY              draws a topology, for Graphviz
   sof compile SOURCE OUT          makes a topology file from a source in TOML
@@ -124,6 +126,11 @@ fn print(rt: &HostRuntime, text: &str) -> u8 {
     }
 }
 
+// Whether a form plays a script without a trace.
+fn is_untraced(form: &str) -> bool {
+    form == "play" || form == "dynamic"
+}
+
 // Tells why the words led to a status, and what a script binds that is not what it seems; what memory is wanting for is left out.
 fn explain(rt: &HostRuntime, words: &[String], status: u8) -> Result<(), NoMemory> {
     if status == 1 {
@@ -138,7 +145,7 @@ fn explain(rt: &HostRuntime, words: &[String], status: u8) -> Result<(), NoMemor
         return Ok(());
     }
     match words {
-        [form, _, _, script] if form.as_str() == "play" => tell_waves(rt, script.as_str()),
+        [form, _, _, script] if is_untraced(form.as_str()) => tell_waves(rt, script.as_str()),
         [form, _, _, script, _] if form.as_str() == "trace" => tell_waves(rt, script.as_str()),
         _ => Ok(()),
     }

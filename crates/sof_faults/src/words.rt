@@ -50,9 +50,14 @@ enum Slot {
     File(&'static str),
 }
 
-const FORMS: [Form; 9] = [
+const FORMS: [Form; 10] = [
     Form {
         word: "play",
+        takes: "HEAP TOPOLOGY SCRIPT",
+        slots: &[Slot::Heap, Slot::File("TOPOLOGY"), Slot::File("SCRIPT")],
+    },
+    Form {
+        word: "dynamic",
         takes: "HEAP TOPOLOGY SCRIPT",
         slots: &[Slot::Heap, Slot::File("TOPOLOGY"), Slot::File("SCRIPT")],
     },

@@ -1,5 +1,6 @@
 -- A command over a tracer leaves the records of its deeds, where the device does nothing of its own accord.
 use Rattle.std.proofs.Common.{◌≡◌, refl, sym, ap, ◌∙◌, subst, ℕ, ◌+◌, ◌*◌, ◌≤◌, replicate, Bool, true, false, List, [], ◌∷◌, ◌++◌, length, Option, Some, None, Ok, Err, arith}
+use Rattle.std.proofs.lemmas.List.{append-nil}
 use Rattle.std.specs.Prelude.{is_some, if◌then◌else◌}
 use Rattle.stream_law.specs.Past as past
 use Rattle.stream_law.specs.Past.{Moment}
@@ -28,10 +29,12 @@ use Rattle.host_widgets.specs.declared.kept.Record.{Record}
 use Rattle.host_widgets.specs.Host.{Outcome, IsRecordOf}
 use Rattle.host_widgets.specs.HostActs.{Act}
 use Rattle.host_widgets.specs.ActMessages.{act_message}
-use Rattle.host_widgets.specs.OneAct.{Performed, one_act}
+use Rattle.host_widgets.specs.ActRules.{ActRules}
+use Rattle.host_widgets.specs.OneAct.{Performed, act_rules, one_act}
 use Rattle.host_widgets.specs.Walk.{Walked, goes_past, walk}
 use Rattle.host_widgets.specs.ActCalls.{ActDid, ActsDid, Onwards, calls_of, next_of}
 use Rattle.host_widgets.specs.Orders.{Order, Manner, Plain, Loading, Resuming, Suspending, Carried, goes_on_after_refusal, end_by, where_on, sends}
+use Rattle.host_widgets.specs.Routines.{JobDone, order_job, walk_routine}
 use Rattle.ipc3_trace.specs.Tracing.{Traced, tracer}
 use Rattle.ipc3_trace.specs.Steps.{Deed, Start, Stop, Wait}
 use Rattle.sof_script.specs.declared.script.Command.{Command}
@@ -39,7 +42,7 @@ use Rattle.sof_script.specs.declared.script.Command.TheVariants as commands
 use Rattle.sof_session.specs.Agreement.{IsFated}
 use Rattle.sof_session.specs.AskedOrders.{asked_order}
 use Rattle.sof_session.specs.CommandTests.{asking, fault_of}
-use Rattle.sof_session.specs.Commands.{is_plan, order_of}
+use Rattle.sof_session.specs.Commands.{command_rules, is_plan, order_of}
 use Rattle.sof_session.specs.SessionStep.{Calm, CallsBy, CommandDone, DidAsMet, known_of}
 use Rattle.sof_session.proofs.LinkFates.{Steady-none, exchange_fated, exchange_steady, exchange_sent, exchange_entries, Led-inside, Led-fated}
 use Rattle.sof_session.proofs.Carrying.{Quietly, quietly}
@@ -109,6 +112,9 @@ module _ {P : Type 0} (device : Meaning P) (C : Type 0) (plan : Plan) (heap : �
   abbrev T : Meaning (Traced P)
   T = tracer device
 
+  abbrev R : ActRules Record Act
+  R = act_rules plan heap
+
   abbrev L : World (Traced P) → World (Traced P) → List Deed → ℕ → Type 0
   L w v deeds most = Leaves device C w v deeds most
 
@@ -149,7 +155,7 @@ module _ {P : Type 0} (device : Meaning P) (C : Type 0) (plan : Plan) (heap : �
   abbrev next_due : Wire (Traced P) → Meeting × Queue
   next_due wire = next_meeting calm (queue_of wire)
 
-  module _ (kept : Record) (act : Act) (m : Meeting) (w v : World (Wire (Traced P))) (did : ActDid (link T) plan heap kept act m w v) (fated : IsFated w.device) (quiet : IsCalm w v) where
+  module _ (kept : Record) (act : Act) (m : Meeting) (w v : World (Wire (Traced P))) (did : ActDid (link T) R kept act m w v) (fated : IsFated w.device) (quiet : IsCalm w v) where
     abbrev request : List ℕ
     request = message_spelling (act_message plan act)
 
@@ -179,20 +185,20 @@ module _ {P : Type 0} (device : Meaning P) (C : Type 0) (plan : Plan) (heap : �
     deeds_at kept q acts = walk_deeds plan heap goes_on (next_meeting calm) kept q acts
 
     -- what comes behind an act, by what it came to and what is due then
-    abbrev behind : List Act → Performed × Queue → List Deed
+    abbrev behind : List Act → Performed Record × Queue → List Deed
     behind acts x = if goes_past goes_on x.0.outcome then deeds_at x.0.kept x.1 acts else []
 
-    module _ (kept : Record) (act : Act) (m : Meeting) (acts : List Act) (w mid : World (Wire (Traced P))) (did : ActDid (link T) plan heap kept act m w mid) (fated : IsFated w.device) (none : T.pending w.device.device ≡ 0)
+    module _ (kept : Record) (act : Act) (m : Meeting) (acts : List Act) (w mid : World (Wire (Traced P))) (did : ActDid (link T) R kept act m w mid) (fated : IsFated w.device) (none : T.pending w.device.device ≡ 0)
         (so : C → fate_met (next_fate w.device) Pass ≡ fate_met (next_fate w.device) m.fate) where
-      abbrev a : Performed
-      a = one_act plan heap kept act m
+      abbrev a : Performed Record
+      a = one_act R kept act m
 
       -- where the device does nothing of its own accord, the act came to what was due
-      same : C → ◌≡◌ {A = Performed × Queue} (a, queue_of mid.device) (one_act plan heap kept act (next_due w.device).0, (next_due w.device).1)
+      same : C → ◌≡◌ {A = Performed Record × Queue} (a, queue_of mid.device) (one_act R kept act (next_due w.device).0, (next_due w.device).1)
       same c =
-          let next = next-is T plan heap kept act m w mid did none fated.held calm (so c) in
-          let one = same-act T plan heap kept act m w mid did none fated.held in
-          λ i. ((one ∙ ap (λ (x : Meeting × Queue). one_act plan heap kept act x.0) (sym next)) i, (sym next i).1)
+          let next = next-is T R kept act m w mid did none fated.held calm (so c) in
+          let one = same-act T R kept act m w mid did none fated.held in
+          λ i. ((one ∙ ap (λ (x : Meeting × Queue). one_act R kept act x.0) (sym next)) i, (sym next i).1)
 
       pub tells : C → (b : Bool) → goes_past goes_on a.outcome ≡ b → (rest : List Deed) → rest ≡ (if b then deeds_at a.kept (queue_of mid.device) acts else []) →
           act_deeds plan act (next_due w.device).0 ++ rest ≡ deeds_at kept (queue_of w.device) (act ∷ acts)
@@ -200,10 +206,10 @@ module _ {P : Type 0} (device : Meaning P) (C : Type 0) (plan : Plan) (heap : �
           ap (λ (d : List Deed). act_deeds plan act (next_due w.device).0 ++ d)
           (is ∙ ap (λ (t : Bool). if t then deeds_at a.kept (queue_of mid.device) acts else []) (sym goes) ∙ ap (behind acts) (same c))
 
-    module _ (kept : Record) (act : Act) (m : Meeting) (acts : List Act) (ms : List Meeting) (w mid v : World (Wire (Traced P))) (did : ActDid (link T) plan heap kept act m w mid) (fated : IsFated w.device) (none : T.pending w.device.device ≡ 0) (quiet : IsCalm w v)
+    module _ (kept : Record) (act : Act) (m : Meeting) (acts : List Act) (ms : List Meeting) (w mid v : World (Wire (Traced P))) (did : ActDid (link T) R kept act m w mid) (fated : IsFated w.device) (none : T.pending w.device.device ≡ 0) (quiet : IsCalm w v)
         (so : C → DidSo calm w.device.sent w.device.entries (m ∷ ms)) where
-      abbrev made : Performed
-      made = one_act plan heap kept act m
+      abbrev made : Performed Record
+      made = one_act R kept act m
 
       abbrev asked : List ℕ
       asked = message_spelling (act_message plan act)
@@ -228,10 +234,10 @@ module _ {P : Type 0} (device : Meaning P) (C : Type 0) (plan : Plan) (heap : �
       ends : Steady T v.device.device v.device.device
       ends = Steady-none T v.device.device v.device.device refl
 
-      pub walk-on : (b : Bool) → goes_past goes_on made.outcome ≡ b → (ActsDid (link T) plan heap goes_on made.kept acts ms mid v → IsCalm mid v → L (inner mid) (inner v) (deeds_at made.kept (queue_of mid.device) acts) (912 * length acts)) →
-          Onwards b ms mid v (ActsDid (link T) plan heap goes_on made.kept acts ms mid v) → L (inner w) (inner v) (deeds_at kept (queue_of w.device) (act ∷ acts)) (912 * length (act ∷ acts))
+      pub walk-on : (b : Bool) → goes_past goes_on made.outcome ≡ b → (ActsDid (link T) R goes_on made.kept acts ms mid v → IsCalm mid v → L (inner mid) (inner v) (deeds_at made.kept (queue_of mid.device) acts) (912 * length acts)) →
+          Onwards b ms mid v (ActsDid (link T) R goes_on made.kept acts ms mid v) → L (inner w) (inner v) (deeds_at kept (queue_of w.device) (act ∷ acts)) (912 * length (act ∷ acts))
       walk-on true goes others on =
-          let rest_steady = acts-steady T plan heap goes_on acts ms made.kept mid v on in
+          let rest_steady = acts-steady T R goes_on acts ms made.kept mid v on in
           let here = first (λ c. Calm-between T w.device.device w.device.device mid.device.device v.device.device begins rest_steady (quiet c)) in
           let rest = others on (λ c. Calm-between T w.device.device mid.device.device v.device.device v.device.device first-steady ends (quiet c)) in
           within device C (inner w) (inner v) (deeds_at kept (queue_of w.device) (act ∷ acts)) (912 + 912 * length acts) (912 * length (act ∷ acts)) (omega arith)
@@ -247,14 +253,14 @@ module _ {P : Type 0} (device : Meaning P) (C : Type 0) (plan : Plan) (heap : �
           (λ c. tells kept act m acts w mid did fated none (λ d. (so d).0) c false goes [] refl)
           (append-leaves device C (inner w) (inner mid) (inner v) (act_deeds plan act (next_due w.device).0) [] 912 0 here none_behind))
 
-    pub walk-leaves : (acts : List Act) (ms : List Meeting) (kept : Record) (w v : World (Wire (Traced P))) → ActsDid (link T) plan heap goes_on kept acts ms w v → IsFated w.device → T.pending w.device.device ≡ 0 → IsCalm w v →
+    pub walk-leaves : (acts : List Act) (ms : List Meeting) (kept : Record) (w v : World (Wire (Traced P))) → ActsDid (link T) R goes_on kept acts ms w v → IsFated w.device → T.pending w.device.device ≡ 0 → IsCalm w v →
         (C → DidSo calm w.device.sent w.device.entries ms) → L (inner w) (inner v) (deeds_at kept (queue_of w.device) acts) (912 * length acts)
     walk-leaves [] ms kept w v did fated none quiet so = within device C (inner w) (inner v) [] 0 (912 * 0) (omega arith) (none-leaves device C (inner w) (inner v) (ap (λ (x : World (Wire (Traced P))). inner x) did.1))
     walk-leaves (act ∷ acts) [] kept w v did fated none quiet so = absurd did
     walk-leaves (act ∷ acts) (m ∷ ms) kept w v did fated none quiet so =
-        let a = one_act plan heap kept act m in
+        let a = one_act R kept act m in
         walk-on kept act m acts ms w did.0 v did.1 fated none quiet so (goes_past goes_on a.outcome) refl
-        (λ on still. walk-leaves acts ms a.kept did.0 v on (later-fated kept act m acts ms w did.0 v did.1 fated none quiet so) (still-quiet T plan heap kept act m w did.0 did.1 none fated.held) still
+        (λ on still. walk-leaves acts ms a.kept did.0 v on (later-fated kept act m acts ms w did.0 v did.1 fated none quiet so) (still-quiet T R kept act m w did.0 did.1 none fated.held) still
         (later-so kept act m acts ms w did.0 v did.1 fated none quiet so)) did.2
 
   -- ---- an order
@@ -264,14 +270,14 @@ module _ {P : Type 0} (device : Meaning P) (C : Type 0) (plan : Plan) (heap : �
     abbrev goes_on : Bool
     goes_on = goes_on_after_refusal o.manner
 
-    abbrev last_of : {Q : Type 0} → Walked Q → List Moment
+    abbrev last_of : {Q : Type 0} → Walked Record Act Q → List Moment
     last_of x = (end_by o.manner plan o.done kept x.kept x.outcome).1
 
-    abbrev met : Walked (List Meeting)
-    met = walk plan heap goes_on next_of kept c.meetings o.acts
+    abbrev met : Walked Record Act (List Meeting)
+    met = walk R goes_on next_of kept c.meetings o.acts
 
-    abbrev written : Queue → Walked Queue
-    written q = walk plan heap goes_on (next_meeting calm) kept q o.acts
+    abbrev written : Queue → Walked Record Act Queue
+    written q = walk R goes_on (next_meeting calm) kept q o.acts
 
     before : Quietly T heap w c.begun
     before = quietly T heap o.first w c.begun c.first
@@ -299,7 +305,7 @@ module _ {P : Type 0} (device : Meaning P) (C : Type 0) (plan : Plan) (heap : �
     -- the last moments are those that the written walk ends with
     same-last : C → last_of met ≡ last_of (written (queue_of w.device))
     same-last x =
-        let agreed = walks-agree T plan heap goes_on calm o.acts c.meetings kept c.begun c.sent c.walked begun_none begun_fated.held (begun_so x) in
+        let agreed = walks-agree T R goes_on calm o.acts c.meetings kept c.begun c.sent c.walked begun_none begun_fated.held (begun_so x) in
         (λ i. (end_by o.manner plan o.done kept (agreed.same.left i) (agreed.same.outcome i)).1) ∙ ap (λ (q : Queue). last_of (written q)) before.queue
 
     pub order-leaves : length o.first ≤ 1 → L (inner w) (inner v) (order_deeds plan heap (known_of w.device kept) o) (784 + 912 * length o.acts)
@@ -331,8 +337,27 @@ met-calm doing none sent entries (m ∷ ms) as_met =
     by Drop is = refl
     by Lose is = refl
 
+-- An order whose job is done was carried out, and its messages met the same.
+job-met : {D : Type 0} (means : Meaning D) (plan : Plan) (heap : ℕ) (o : Order) (kept kept' : Record) (w v : World D) (result : Outcome) (j : JobDone means (act_rules plan heap) heap (order_job plan kept o) kept' w v result) →
+    (c : Carried means plan heap o kept kept' w v result) × (j.meetings ≡ c.meetings)
+job-met means plan heap o kept kept' w v result j =
+    let early = j.did.0 in
+    let rest = j.did.5 in
+    let same : j.meetings ≡ early = j.did.3 ∙ ap (λ (ms : List Meeting). early ++ ms) rest.0 ∙ append-nil early in (
+      record {
+        meetings = early;
+        begun = j.begun;
+        sent = j.did.2;
+        first = j.first;
+        walked = j.did.4;
+        came = j.came ∙ ap (λ (ms : List Meeting). (walk_routine (act_rules plan heap) next_of kept ms (order_job plan kept o).routine).outcome) same;
+        ends = (j.left ∙ ap (λ (ms : List Meeting). (walk_routine (act_rules plan heap) next_of kept ms (order_job plan kept o).routine).kept) same, rest.1);
+      },
+      same,
+    )
+
 module _ {P : Type 0} (device : Meaning P) (plan : Plan) (heap : ℕ) (command : Command) (kept kept' : Record) (w v : World (Wire (Traced P))) (answer : Answer) (sound : IsSound plan) (is : IsRecordOf plan kept) (fated : IsFated w.device)
-    (none : (tracer device).pending w.device.device ≡ 0) (done : CommandDone (tracer device) plan heap command kept kept' w v answer) where
+    (none : (tracer device).pending w.device.device ≡ 0) (done : CommandDone (tracer device) (command_rules plan heap) heap command kept kept' w v answer) where
   abbrev C : Type 0
   C = Calm (tracer device) w.device.device v.device.device
 
@@ -346,16 +371,18 @@ module _ {P : Type 0} (device : Meaning P) (plan : Plan) (heap : ℕ) (command :
   still : inner v ≡ inner w → Left []
   still same = within device C (inner w) (inner v) [] 0 1048576 (omega arith) (none-leaves device C (inner w) (inner v) same)
 
-  calls-leave : (is_planned : Bool) (fault : Option HostFault) → fault_of plan kept command ≡ fault → CallsBy (tracer device) plan heap done.doing o kept kept' w v answer is_planned fault →
+  calls-leave : (is_planned : Bool) (fault : Option HostFault) → fault_of plan kept command ≡ fault → CallsBy (tracer device) (act_rules plan heap) heap done.doing (order_job plan kept o) kept' w v answer is_planned fault →
       Left (deeds_by plan heap (known_of w.device kept) o is_planned fault)
   calls-leave true fault at by = still (λ i. record { device = by.0 i; io = by.1 i })
   calls-leave false (Some fault) at by = still (ap (λ (x : World (Wire (Traced P))). inner x) by)
   calls-leave false None at by =
-      let c = by.1 in
+      let carried = job-met (link (tracer device)) plan heap o kept kept' w v by.0 by.1 in
+      let c = carried.0 in
+      let met : DidAsMet done.doing (queue_of w.device) c.meetings = subst (DidAsMet done.doing (queue_of w.device)) carried.1 by.3 in
       let few : length (due o (fault_of plan kept command)) ≤ 900 = omega (arith, few-order plan sound command kept is, few-most command) in
       let acts : length o.acts ≤ 900 = subst (λ (f : Option HostFault). length (due o f) ≤ 900) at few in
       within device C (inner w) (inner v) (order_deeds plan heap (known_of w.device kept) o) (784 + 912 * length o.acts) 1048576 (omega (arith, acts))
-      (order-leaves device C plan heap o kept kept' w v by.0 c fated none (λ x. x) (λ x. met-calm done.doing (done.none x) w.device.sent w.device.entries c.meetings by.3) (first-few plan sound kept is command at))
+      (order-leaves device C plan heap o kept kept' w v by.0 c fated none (λ x. x) (λ x. met-calm done.doing (done.none x) w.device.sent w.device.entries c.meetings met) (first-few plan sound kept is command at))
 
   pub command-leaves : Left (command_deeds plan heap (known_of w.device kept) command)
   command-leaves = calls-leave (is_plan command) (fault_of plan kept command) refl done.calls

@@ -1,6 +1,8 @@
 -- The commands and their lines, one after another.
 use Rattle.std.proofs.Common.{◌≡◌, ◌⊎◌, inl, inr, ℕ, suc, ◌≤◌, ◌+◌, ◌-◌, ◌<◌, Bool, true, false, List, [], ◌∷◌, ◌++◌, length, drop, get_or, Option, Some, None, MatchOption, refl, sym, ◌∙◌, ap, subst, arith}
+use Rattle.std.specs.Prelude.{is_some, unwrap_or}
 use Rattle.std.specs.List.{slice_get}
+use Rattle.std.proofs.lemmas.Bool.{true≢false, false≢true}
 use Rattle.std.proofs.lemmas.List.{drop_more, drop_all}
 use Rattle.std.proofs.lemmas.Option.{slice_get_within, get_or_from_slice_get, slice_get_cases}
 use Rattle.sof_desk.specs.Desk.{DeskMeaning, Put, Spoken, Acted}
@@ -15,12 +17,14 @@ use Rattle.sof_script.specs.declared.script.Command.{Command}
 use Rattle.sof_script.specs.declared.script.Command.TheVariants as commands
 use Rattle.sof_script.specs.declared.script.Numbered.{Numbered}
 use Rattle.host_widgets.specs.declared.kept.Record.{Record}
+use Rattle.host_dynamic.specs.Dynamic.{UpState}
 use Rattle.tplg_plan.specs.declared.plans.Plan.{Plan}
-use Rattle.sof_session.specs.Commands.{Known}
+use Rattle.sof_session.specs.Commands.{Known, command_rules}
 use Rattle.sof_session.specs.Agreement.{AreAgreed}
 use Rattle.sof_session.specs.Seat.{Seat, with_device}
 use Rattle.sof_session.specs.SessionStep.{CommandDone}
-use Rattle.sof_session.specs.Show.{show_lines, shown_by}
+use Rattle.sof_session.specs.Modes.{SteppedBy, DoneWith, up_state_of, lines_in, shown_in}
+use Rattle.sof_session.specs.UpCommands.{up_rules}
 use Rattle.sof_session.specs.ShownLines.{IsLineAt}
 use Rattle.sof_session.specs.Fills.{input_ends}
 use Rattle.sof_session.specs.Written.{Out, Written, with_bytes, written_in}
@@ -94,8 +98,8 @@ module _ {D : Type 0} (means : DeskMeaning D) where
       so_far rest turns status end (subst (λ xs. Played means (lines_todo xs rest) new turns status end) (sym (drop_all k lines (past lines k line is))) played)
 
   -- what a command shows: nothing, or how everything stands
-  module _ (plan : Plan) (kept : Record) where
-    pub shown_none : (command : Command) (old : D) → is_show command ≡ false → DeskPhase means (lines_todo (shown_by command plan kept)) true old old
+  module _ (up : Option (List ℕ)) (plan : Plan) (kept : Record) where
+    pub shown_none : (command : Command) (old : D) → is_show command ≡ false → DeskPhase means (lines_todo (shown_in command up plan kept)) true old old
     shown_none commands.Load old is = none_said old
     shown_none commands.Unload old is = none_said old
     shown_none commands.Suspend old is = none_said old
@@ -118,7 +122,7 @@ module _ {D : Type 0} (means : DeskMeaning D) where
     shown_none (commands.Lose k) old is = none_said old
     shown_none (commands.Lag k t) old is = none_said old
 
-    pub shown_all : (command : Command) (done : Bool) (old new : D) → is_show command ≡ true → DeskPhase means (lines_todo (show_lines plan kept)) done old new → DeskPhase means (lines_todo (shown_by command plan kept)) done old new
+    pub shown_all : (command : Command) (done : Bool) (old new : D) → is_show command ≡ true → DeskPhase means (lines_todo (lines_in up plan kept)) done old new → DeskPhase means (lines_todo (shown_in command up plan kept)) done old new
     shown_all commands.Load done old new is phase = absurd (cc is)
     shown_all commands.Unload done old new is phase = absurd (cc is)
     shown_all commands.Suspend done old new is phase = absurd (cc is)
@@ -234,43 +238,61 @@ module _ {D : Type 0} (means : DeskMeaning D) where
           so_far rest 3 new q (subst (λ x. todo.RanOn means by x m r 3 new q) (sym (here rest)) (failed (commands_todo (drop (i + 1) script) rest)))
 
 -- a command leaves what it shows
-pub shown_same : (command : Command) (plan plan' : Plan) (kept kept' : Record) → plan' ≡ plan → (command ≡ commands.Show → kept' ≡ kept) → shown_by command plan' kept' ≡ shown_by command plan kept
-shown_same commands.Load plan plan' kept kept' over same = refl
-shown_same commands.Unload plan plan' kept kept' over same = refl
-shown_same commands.Suspend plan plan' kept kept' over same = refl
-shown_same commands.Resume plan plan' kept kept' over same = refl
-shown_same commands.Show plan plan' kept kept' over same = λ i. show_lines (over i) (same refl i)
-shown_same (commands.Open n) plan plan' kept kept' over same = refl
-shown_same (commands.Start n) plan plan' kept kept' over same = refl
-shown_same (commands.Stop n) plan plan' kept kept' over same = refl
-shown_same (commands.Pause n) plan plan' kept kept' over same = refl
-shown_same (commands.Release n) plan plan' kept kept' over same = refl
-shown_same (commands.Close n) plan plan' kept kept' over same = refl
-shown_same (commands.Get n) plan plan' kept kept' over same = refl
-shown_same (commands.Read n) plan plan' kept kept' over same = refl
-shown_same (commands.Params n p) plan plan' kept kept' over same = refl
-shown_same (commands.Set n v) plan plan' kept kept' over same = refl
-shown_same (commands.Bytes n b) plan plan' kept kept' over same = refl
-shown_same (commands.Tick t) plan plan' kept kept' over same = refl
-shown_same (commands.Refuse k e) plan plan' kept kept' over same = refl
-shown_same (commands.Drop k) plan plan' kept kept' over same = refl
-shown_same (commands.Lose k) plan plan' kept kept' over same = refl
-shown_same (commands.Lag k t) plan plan' kept kept' over same = refl
+pub shown_same : (command : Command) (up up' : Option (List ℕ)) (plan plan' : Plan) (kept kept' : Record) → plan' ≡ plan → (command ≡ commands.Show → (kept' ≡ kept) × (up' ≡ up)) → shown_in command up' plan' kept' ≡ shown_in command up plan kept
+shown_same commands.Load up up' plan plan' kept kept' over same = refl
+shown_same commands.Unload up up' plan plan' kept kept' over same = refl
+shown_same commands.Suspend up up' plan plan' kept kept' over same = refl
+shown_same commands.Resume up up' plan plan' kept kept' over same = refl
+shown_same commands.Show up up' plan plan' kept kept' over same = let both = same refl in λ i. lines_in (both.1 i) (over i) (both.0 i)
+shown_same (commands.Open n) up up' plan plan' kept kept' over same = refl
+shown_same (commands.Start n) up up' plan plan' kept kept' over same = refl
+shown_same (commands.Stop n) up up' plan plan' kept kept' over same = refl
+shown_same (commands.Pause n) up up' plan plan' kept kept' over same = refl
+shown_same (commands.Release n) up up' plan plan' kept kept' over same = refl
+shown_same (commands.Close n) up up' plan plan' kept kept' over same = refl
+shown_same (commands.Get n) up up' plan plan' kept kept' over same = refl
+shown_same (commands.Read n) up up' plan plan' kept kept' over same = refl
+shown_same (commands.Params n p) up up' plan plan' kept kept' over same = refl
+shown_same (commands.Set n v) up up' plan plan' kept kept' over same = refl
+shown_same (commands.Bytes n b) up up' plan plan' kept kept' over same = refl
+shown_same (commands.Tick t) up up' plan plan' kept kept' over same = refl
+shown_same (commands.Refuse k e) up up' plan plan' kept kept' over same = refl
+shown_same (commands.Drop k) up up' plan plan' kept kept' over same = refl
+shown_same (commands.Lose k) up up' plan plan' kept kept' over same = refl
+shown_same (commands.Lag k t) up up' plan plan' kept kept' over same = refl
 
-pub show_stays : {P : Type 0} (means : Meaning P) (plan : Plan) (heap : ℕ) (command : Command) (kept kept' : Record) (w v : World (Wire P)) (answer : Answer) → CommandDone means plan heap command kept kept' w v answer → command ≡ commands.Show → kept' ≡ kept
-show_stays means plan heap command kept kept' w v answer stepped is =
-    let shows : CommandDone means plan heap commands.Show kept kept' w v answer = subst (λ (c : Command). CommandDone means plan heap c kept kept' w v answer) is stepped in
-    ap (λ (k : Known). k.kept) shows.known_is
+none-up : (o : Option (List ℕ)) → is_some o ≡ false → o ≡ None
+none-up None is = refl
+none-up (Some up) is = absurd (true≢false is)
+
+some-up : (o : Option (List ℕ)) → is_some o ≡ true → o ≡ Some (unwrap_or o [])
+some-up None is = absurd (false≢true is)
+some-up (Some up) is = refl
+
+-- and one that shows leaves the record and what is up
+pub show_stays : {P : Type 0} (means : Meaning P) (command : Command) (seat seat' : Seat P) (w v : World (Wire P)) (answer : Answer) → SteppedBy means command seat seat' w v answer → command ≡ commands.Show → (seat'.kept ≡ seat.kept) × (seat'.up ≡ seat.up)
+show_stays means command seat seat' w v answer stepped is = by seat.up refl stepped.did
+  where
+    by : (up : Option (List ℕ)) → seat.up ≡ up → DoneWith means stepped.doing up command seat seat' w v answer → (seat'.kept ≡ seat.kept) × (seat'.up ≡ seat.up)
+    by None at did =
+        let shows : CommandDone means (command_rules seat.plan seat.heap) seat.heap commands.Show seat.kept seat'.kept w v answer = subst (λ (c : Command). CommandDone means (command_rules seat.plan seat.heap) seat.heap c seat.kept seat'.kept w v answer) is did.0.done in
+        (ap (λ (k : Known Record). k.kept) shows.known_is, none-up seat'.up did.0.stays ∙ sym at)
+    by (Some up) at did =
+        let shows : CommandDone means (up_rules seat.plan seat.heap) seat.heap commands.Show (up_state_of means seat) (up_state_of means seat') w v answer =
+        subst (λ (c : Command). CommandDone means (up_rules seat.plan seat.heap) seat.heap c (up_state_of means seat) (up_state_of means seat') w v answer) is did.0.done in (
+          ap (λ (k : Known UpState). k.kept.kept) shows.known_is,
+          some-up seat'.up did.0.stays ∙ ap Some (ap (λ (k : Known UpState). k.kept.up) shows.known_is ∙ ap (λ (o : Option (List ℕ)). unwrap_or o []) at) ∙ sym at,
+        )
 
 -- a session's step is a turn
 pub carries_on : {P : Type 0} (means : Meaning P) (command : Command) (seat seat' : Seat P) (inputs inputs' : List InputView) (outputs outputs' : List OutputView) (answer : Answer) →
-    drained outputs ≡ outputs → CommandDone means seat.plan seat.heap command seat.kept seat'.kept (world seat.link inputs outputs) (world seat'.link inputs' outputs') answer → input_ends inputs' ≡ input_ends inputs → seat'.plan ≡ seat.plan → seat'.heap ≡ seat.heap → AreAgreed means seat' →
-    Turned means (Carry command) (record { answer = answer; shown = shown_by command seat.plan seat.kept; written = written_in outputs' }) (Seated seat inputs (output_slots outputs)) (Seated seat' inputs' (output_slots outputs))
+    drained outputs ≡ outputs → SteppedBy means command seat seat' (world seat.link inputs outputs) (world seat'.link inputs' outputs') answer → input_ends inputs' ≡ input_ends inputs → seat'.plan ≡ seat.plan → seat'.heap ≡ seat.heap → AreAgreed means seat' →
+    Turned means (Carry command) (record { answer = answer; shown = shown_in command seat.up seat.plan seat.kept; written = written_in outputs' }) (Seated seat inputs (output_slots outputs)) (Seated seat' inputs' (output_slots outputs))
 carries_on means command seat seat' inputs inputs' outputs outputs' answer empty stepped ends plan heap agreed = (
   refl,
   record {
     outputs = outputs';
-    stepped = subst (λ (xs : List OutputView). CommandDone means seat.plan seat.heap command seat.kept seat'.kept (world seat.link inputs xs) (world seat'.link inputs' outputs') answer) (sym (empty-outputs outputs empty)) stepped;
+    stepped = subst (λ (xs : List OutputView). SteppedBy means command seat seat' (world seat.link inputs xs) (world seat'.link inputs' outputs') answer) (sym (empty-outputs outputs empty)) stepped;
     shown = refl;
     written = refl;
     ends = ends;
@@ -282,13 +304,13 @@ carries_on means command seat seat' inputs inputs' outputs outputs' answer empty
 
 -- and what its device holds is written before all else, and let go
 pub kept_on : {K : Type 0} (means : Meaning K) (holds : K → List ℕ) (empties : K → K → Type 0) (command : Command) (seat left seat' : Seat K) (inputs inputs' : List InputView) (outputs outputs' : List OutputView) (answer : Answer) →
-    drained outputs ≡ outputs → CommandDone means seat.plan seat.heap command seat.kept left.kept (world seat.link inputs outputs) (world left.link inputs' outputs') answer → input_ends inputs' ≡ input_ends inputs → left.plan ≡ seat.plan → left.heap ≡ seat.heap → AreAgreed means left →
+    drained outputs ≡ outputs → SteppedBy means command seat left (world seat.link inputs outputs) (world left.link inputs' outputs') answer → input_ends inputs' ≡ input_ends inputs → left.plan ≡ seat.plan → left.heap ≡ seat.heap → AreAgreed means left →
     Drained means empties left.link.device seat'.link.device → seat' ≡ with_device left seat'.link.device →
-    KeptTurn means holds empties (Carry command) (record { answer = answer; shown = shown_by command seat.plan seat.kept; written = with_bytes trace_slot (holds left.link.device) (written_in outputs') })
+    KeptTurn means holds empties (Carry command) (record { answer = answer; shown = shown_in command seat.up seat.plan seat.kept; written = with_bytes trace_slot (holds left.link.device) (written_in outputs') })
     (Seated seat inputs (output_slots outputs)) (Seated seat' inputs' (output_slots outputs))
 kept_on means holds empties command seat left seat' inputs inputs' outputs outputs' answer empty stepped ends plan heap agreed emptied rest = record {
   left = left;
-  bare = record { answer = answer; shown = shown_by command seat.plan seat.kept; written = written_in outputs' };
+  bare = record { answer = answer; shown = shown_in command seat.up seat.plan seat.kept; written = written_in outputs' };
   turned = carries_on means command seat left inputs inputs' outputs outputs' answer empty stepped ends plan heap agreed;
   out_is = refl;
   emptied = emptied;

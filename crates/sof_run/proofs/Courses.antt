@@ -191,34 +191,34 @@ acts-same : (acts : List DeskAct) (rest : Todo) (heard : List Heard) (turns : Li
 acts-same [] rest heard turns = refl
 acts-same (act ∷ acts) rest heard turns = ap (before_course (Calls (Did act true) ∷ [])) (acts-same acts rest heard turns)
 
-abbrev session : ℕ → Option (List ℕ) → Plan → ReadScript → List Turn → Course
-session heap trace plan read turns =
+abbrev session : Bool → ℕ → Option (List ℕ) → Plan → ReadScript → List Turn → Course
+session on_use heap trace plan read turns =
     bindings plan read.bindings
     (before_course (map (λ act. Calls (Did act true)) (trace_acts trace))
-    (turning (Begin plan heap (bound_inputs plan [] read.bindings) (bound_slots plan read.bindings)) turns (λ out turns. units (rounds_of read.commands) turns)))
+    (turning (Begin on_use plan heap (bound_inputs plan [] read.bindings) (bound_slots plan read.bindings)) turns (λ out turns. units (rounds_of read.commands) turns)))
 
-session-same : (heap : ℕ) (trace : Option (List ℕ)) (plan : Plan) (read : ReadScript) (heard : List Heard) (turns : List Turn) → unrolled (ready_todo heap trace plan read) heard turns ≡ session heap trace plan read turns
-session-same heap trace plan read heard turns =
+session-same : (on_use : Bool) (heap : ℕ) (trace : Option (List ℕ)) (plan : Plan) (read : ReadScript) (heard : List Heard) (turns : List Turn) → unrolled (ready_todo on_use heap trace plan read) heard turns ≡ session on_use heap trace plan read turns
+session-same on_use heap trace plan read heard turns =
     let inputs = bound_inputs plan [] read.bindings in
     let slots = bound_slots plan read.bindings in
-    let whole = session_todo heap plan read.commands inputs slots in
+    let whole = session_todo on_use heap plan read.commands inputs slots in
     bindings-same plan read.bindings (traced_todo trace whole) heard turns
     ∙ ap (bindings plan read.bindings) (
     acts-same (trace_acts trace) whole heard turns
-    ∙ ap (before_course (map (λ act. Calls (Did act true)) (trace_acts trace))) (turning-same (Begin plan heap inputs slots) turns _ _ (λ out turns. units-same (rounds_of read.commands) heard turns))
+    ∙ ap (before_course (map (λ act. Calls (Did act true)) (trace_acts trace))) (turning-same (Begin on_use plan heap inputs slots) turns _ _ (λ out turns. units-same (rounds_of read.commands) heard turns))
     )
 
-files-same : (heap : ℕ) (trace : Option (List ℕ)) (r : Result (Topology × ReadScript) Halt) (heard : List Heard) (turns : List Turn) → unrolled (prepared_todo heap trace (as_prepared r)) heard turns ≡ files heap trace r turns
-files-same heap trace (Err why) heard turns = refl
-files-same heap trace (Ok (t, read)) heard turns = session-same heap trace (plan_of t) read heard turns
+files-same : (on_use : Bool) (heap : ℕ) (trace : Option (List ℕ)) (r : Result (Topology × ReadScript) Halt) (heard : List Heard) (turns : List Turn) → unrolled (prepared_todo on_use heap trace (as_prepared r)) heard turns ≡ files on_use heap trace r turns
+files-same on_use heap trace (Err why) heard turns = refl
+files-same on_use heap trace (Ok (t, read)) heard turns = session-same on_use heap trace (plan_of t) read heard turns
 
 -- the files by the run that they make
 module _ (form : Form) (topology script : List ℕ) (heard last : List Heard) (turns : List Turn) (brought : heard ≡ Ok topology ∷ Ok script ∷ last) where
-  brought-same : unrolled (prepared_todo form.heap form.trace (prepared topology script)) last turns ≡ files form.heap form.trace (run_heard heard) turns
+  brought-same : unrolled (prepared_todo form.on_use form.heap form.trace (prepared topology script)) last turns ≡ files form.on_use form.heap form.trace (run_heard heard) turns
   brought-same =
-      ap (λ p. unrolled (prepared_todo form.heap form.trace p) last turns) (prepared_same topology script)
-      ∙ files-same form.heap form.trace (run_of topology script) last turns
-      ∙ ap (λ r. files form.heap form.trace r turns) (sym (ap run_heard brought))
+      ap (λ p. unrolled (prepared_todo form.on_use form.heap form.trace p) last turns) (prepared_same topology script)
+      ∙ files-same form.on_use form.heap form.trace (run_of topology script) last turns
+      ∙ ap (λ r. files form.on_use form.heap form.trace r turns) (sym (ap run_heard brought))
 
 playing-same : (form : Form) (heard : List Heard) (turns : List Turn) → unrolled (play form) heard turns ≡ playing form (run_heard heard) heard turns
 playing-same form heard turns =

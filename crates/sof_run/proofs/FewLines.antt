@@ -1,12 +1,15 @@
 -- How many lines say how everything stands.
-use Rattle.std.proofs.Common.{◌≡◌, refl, ap, ℕ, ◌<◌, ◌≤◌, ◌^◌, suc, Bool, true, false, List, [], ◌∷◌, ◌++◌, map, length, Option, Some, None, MatchOption, arith}
+use Rattle.std.proofs.Common.{◌≡◌, refl, ap, ℕ, ◌<◌, ◌≤◌, ◌^◌, suc, Bool, true, false, List, [], ◌∷◌, ◌++◌, map, filter, length, Option, Some, None, MatchOption, arith}
 use Rattle.std.specs.List.{zip, range_with_len, filter_map, cons_option, slice_get}
 use Rattle.std.proofs.Math.Nat.{min-le_left}
 use Rattle.std.proofs.lemmas.List.{length-map, length-append}
-use Rattle.std.proofs.lemmas.List.FromFn.{length-map-range_with_len}
+use Rattle.std.proofs.lemmas.List.FromFn.{length-range_with_len, length-map-range_with_len}
 use Rattle.std.proofs.lemmas.Slice.Zip.{length-zip}
 use Rattle.std.proofs.lemmas.Option.{slice_get_within}
 use Rattle.stream_law.specs.declared.graph.Comp.{Comp}
+use Rattle.stream_law.specs.declared.graph.Edge.{Edge}
+use Rattle.stream_law.specs.Order.{is_among}
+use Rattle.stream_law.proofs.Members.{filter-most}
 use Rattle.tplg_plan.specs.declared.plans.Plan.{Plan}
 use Rattle.tplg_plan.specs.declared.plans.StreamPlan.{StreamPlan}
 use Rattle.tplg_plan.specs.Sound.{IsSound, host_of}
@@ -15,9 +18,13 @@ use Rattle.host_widgets.specs.declared.kept.Power.TheVariants.{Unloaded, On, Off
 use Rattle.host_widgets.specs.declared.kept.Record.{Record}
 use Rattle.host_widgets.specs.Kept.{controls_of}
 use Rattle.host_widgets.proofs.NamedIds.{few-widgets}
+use Rattle.host_widgets.specs.Acts.{widget_ids, widget_words}
+use Rattle.host_dynamic.specs.There.{shown_ids}
+use Rattle.sof_session.specs.Modes.{lines_in}
 use Rattle.sof_session.specs.Show as show
 use Rattle.sof_session.specs.StateLines as state_lines
 use Rattle.sof_session.specs.ShownLines as shown_lines
+use Rattle.sof_session.specs.UpCommands.{up_edge_lines, up_lines, up_lines_by}
 
 -- a line that is there has a number below theirs
 pub line_within : (lines : List (List ℕ)) (k : ℕ) (line : List ℕ) → shown_lines.IsLineAt lines k true line → k < length lines
@@ -73,5 +80,35 @@ module _ (plan : Plan) (sound : IsSound plan) (kept : Record) where
   few_by On = few_loaded
   few_by Off = few_loaded
 
-  pub few_lines : length (show.show_lines plan kept) < 2 ^ 32
-  few_lines = omega (arith, few_by kept.power)
+  -- what is up has no more
+  few_up : (up : List ℕ) → length (up_lines plan kept up) ≤ 700
+  few_up up =
+      let widgets : List (List ℕ) = map (show.widget_line plan) (shown_ids plan up) in
+      let shown : List Edge = filter (λ (e : Edge). is_among up e.pipe) plan.graph.edges in
+      omega (
+        arith,
+        length-append widgets (up_edge_lines plan kept up),
+        length-append (map show.edge_line shown) (state_lines.state_lines plan kept),
+        length-append (state_lines.stream_lines plan kept) (state_lines.control_lines plan kept),
+        length-map (shown_ids plan up) (show.widget_line plan),
+        filter-most (λ (id : ℕ). is_among up (widget_words plan id).pipe) (widget_ids plan),
+        length-range_with_len 0 (length plan.widgets),
+        length-map shown show.edge_line,
+        filter-most (λ (e : Edge). is_among up e.pipe) plan.graph.edges,
+        length-map (controls_of plan kept) (show.control_line plan),
+        length-zip plan.controls kept.controls,
+        min-le_left (length plan.controls) (length kept.controls),
+        few-widgets plan sound,
+        sound.edges,
+        sound.controls,
+        some_streams,
+      )
+
+  few_up_by : (power : Power) (up : List ℕ) → length (up_lines_by power plan kept up) ≤ 700
+  few_up_by Unloaded up = omega arith
+  few_up_by On up = few_up up
+  few_up_by Off up = few_up up
+
+  pub few_lines : (up : Option (List ℕ)) → length (lines_in up plan kept) < 2 ^ 32
+  few_lines None = omega (arith, few_by kept.power)
+  few_lines (Some up) = omega (arith, few_up_by kept.power up)

@@ -1,8 +1,8 @@
 -- Which commands have earlier units, and how many messages the commands of a run send.
-use Rattle.std.proofs.Common.{◌≡◌, refl, ap, ℕ, ◌<◌, ◌≤◌, arith}
+use Rattle.std.proofs.Common.{◌≡◌, refl, ℕ, ◌<◌, ◌≤◌, List, Option, Some, None, arith}
 use Rattle.sof_script.specs.declared.script.Command.{Command}
 use Rattle.sof_script.specs.declared.script.Command.TheVariants as commands
-use Rattle.sof_session.specs.CommandRanges.{most_sent}
+use Rattle.sof_session.specs.Modes.{most_sent_in, most_sent_by}
 use Rattle.sof_script.specs.Ticks.{earlier}
 
 -- a command of more than one unit is ticks
@@ -29,30 +29,30 @@ tick_before (commands.Drop k) n below = absurd (omega (arith, below))
 tick_before (commands.Lose k) n below = absurd (omega (arith, below))
 tick_before (commands.Lag k t) n below = absurd (omega (arith, below))
 
--- and sends no message
-pub none_before : (command : Command) (n : ℕ) → n < earlier command → most_sent command ≡ 0
-none_before command n below = ap most_sent (tick_before command n below).1
+-- no command sends more than 1200 messages, in either mode
+in_most : (up : Option (List ℕ)) → most_sent_in up ≤ 1200
+in_most None = omega arith
+in_most (Some up) = omega arith
 
--- no command sends more than this
-pub at_most : (command : Command) → most_sent command ≤ 900
-at_most commands.Load = omega arith
-at_most commands.Unload = omega arith
-at_most commands.Suspend = omega arith
-at_most commands.Resume = omega arith
-at_most commands.Show = omega arith
-at_most (commands.Open name) = omega arith
-at_most (commands.Start name) = omega arith
-at_most (commands.Stop name) = omega arith
-at_most (commands.Pause name) = omega arith
-at_most (commands.Release name) = omega arith
-at_most (commands.Close name) = omega arith
-at_most (commands.Get name) = omega arith
-at_most (commands.Read name) = omega arith
-at_most (commands.Params name p) = omega arith
-at_most (commands.Set name v) = omega arith
-at_most (commands.Bytes name b) = omega arith
-at_most (commands.Tick t) = omega arith
-at_most (commands.Refuse k e) = omega arith
-at_most (commands.Drop k) = omega arith
-at_most (commands.Lose k) = omega arith
-at_most (commands.Lag k t) = omega arith
+pub at_most_by : (up : Option (List ℕ)) (command : Command) → most_sent_by up command ≤ 1200
+at_most_by up commands.Load = in_most up
+at_most_by up commands.Unload = in_most up
+at_most_by up commands.Suspend = in_most up
+at_most_by up commands.Resume = in_most up
+at_most_by up commands.Show = in_most up
+at_most_by up (commands.Open name) = in_most up
+at_most_by up (commands.Start name) = in_most up
+at_most_by up (commands.Stop name) = in_most up
+at_most_by up (commands.Pause name) = in_most up
+at_most_by up (commands.Release name) = in_most up
+at_most_by up (commands.Close name) = in_most up
+at_most_by up (commands.Get name) = in_most up
+at_most_by up (commands.Read name) = in_most up
+at_most_by up (commands.Params name p) = in_most up
+at_most_by up (commands.Set name v) = in_most up
+at_most_by up (commands.Bytes name b) = in_most up
+at_most_by up (commands.Tick t) = omega arith
+at_most_by up (commands.Refuse k e) = in_most up
+at_most_by up (commands.Drop k) = in_most up
+at_most_by up (commands.Lose k) = in_most up
+at_most_by up (commands.Lag k t) = in_most up

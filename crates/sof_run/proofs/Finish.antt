@@ -1,5 +1,5 @@
 -- All that `run` ensures, from what it did.
-use Rattle.std.proofs.Common.{◌≡◌, ◌⊎◌, inl, inr, ℕ, ◌<◌, ◌^◌, List, [], ◌∷◌, ◌++◌, length, map, take, Option, Some, None, Ok, refl, sym, ap, ◌∙◌, subst, arith, codes}
+use Rattle.std.proofs.Common.{◌≡◌, ◌⊎◌, inl, inr, ℕ, ◌<◌, ◌^◌, Bool, true, false, List, [], ◌∷◌, ◌++◌, length, map, take, Option, Some, None, Ok, refl, sym, ap, ◌∙◌, subst, arith, codes}
 use Rattle.std.specs.Prelude.{option_map}
 use Rattle.std.specs.List.{AllByRecursion}
 use Rattle.std.proofs.lemmas.List.{length-map, take_all}
@@ -8,13 +8,17 @@ use Rattle.stream_law.specs.State.{view_of}
 use Rattle.mbox_link.specs.Calls.{Meaning}
 use Rattle.tplg_model.specs.declared.block.Topology.{Topology}
 use Rattle.tplg_graph.specs.PlanOf.{plan_of}
+use Rattle.host_widgets.specs.declared.kept.Record.{Record}
 use Rattle.sof_script.specs.Commands.{Read}
 use Rattle.tplg_plan.specs.Sound.{IsSound}
 use Rattle.sof_script.specs.declared.script.Command.{Command}
 use Rattle.sof_session.specs.SessionStep.{Calm}
-use Rattle.sof_session.specs.Written.{Out, Ground, Leg, first_at}
+use Rattle.sof_session.specs.Written.{Out, Ground, Leg, first_at, basis_of}
 use Rattle.sof_session.specs.Fills.{bytes_read}
-use Rattle.sof_session.specs.RunOver.{RunOver}
+use Rattle.sof_session.specs.Modes.{Mode, made_at_load, made_on_use}
+use Rattle.sof_session.proofs.LoadMode.{load-laws}
+use Rattle.sof_session.proofs.ModeLaws.{ModeLaws}
+use Rattle.sof_session.proofs.UpMode.{up-laws}
 use Rattle.ipc3_trace.specs.declared.entry.Entry.{Entry}
 use Rattle.ipc3_trace.specs.Records.{IsEntry, records_bytes}
 use Rattle.ipc3_trace.specs.Steps.{steps_of}
@@ -45,13 +49,13 @@ use Rattle.sof_run.specs.Keeping.{trace_slot, trace_slots, recorded_turns, recor
 use Rattle.sof_run.specs.Forms.{todo_for, todo_of, GaveSent}
 use Rattle.sof_run.specs.Ends.{IsEarly, Worded}
 use Rattle.sof_run.specs.Verdicts.{MakeRun, Judged}
-use Rattle.sof_run.specs.Plays.{ToPlay, AreFilesTold, AreMet, Plays, Unbegun, PlaysWhole, written_slots, ground_of, commands_in}
-use Rattle.sof_run.specs.HeardRuns.{PlaysWhatIsHeard}
+use Rattle.sof_run.specs.Plays.{ToPlay, AreFilesTold, AreMet, Plays, PlaysIn, Unbegun, PlaysWhole, written_slots, ground_of, commands_in}
+use Rattle.sof_run.specs.HeardRuns.{RunsBy, RunsIn, PlaysWhatIsHeard}
 use Rattle.sof_run.specs.Run.{Left}
 use Rattle.sof_run.specs.Findings.{FollowsCourse}
 use Rattle.sof_run.specs.TopologyBytes.{BringsBytes}
 use Rattle.sof_run.specs.Calls.{heard_in}
-use Rattle.sof_run.proofs.Requests.{play_asked, replay_meant, kept_of, nothing_asked, formless_asked}
+use Rattle.sof_run.proofs.Requests.{play_asked, play_in, replay_meant, kept_of, nothing_asked, formless_asked}
 use Rattle.sof_run.proofs.SaidLines.{said}
 use Rattle.sof_run.proofs.Judging.{judge}
 use Rattle.sof_run.proofs.PlanWords.{sound_plan}
@@ -207,8 +211,8 @@ module _ {D P : Type 0} (means : DeskMeaning D) (dsp : Meaning P) (words : List 
       let next : Next means (play run.form) all_turns status old new = record { calls = given.played.calls; goes = plays_by run.form run.is_form; led = given.played.led } in
       let sound = script_sound run.script run.read (omega (arith, run.fit.1)) run.make_run.lines.0 in
       (elim (play_goes means dsp run.form run.topology run.script plan run.read ready all_turns status old new p given.last fronts told.0 told.1 run.fit.0 run.fit.1 told.2 next) as
-      (λ w. Plays means dsp run.form.trace g (rounds_of run.read.commands) old new status p given.last given.turns given.records ⊎ Unbegun means (written_slots run) old new status p given.last) [
-        | inl b ↦ inl (plays means dsp run.form run.topology run.script plan run.read ready all_turns status old new p given.last fronts given.records given.turns given.turned refl (kept_by run.form run.is_form) off whole run.make_run.right sound.few b)
+      (λ w. PlaysIn run.form.on_use means dsp run.form.trace g (rounds_of run.read.commands) old new status p given.last given.turns given.records ⊎ Unbegun means (written_slots run) old new status p given.last) [
+        | inl b ↦ inl (plays means dsp run.form run.topology run.script plan run.read ready all_turns status old new p given.last fronts given.records given.turns given.turned refl (kept_by run.form run.is_form) off whole run.make_run.right sound.few b (play_in (dsp.most p) words run.form run.is_form).1)
         | inr b ↦ inr (before_begun means dsp run.form run.topology run.script plan run.read ready all_turns status old new p given.last fronts b)
       ])
 
@@ -230,15 +234,27 @@ module _ {D P : Type 0} (means : DeskMeaning D) (dsp : Meaning P) (words : List 
     heard_by : heard_in given.played.calls ≡ Ok a.topology ∷ Ok a.script ∷ [] → IsBegun ⊎ Ended all_turns status
     heard_by heard = play_heard a.form a.topology a.script (plan_of a.t) a.read ready all_turns status given.played.calls heard (plays_by a.form a.is_form)
 
+    -- the run is that of the mode that the words ask for
+    module _ {S A : Type 0} (mode : Mode P S A) (laws : ModeLaws dsp mode (plan_of a.t) a.form.heap) (uses : a.form.on_use ≡ mode.on_use) (b : IsBegun) where
+      abbrev legs_in : List (Leg S)
+      legs_in = legs a.form a.topology a.script (plan_of a.t) a.read ready all_turns status dsp p given.last given.records given.turns given.turned refl (kept_by a.form a.is_form) off a.make_run.right few b mode laws uses
+
+      run_in : RunsBy dsp mode (ground_of a (bytes_read (reads_in given.turns))) (commands_in (rounds_of a.read.commands)) p given.turns given.last
+      run_in = (legs_in, over_is a.form a.topology a.script (plan_of a.t) a.read ready all_turns status dsp p given.last given.records given.turns given.turned refl (kept_by a.form a.is_form) off a.make_run.right few b mode laws uses)
+
+    abbrev load : ModeLaws dsp made_at_load (plan_of a.t) a.form.heap
+    load = load-laws dsp (plan_of a.t) a.form.heap whole
+
+    runs_in : (on_use : Bool) → a.form.on_use ≡ on_use → IsBegun → RunsIn on_use dsp (ground_of a (bytes_read (reads_in given.turns))) (commands_in (rounds_of a.read.commands)) p given.turns given.last
+    runs_in false uses b = run_in made_at_load load uses b
+    runs_in true uses b = run_in (made_on_use dsp) (up-laws dsp (plan_of a.t) a.form.heap whole) uses b
+
     pub play_is_heard : heard_in given.played.calls ≡ Ok a.topology ∷ Ok a.script ∷ [] →
-        ((legs : List Leg) × RunOver dsp (ground_of a (bytes_read (reads_in given.turns))) (take (length legs) (map (λ (round : Round). round.numbered.command) (rounds_of a.read.commands))) legs p given.turns given.last) ⊎ (((status ≡ 3) ⊎ (status ≡ 7)) × (given.last ≡ Bare p))
+        RunsIn a.form.on_use dsp (ground_of a (bytes_read (reads_in given.turns))) (commands_in (rounds_of a.read.commands)) p given.turns given.last ⊎ (((status ≡ 3) ⊎ (status ≡ 7)) × (given.last ≡ Bare p))
     play_is_heard heard = by (heard_by heard)
       where
-        by : IsBegun ⊎ Ended all_turns status → ((legs : List Leg) × RunOver dsp (ground_of a (bytes_read (reads_in given.turns))) (take (length legs) (map (λ (round : Round). round.numbered.command) (rounds_of a.read.commands))) legs p given.turns given.last) ⊎ (((status ≡ 3) ⊎ (status ≡ 7)) × (given.last ≡ Bare p))
-        by (inl b) = inl (
-          legs a.form a.topology a.script (plan_of a.t) a.read ready all_turns status dsp p given.last given.records given.turns given.turned refl (kept_by a.form a.is_form) off whole a.make_run.right few b,
-          over_is a.form a.topology a.script (plan_of a.t) a.read ready all_turns status dsp p given.last given.records given.turns given.turned refl (kept_by a.form a.is_form) off whole a.make_run.right few b,
-        )
+        by : IsBegun ⊎ Ended all_turns status → RunsIn a.form.on_use dsp (ground_of a (bytes_read (reads_in given.turns))) (commands_in (rounds_of a.read.commands)) p given.turns given.last ⊎ (((status ≡ 3) ⊎ (status ≡ 7)) × (given.last ≡ Bare p))
+        by (inl b) = inl (runs_in a.form.on_use refl b)
         by (inr ended) = inr (ended.1, still ended.0)
 
     -- ---- the trace that is kept
@@ -246,6 +262,14 @@ module _ {D P : Type 0} (means : DeskMeaning D) (dsp : Meaning P) (words : List 
     module _ (name : List ℕ) (named : a.form.trace ≡ Some name) (calm : Calm dsp p (device_of given.last)) where
       abbrev commands : List Command
       commands = commands_in (rounds_of a.read.commands)
+
+      -- all pipelines are made at a load
+      at_load : a.form.on_use ≡ false
+      at_load = loads a.form.on_use refl
+        where
+          loads : (on_use : Bool) → a.form.on_use ≡ on_use → on_use ≡ false
+          loads false uses = refl
+          loads true uses = absurd (cc (sym named ∙ (play_in (dsp.most p) words a.form a.is_form).1 uses))
 
       kept_named : TurnsLeft dsp (Bare p) given.turns given.last given.turned given.records
       kept_named = subst (λ (trace : Option (List ℕ)). KeptRecords dsp trace (Bare p) given.turns given.last given.turned given.records) named (kept_by a.form a.is_form)
@@ -259,9 +283,9 @@ module _ {D P : Type 0} (means : DeskMeaning D) (dsp : Meaning P) (words : List 
         where
           by : IsBegun ⊎ Ended all_turns status → (n : ℕ) × (given.records ≡ met_units (plan_of a.t) a.form.heap (take n commands))
           by (inl b) = (
-            length (legs a.form a.topology a.script (plan_of a.t) a.read ready all_turns status dsp p given.last given.records given.turns given.turned refl (kept_by a.form a.is_form) off whole a.make_run.right few b),
-            subst (λ (trace : Option (List ℕ)). AreMet trace (plan_of a.t) a.form.heap (take (length (legs a.form a.topology a.script (plan_of a.t) a.read ready all_turns status dsp p given.last given.records given.turns given.turned refl (kept_by a.form a.is_form) off whole a.make_run.right few b)) commands) given.records) named
-                (met_is a.form a.topology a.script (plan_of a.t) a.read ready all_turns status dsp p given.last given.records given.turns given.turned refl (kept_by a.form a.is_form) off whole a.make_run.right few b calm),
+            length (legs_in made_at_load load at_load b),
+            subst (λ (trace : Option (List ℕ)). AreMet trace (plan_of a.t) a.form.heap (take (length (legs_in made_at_load load at_load b)) commands) given.records) named
+                (met_is a.form a.topology a.script (plan_of a.t) a.read ready all_turns status dsp p given.last given.records given.turns given.turned refl (kept_by a.form a.is_form) off a.make_run.right few b made_at_load load at_load refl calm),
           )
           by (inr ended) = (0, none_left (none_recorded given.records given.turns ended.0))
 
@@ -278,12 +302,12 @@ module _ {D P : Type 0} (means : DeskMeaning D) (dsp : Meaning P) (words : List 
           by : IsBegun ⊎ Ended all_turns status → option_map view_of (dsp.on (device_of given.last)) ≡ option_map view_of (steps_of (met_in a))
           by (inr ended) = absurd (not_zero status zero ended.1)
           by (inl b) =
-              let n : ℕ = length (legs a.form a.topology a.script (plan_of a.t) a.read ready all_turns status dsp p given.last given.records given.turns given.turned refl (kept_by a.form a.is_form) off whole a.make_run.right few b) in
-              let many : n ≡ length (rounds_of a.read.commands) = all_legs a.form a.topology a.script (plan_of a.t) a.read ready all_turns status dsp p given.last given.records given.turns given.turned refl (kept_by a.form a.is_form) off whole a.make_run.right few b zero in
+              let n : ℕ = length (legs_in made_at_load load at_load b) in
+              let many : n ≡ length (rounds_of a.read.commands) = all_legs a.form a.topology a.script (plan_of a.t) a.read ready all_turns status dsp p given.last given.records given.turns given.turned refl (kept_by a.form a.is_form) off a.make_run.right few b made_at_load load at_load zero in
               let left : given.records ≡ met_units (plan_of a.t) a.form.heap (take n commands) =
               subst (λ (trace : Option (List ℕ)). AreMet trace (plan_of a.t) a.form.heap (take n commands) given.records) named
-              (met_is a.form a.topology a.script (plan_of a.t) a.read ready all_turns status dsp p given.last given.records given.turns given.turned refl (kept_by a.form a.is_form) off whole a.make_run.right few b calm) in
-              view_is a.form a.topology a.script (plan_of a.t) a.read ready all_turns status dsp p given.last given.records given.turns given.turned refl (kept_by a.form a.is_form) off whole a.make_run.right few b name named calm
+              (met_is a.form a.topology a.script (plan_of a.t) a.read ready all_turns status dsp p given.last given.records given.turns given.turned refl (kept_by a.form a.is_form) off a.make_run.right few b made_at_load load at_load refl calm) in
+              view_is a.form a.topology a.script (plan_of a.t) a.read ready all_turns status dsp p given.last given.records given.turns given.turned refl (kept_by a.form a.is_form) off a.make_run.right few b made_at_load load at_load refl name named calm
               ∙ ap (λ (rs : List (List Entry)). option_map view_of (steps_of (all_records rs))) (left ∙ ap (met_units (plan_of a.t) a.form.heap) (all_of n many))
 
       abbrev g : Ground
@@ -300,15 +324,16 @@ module _ {D P : Type 0} (means : DeskMeaning D) (dsp : Meaning P) (words : List 
       each_taken = records-each dsp given.turns (Bare p) given.last given.turned given.records kept_named
 
       file_by : AreFilesTold (means.holds old) a → status ≡ 0 → (bytes : List ℕ) → means.wrote new (Slot trace_slot) ≡ Some bytes → (bytes ≡ records_bytes (met_in a)) × IsTraceOf bytes (met_in a) None
-      file_by told zero bytes wrote = by (plays_whole off a told)
+      file_by told zero bytes wrote =
+          by (subst (λ (on_use : Bool). PlaysIn on_use means dsp a.form.trace g (rounds_of a.read.commands) old new status p given.last given.turns given.records ⊎ Unbegun means (written_slots a) old new status p given.last) at_load (plays_whole off a told))
         where
-          by : Plays means dsp a.form.trace g (rounds_of a.read.commands) old new status p given.last given.turns given.records ⊎ Unbegun means (written_slots a) old new status p given.last → (bytes ≡ records_bytes (met_in a)) × IsTraceOf bytes (met_in a) None
+          by : Plays means dsp made_at_load a.form.trace g (rounds_of a.read.commands) old new status p given.last given.turns given.records ⊎ Unbegun means (written_slots a) old new status p given.last → (bytes ≡ records_bytes (met_in a)) × IsTraceOf bytes (met_in a) None
           by (inr u) = absurd (not_zero status zero u.ended)
           by (inl x) =
-              let outs : List Out = map (λ (leg : Leg). leg.out) x.legs in
+              let outs : List Out = map (λ (leg : Leg Record). leg.out) x.legs in
               let all = all_made (rounds_of a.read.commands) (recorded_outs given.records outs) x.made (subst (AreWritten (rounds_of a.read.commands) (recorded_outs given.records outs) x.made) zero x.written) in
               let as_many : length outs ≡ length (rounds_of a.read.commands) = sym (as_many_outs given.records outs) ∙ all.0 in
-              let legs_many : length x.legs ≡ length (rounds_of a.read.commands) = sym (length-map x.legs (λ (leg : Leg). leg.out)) ∙ as_many in
+              let legs_many : length x.legs ≡ length (rounds_of a.read.commands) = sym (length-map x.legs (λ (leg : Leg Record). leg.out)) ∙ as_many in
               let left : given.records ≡ met_units (plan_of a.t) a.form.heap commands =
               subst (λ (trace : Option (List ℕ)). AreMet trace (plan_of a.t) a.form.heap (take (length x.legs) commands) given.records) named (x.met calm)
               ∙ ap (met_units (plan_of a.t) a.form.heap) (all_of (length x.legs) legs_many) in
@@ -317,7 +342,7 @@ module _ {D P : Type 0} (means : DeskMeaning D) (dsp : Meaning P) (words : List 
               let apart = trace-apart a.topology a.t a.read.bindings a.make_run.file a.fit.0 a.make_run.right in
               let is : bytes_of_pieces (Slot trace_slot) x.made ≡ records_bytes (all_records given.records) =
               ap (bytes_of_pieces (Slot trace_slot)) all.1
-              ∙ trace-bytes g x.over.doing (take (length x.legs) commands) (first_at g) x.legs (rounds_of a.read.commands) given.records x.run apart as_many each in
+              ∙ trace-bytes g x.over.doing (take (length x.legs) commands) (first_at (basis_of g)) x.legs (rounds_of a.read.commands) given.records x.run apart as_many each in
               let stands : means.wrote new (Slot trace_slot) ≡ with_more (opened (trace_slots (Some name) ++ g.slots) (Slot trace_slot) (means.wrote old (Slot trace_slot))) (bytes_of_pieces (Slot trace_slot) x.made) =
               subst (λ (trace : Option (List ℕ)). means.wrote new (Slot trace_slot) ≡ with_more (opened (trace_slots trace ++ g.slots) (Slot trace_slot) (means.wrote old (Slot trace_slot))) (bytes_of_pieces (Slot trace_slot) x.made)) named (x.wrote (Slot trace_slot)) in
               let held : bytes ≡ records_bytes (met_in a) =

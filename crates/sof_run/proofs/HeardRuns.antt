@@ -9,16 +9,17 @@ use Rattle.sof_desk.specs.declared.calls.LoadFault.TheVariants.{Failed, TooLong,
 use Rattle.sof_desk.specs.Desk.{DeskAct, DeskCall, Load, Did, Read as ReadCall, Heard}
 use Rattle.mbox_link.specs.Calls.{Meaning}
 use Rattle.tplg_plan.specs.declared.plans.Plan.{Plan}
-use Rattle.tplg_plan.specs.Sound.{IsSound}
 use Rattle.sof_script.specs.Commands.{Bound, Read}
 use Rattle.sof_script.specs.declared.script.Command.{Command}
 use Rattle.sof_session.specs.Fills.{bytes_read}
+use Rattle.sof_session.specs.Modes.{Mode}
 use Rattle.sof_session.specs.NewInputs.{AreNew}
 use Rattle.sof_session.specs.Written.{Written, Out, Ground, Leg}
 use Rattle.sof_session.specs.SessionStep.{Calm}
 use Rattle.sof_session.specs.Lives.{Life, Bare, Task, Begin, Fill, Carry, Turn, Turns, device_of, reads_by, reads_in, carried_outs}
 use Rattle.sof_session.specs.RunOver.{RunOver}
 use Rattle.sof_session.proofs.FilledRuns.{AreFilled, RunsFilled, runs-filled}
+use Rattle.sof_session.proofs.ModeLaws.{ModeLaws}
 use Rattle.sof_run.specs.Words.{Form}
 use Rattle.sof_run.specs.Todo.{Todo, End, Ask, Do, Free, DoneBy, Says, Over}
 use Rattle.sof_run.specs.Bindings.{wrong_binding, bound_slot, binding_act, bound_inputs, bound_slots}
@@ -35,7 +36,7 @@ use Rattle.sof_run.proofs.Slots.{bound_distinct}
 use Rattle.sof_run.proofs.WrittenPieces.{commands_of}
 use Rattle.sof_run.specs.Plays.{AreMet}
 use Rattle.sof_run.proofs.MetRuns.{are-met, records-view, all_records}
-use Rattle.sof_run.proofs.Grounds.{few_front, messages_few}
+use Rattle.sof_run.proofs.Grounds.{messages_few}
 
 -- ---- the units
 
@@ -202,7 +203,7 @@ module _ (form : Form) (topology script : List ℕ) (plan : Plan) (read : Read) 
     pub begins : Turn
     pub others : List Turn
     pub are : turns ≡ begins ∷ others
-    pub task : begins.task ≡ Begin plan form.heap inputs slots
+    pub task : begins.task ≡ Begin form.on_use plan form.heap inputs slots
     pub filled : Good (rounds_of read.commands) others
     pub all : status ≡ 0 → length (carried_outs others) ≡ length (rounds_of read.commands)
 
@@ -210,7 +211,7 @@ module _ (form : Form) (topology script : List ℕ) (plan : Plan) (read : Read) 
   Result' = Began ⊎ Ended turns status
 
   abbrev session : Todo
-  session = session_todo form.heap plan read.commands inputs slots
+  session = session_todo form.on_use form.heap plan read.commands inputs slots
 
   began : (calls : List DeskCall) → DoneBy session turns calls status → Began
   began calls goes = by turns refl goes
@@ -223,15 +224,15 @@ module _ (form : Form) (topology script : List ℕ) (plan : Plan) (read : Read) 
   or_none todo (inl more) on = on more.0 more.1
   or_none todo (inr ended) on = inr ended
 
-  ready_on : (calls : List DeskCall) → DoneBy (ready_todo form.heap form.trace plan read) turns calls status → Result'
+  ready_on : (calls : List DeskCall) → DoneBy (ready_todo form.on_use form.heap form.trace plan read) turns calls status → Result'
   ready_on calls goes =
       or_none (traced_todo form.trace session) (bindings_on plan read.bindings (traced_todo form.trace session) turns calls status goes) (λ later more.
       or_none session (acts_on (trace_acts form.trace) session turns later status more) (λ last done. inl (began last done)))
 
-  files_on : (calls : List DeskCall) → DoneBy (Free (prepared_todo form.heap form.trace (prepared topology script))) turns calls status → Result'
+  files_on : (calls : List DeskCall) → DoneBy (Free (prepared_todo form.on_use form.heap form.trace (prepared topology script))) turns calls status → Result'
   files_on calls goes =
-      or_none (prepared_todo form.heap form.trace (prepared topology script)) (free_on (prepared_todo form.heap form.trace (prepared topology script)) turns calls status goes) (λ later more.
-      ready_on later (subst (λ files. DoneBy (prepared_todo form.heap form.trace files) turns later status) ready more))
+      or_none (prepared_todo form.on_use form.heap form.trace (prepared topology script)) (free_on (prepared_todo form.on_use form.heap form.trace (prepared topology script)) turns calls status goes) (λ later more.
+      ready_on later (subst (λ files. DoneBy (prepared_todo form.on_use form.heap form.trace files) turns later status) ready more))
 
   -- a load that answered this, first of all that loads answered
   module _ (name line : List ℕ) (next : List ℕ → Todo) (bytes : List ℕ) (more : List Heard) where
@@ -249,21 +250,25 @@ module _ (form : Form) (topology script : List ℕ) (plan : Plan) (read : Read) 
 
   pub play_heard : (calls : List DeskCall) → heard_in calls ≡ Ok topology ∷ Ok script ∷ [] → DoneBy (play form) turns calls status → Began ⊎ Ended turns status
   play_heard calls heard goes =
-      asked form.topology (codes "too long topology\n") (λ xs. Ask form.script 1048576 (codes "too long script\n") (λ ys. Free (prepared_todo form.heap form.trace (prepared xs ys)))) topology (Ok script ∷ []) calls heard goes (λ later rest goes.
-      asked form.script (codes "too long script\n") (λ ys. Free (prepared_todo form.heap form.trace (prepared topology ys))) script [] later rest goes (λ last none goes.
+      asked form.topology (codes "too long topology\n") (λ xs. Ask form.script 1048576 (codes "too long script\n") (λ ys. Free (prepared_todo form.on_use form.heap form.trace (prepared xs ys)))) topology (Ok script ∷ []) calls heard goes (λ later rest goes.
+      asked form.script (codes "too long script\n") (λ ys. Free (prepared_todo form.on_use form.heap form.trace (prepared topology ys))) script [] later rest goes (λ last none goes.
       files_on last goes))
 
-  -- ---- the run
+  -- ---- the run, by the rules of a mode
 
-  module _ {P : Type 0} (dsp : Meaning P) (p : P) (last : Life P) (records : List (List Entry)) (bare : List Turn) (bare_turned : Turns dsp (Bare p) bare last) (recorded : turns ≡ recorded_turns records bare) (kept : KeptRecords dsp form.trace (Bare p) bare last bare_turned records) (off : dsp.on p ≡ None) (sound : IsSound plan) (right : wrong_binding plan read.bindings ≡ None) (few : length read.commands < 2 ^ 32) (b : Began) where
+  module _ {P S A : Type 0} (dsp : Meaning P) (p : P) (last : Life P) (records : List (List Entry)) (bare : List Turn) (bare_turned : Turns dsp (Bare p) bare last) (recorded : turns ≡ recorded_turns records bare) (kept : KeptRecords dsp form.trace (Bare p) bare last bare_turned records) (off : dsp.on p ≡ None) (right : wrong_binding plan read.bindings ≡ None) (few : length read.commands < 2 ^ 32) (b : Began)
+      (mode : Mode P S A) (laws : ModeLaws dsp mode plan form.heap) (uses : form.on_use ≡ mode.on_use) where
     abbrev all : List Command
     all = commands_of (rounds_of read.commands)
 
     abbrev heard_g : List (ℕ × List ℕ) → Ground
     heard_g whole = record { plan = plan; heap = form.heap; whole = whole; slots = slots }
 
-    abbrev x : BareBegun records bare b.others (Begin plan form.heap inputs slots)
-    x = bare_begun plan form.heap inputs slots records bare b.begins b.others (sym b.are ∙ recorded) b.task
+    abbrev x : BareBegun records bare b.others (Begin form.on_use plan form.heap inputs slots)
+    x = bare_begun form.on_use plan form.heap inputs slots records bare b.begins b.others (sym b.are ∙ recorded) b.task
+
+    begun_in : x.begins.task ≡ Begin mode.on_use plan form.heap inputs slots
+    begun_in = x.task_is ∙ ap (λ (on_use : Bool). Begin on_use plan form.heap inputs slots) uses
 
     as_many_bare : length (carried_outs b.others) ≡ length (carried_outs x.rest)
     as_many_bare = ap length (ap carried_outs x.others_are ∙ outs_recorded records x.rest) ∙ as_many_outs records (carried_outs x.rest)
@@ -274,35 +279,36 @@ module _ (form : Form) (topology script : List ℕ) (plan : Plan) (read : Read) 
     filled : AreFilled made x.rest
     filled = filled_bare made records x.rest (subst (AreFilled made) x.others_are (subst (λ n. AreFilled (take n all) b.others) as_many_bare b.filled))
 
-    pub run : RunsFilled dsp (heard_g []) made x.begins x.rest p last
+    pub run : RunsFilled dsp mode (heard_g []) made x.begins x.rest p last
     run =
-        runs-filled dsp (heard_g []) inputs p made x.begins x.rest last off sound (new_inputs plan read.bindings [] tt) (bound_distinct plan read.bindings right)
-        x.task_is filled
-        (few_front (heard_g []) sound read.commands (length (carried_outs x.rest)))
-        (omega (arith, messages_few read.commands (length (carried_outs x.rest)), few))
+        runs-filled dsp mode (heard_g []) laws inputs p made x.begins x.rest last off (new_inputs plan read.bindings [] tt) (bound_distinct plan read.bindings right)
+        begun_in filled
+        (messages_few laws.most laws.most_few laws.most_tick read.commands (length (carried_outs x.rest)) few)
         (subst (λ (ts : List Turn). Turns dsp (Bare p) ts last) x.is bare_turned)
 
-    abbrev pub legs : List Leg
+    abbrev pub legs : List (Leg S)
     legs = run.legs
 
-    outs_length : (xs : List Leg) → length (map (λ (leg : Leg). leg.out) xs) ≡ length xs
+    outs_length : (xs : List (Leg S)) → length (map (λ (leg : Leg S). leg.out) xs) ≡ length xs
     outs_length [] = refl
     outs_length (x ∷ xs) = omega (arith, outs_length xs)
 
     as_many : length (carried_outs x.rest) ≡ length run.legs
     as_many = ap length (sym run.outs) ∙ outs_length run.legs
 
-    -- where no count of the device rose, the records are those that the run leaves
-    pub met_is : Calm dsp p (device_of last) → AreMet form.trace plan form.heap (take (length legs) all) records
-    met_is still =
+    -- where all pipelines are made at a load and no count of the device rose, the records are those that the run leaves
+    pub met_is : mode.on_use ≡ false → Calm dsp p (device_of last) → AreMet form.trace plan form.heap (take (length legs) all) records
+    met_is at_load still =
         subst (λ n. AreMet form.trace plan form.heap (take n all) records) as_many
-        (are-met dsp plan form.heap form.trace p made inputs slots x.begins x.rest bare last bare_turned records x.is kept x.task_is filled off still)
+        (are-met dsp plan form.heap form.trace p made inputs slots x.begins x.rest bare last bare_turned records x.is kept
+        (begun_in ∙ ap (λ (on_use : Bool). Begin on_use plan form.heap inputs slots) at_load) filled off still)
 
     -- and lead to the device
-    pub view_is : (name : List ℕ) → form.trace ≡ Some name → Calm dsp p (device_of last) → option_map view_of (dsp.on (device_of last)) ≡ option_map view_of (steps_of (all_records records))
-    view_is name named still =
+    pub view_is : mode.on_use ≡ false → (name : List ℕ) → form.trace ≡ Some name → Calm dsp p (device_of last) → option_map view_of (dsp.on (device_of last)) ≡ option_map view_of (steps_of (all_records records))
+    view_is at_load name named still =
         records-view dsp plan form.heap name p made inputs slots x.begins x.rest bare last bare_turned records x.is
-        (subst (λ (trace : Option (List ℕ)). KeptRecords dsp trace (Bare p) bare last bare_turned records) named kept) x.task_is filled off still
+        (subst (λ (trace : Option (List ℕ)). KeptRecords dsp trace (Bare p) bare last bare_turned records) named kept)
+        (begun_in ∙ ap (λ (on_use : Bool). Begin on_use plan form.heap inputs slots) at_load) filled off still
 
     -- with status 0 each unit has its leg
     pub all_legs : status ≡ 0 → length legs ≡ length (rounds_of read.commands)
@@ -311,8 +317,8 @@ module _ (form : Form) (topology script : List ℕ) (plan : Plan) (read : Read) 
     reads_are : reads_in x.rest ≡ reads_in bare
     reads_are = sym (ap reads_in x.is ∙ ap (λ (task : Task). reads_by task ++ reads_in x.rest) x.task_is)
 
-    pub over_is : RunOver dsp (heard_g (bytes_read (reads_in bare))) (take (length legs) all) legs p bare last
+    pub over_is : RunOver dsp mode (heard_g (bytes_read (reads_in bare))) (take (length legs) all) legs p bare last
     over_is =
-        subst (λ (n : ℕ). RunOver dsp (heard_g (bytes_read (reads_in bare))) (take n all) legs p bare last) as_many
-        (subst (λ (reads : List (ℕ × List ℕ)). RunOver dsp (heard_g (bytes_read reads)) made legs p bare last) reads_are
-        (subst (λ (ts : List Turn). RunOver dsp (heard_g (bytes_read (reads_in x.rest))) made legs p ts last) (sym x.is) run.over))
+        subst (λ (n : ℕ). RunOver dsp mode (heard_g (bytes_read (reads_in bare))) (take n all) legs p bare last) as_many
+        (subst (λ (reads : List (ℕ × List ℕ)). RunOver dsp mode (heard_g (bytes_read reads)) made legs p bare last) reads_are
+        (subst (λ (ts : List Turn). RunOver dsp mode (heard_g (bytes_read (reads_in x.rest))) made legs p ts last) (sym x.is) run.over))

@@ -1,5 +1,5 @@
 -- The status by the bytes of the files.
-use Rattle.std.proofs.Common.{◌≡◌, ◌⊎◌, inl, inr, ℕ, ◌<◌, ◌≤◌, true, false, List, [], ◌∷◌, length, Option, Some, None, Result, Ok, Err, ◌∙◌, ap, subst, codes}
+use Rattle.std.proofs.Common.{Bool, ◌≡◌, ◌⊎◌, inl, inr, ℕ, ◌<◌, ◌≤◌, true, false, List, [], ◌∷◌, length, Option, Some, None, Result, Ok, Err, ◌∙◌, ap, subst, codes}
 use Rattle.std.specs.List.{last_or}
 use Rattle.sof_desk.specs.declared.calls.LoadFault.TheVariants.{Failed, TooLong, OutOfMemory}
 use Rattle.sof_desk.specs.Desk.{DeskMeaning, Put, Spoken, DeskCall, Load, Did, Read as ReadCall, DeskLed, Loaded}
@@ -71,13 +71,13 @@ module _ (topology script : List ℕ) where
     runs t read calls status is (inr seven) = inl (inr seven)
 
     -- by what the files come to
-    module _ (heap : ℕ) (trace : Option (List ℕ)) (turns : List Turn) (calls : List DeskCall) (status : ℕ) where
-      by_found : (r : Result (Topology × Read) Halt) → FilesComeTo topology script r → DoneBy (prepared_todo heap trace (as_prepared r)) turns calls status → Verdict topology script calls status
-      by_found (Ok (t, read)) is goes = runs t read calls status is (ready_ends heap trace (plan_of t) read turns calls status goes)
+    module _ (on_use : Bool) (heap : ℕ) (trace : Option (List ℕ)) (turns : List Turn) (calls : List DeskCall) (status : ℕ) where
+      by_found : (r : Result (Topology × Read) Halt) → FilesComeTo topology script r → DoneBy (prepared_todo on_use heap trace (as_prepared r)) turns calls status → Verdict topology script calls status
+      by_found (Ok (t, read)) is goes = runs t read calls status is (ready_ends on_use heap trace (plan_of t) read turns calls status goes)
       by_found (Err why) is goes = stops why turns calls status is goes
 
-      free : DoneBy (Free (prepared_todo heap trace (prepared topology script))) turns calls status → Verdict topology script calls status
-      free (inl goes) = by_found (run_of topology script) (files_found topology script bytes) (subst (λ files. DoneBy (prepared_todo heap trace files) turns calls status) (prepared_same topology script) goes)
+      free : DoneBy (Free (prepared_todo on_use heap trace (prepared topology script))) turns calls status → Verdict topology script calls status
+      free (inl goes) = by_found (run_of topology script) (files_found topology script bytes) (subst (λ files. DoneBy (prepared_todo on_use heap trace files) turns calls status) (prepared_same topology script) goes)
       free (inr says) = wanting turns calls status says
 
   module _ {D : Type 0} (means : DeskMeaning D) where
@@ -103,6 +103,6 @@ module _ (topology script : List ℕ) where
     -- both files are told
     pub judge : (form : Form) (turns : List Turn) (calls : List DeskCall) (status : ℕ) (d e : D) → means.holds d form.topology ≡ Some topology → means.holds d form.script ≡ Some script → DoneBy (play form) turns calls status → DeskLed means d calls e → Verdict topology script calls status
     judge form turns calls status d e first second goes led =
-        asked form.topology (codes "too long topology\n") topology (λ xs. Ask form.script 1048576 (codes "too long script\n") (λ ys. Free (prepared_todo form.heap form.trace (prepared xs ys)))) (λ is. inl is) turns calls status d e first goes led (λ short bytes later m held goes led.
-        asked form.script (codes "too long script\n") script (λ ys. Free (prepared_todo form.heap form.trace (prepared topology ys))) (λ is. inr is) turns later status m e (held form.script ∙ second) goes led (λ shorter others last n kept goes led.
-        free (short, shorter) bytes form.heap form.trace turns last status goes))
+        asked form.topology (codes "too long topology\n") topology (λ xs. Ask form.script 1048576 (codes "too long script\n") (λ ys. Free (prepared_todo form.on_use form.heap form.trace (prepared xs ys)))) (λ is. inl is) turns calls status d e first goes led (λ short bytes later m held goes led.
+        asked form.script (codes "too long script\n") script (λ ys. Free (prepared_todo form.on_use form.heap form.trace (prepared topology ys))) (λ is. inr is) turns later status m e (held form.script ∙ second) goes led (λ shorter others last n kept goes led.
+        free (short, shorter) bytes form.on_use form.heap form.trace turns last status goes))

@@ -1,5 +1,5 @@
 -- Plays over devices of whose calls nothing is kept, or their records: as turns of sessions, with records in front.
-use Rattle.std.proofs.Common.{◌≡◌, refl, sym, ap, ◌∙◌, subst, ℕ, true, false, List, [], ◌∷◌, ◌++◌, length, Option, Some, None, arith}
+use Rattle.std.proofs.Common.{Bool, ◌≡◌, refl, sym, ap, ◌∙◌, subst, ℕ, true, false, List, [], ◌∷◌, ◌++◌, length, Option, Some, None, arith}
 use Rattle.std.specs.Prelude.{is_some, option_map}
 use Rattle.sof_base.specs.Ports.{InputView}
 use Rattle.sof_desk.specs.Desk.{DeskMeaning}
@@ -17,17 +17,22 @@ use Rattle.ipc3_trace.proofs.LeadingLaws.{records-lead}
 use Rattle.tplg_plan.specs.declared.plans.Plan.{Plan}
 use Rattle.sof_script.specs.declared.script.Command.{Command}
 use Rattle.sof_session.specs.Agreement.{AreAgreed}
-use Rattle.sof_session.specs.Seat.{Seat, with_device}
+use Rattle.sof_script.specs.Commands.{Read}
+use Rattle.sof_session.specs.Modes.{made_at_load, IsInMode, CommandDoneIn}
+use Rattle.sof_session.specs.Seat.{Seat, first_up, with_device}
 use Rattle.sof_session.specs.SessionStep.{Calm, known_of}
 use Rattle.sof_session.proofs.Draining.{AreAgreed-drained}
+use Rattle.sof_session.proofs.LoadMode.{load-stepped}
 use Rattle.sof_session.specs.Written.{Out, empty_outputs}
 use Rattle.sof_session.specs.Lives.{Life, Bare, Seated, Task, Begin, Fill, Carry, Give, Turn, Turned, Turns, AreTurns, Carries, device_of, Exit}
 use Rattle.sof_run.specs.Met.{command_deeds}
 use Rattle.sof_run.specs.Keeping.{trace_slot, fronted, recorded_turns, LeftRecords, LeftBy, TurnsLeft}
 use Rattle.sof_run.specs.KeptTurns.{KeptCarry, KeptTurn, CanKeep, GaveKept}
 use Rattle.sof_run.specs.Opening.{SameFiles}
-use Rattle.sof_run.specs.Todo.{Todo, GaveBy, Played}
-use Rattle.sof_run.proofs.TracedSessions.{bare_seat, bare_life, command-bare, agreed-bare, calm-traced}
+use Rattle.sof_run.specs.Play.{ready_todo}
+use Rattle.sof_run.specs.Todo.{Todo, Free, GaveBy, Played}
+use Rattle.sof_run.proofs.Begins.{BeginsAtLoad, begins_at_load}
+use Rattle.sof_run.proofs.TracedSessions.{bare_seat, bare_life, stepped-bare, agreed-bare, calm-traced}
 use Rattle.sof_run.proofs.DeedRecords.{Leaves}
 use Rattle.sof_run.proofs.CommandRecords.{command-leaves}
 
@@ -49,6 +54,15 @@ pub none_named : {N : Type 0} (trace : Option N) → is_some trace ≡ false →
 none_named None none = refl
 none_named (Some name) none = absurd (cc none)
 
+-- it is one of a play that makes all pipelines at a load
+pub at_load_by : {N : Type 0} (on_use : Bool) (trace : Option N) → is_some trace ≡ true → (on_use ≡ true → trace ≡ None) → on_use ≡ false
+at_load_by false trace some none = refl
+at_load_by true trace some none = absurd (some_named trace some (none refl))
+
+pub none_mapped : {N : Type 0} (f : N → List ℕ) (trace : Option N) → option_map f trace ≡ None → trace ≡ None
+none_mapped f None none = refl
+none_mapped f (Some name) none = absurd (cc none)
+
 pub named_as : {N : Type 0} (f : N → List ℕ) (trace : Option N) → is_some trace ≡ true → (name : List ℕ) × (option_map f trace ≡ Some name)
 named_as f None some = absurd (cc some)
 named_as f (Some n) some = (f n, refl)
@@ -66,8 +80,8 @@ module _ {P : Type 0} (means : Meaning P) where
       (subst (λ (s : Seat P). Turned means (Carry command) k.bare old (Seated s inputs' slots')) (sym same) k.turned)
 
   bare-turn : (task : Task) (out : Out) (old new : Life P) → Untraced task out old new → Turned means task out old new
-  bare-turn (Begin plan heap inputs slots) out (Bare dsp) new turned = turned.0
-  bare-turn (Begin plan heap inputs slots) out (Seated seat inputs' slots') new turned = absurd turned
+  bare-turn (Begin on_use plan heap inputs slots) out (Bare dsp) new turned = turned.0
+  bare-turn (Begin on_use plan heap inputs slots) out (Seated seat inputs' slots') new turned = absurd turned
   bare-turn (Fill reads next) out old new turned = turned
   bare-turn (Give call) out old new turned = absurd turned
   bare-turn (Carry command) out old (Bare dsp) turned = absurd turned
@@ -97,10 +111,10 @@ recorded-behind : (records : List (List Entry)) (reads : List (ℕ × List ℕ))
 recorded-behind [] reads next out turns = refl
 recorded-behind (es ∷ records) reads next out turns = refl
 
-recorded-begun : (records : List (List Entry)) (plan : Plan) (heap : ℕ) (inputs : List InputView) (slots : List ℕ) (out : Out) (turns : List Turn) →
-    recorded_turns records (record { task = Begin plan heap inputs slots; out = out } ∷ turns) ≡ record { task = Begin plan heap inputs slots; out = out } ∷ recorded_turns records turns
-recorded-begun [] plan heap inputs slots out turns = refl
-recorded-begun (es ∷ records) plan heap inputs slots out turns = refl
+recorded-begun : (records : List (List Entry)) (on_use : Bool) (plan : Plan) (heap : ℕ) (inputs : List InputView) (slots : List ℕ) (out : Out) (turns : List Turn) →
+    recorded_turns records (record { task = Begin on_use plan heap inputs slots; out = out } ∷ turns) ≡ record { task = Begin on_use plan heap inputs slots; out = out } ∷ recorded_turns records turns
+recorded-begun [] on_use plan heap inputs slots out turns = refl
+recorded-begun (es ∷ records) on_use plan heap inputs slots out turns = refl
 
 device-bare : {P : Type 0} (l : Life (Traced P)) → device_of (bare_life l) ≡ (device_of l).device
 device-bare (Bare dsp) = refl
@@ -116,10 +130,18 @@ module _ {P : Type 0} (means : Meaning P) where
   abbrev ByTracer : Task → Out → Life (Traced P) → Life (Traced P) → Type 0
   ByTracer = KeptTurn T holds Emptied
 
-  -- nothing is held, and a session's two sides agree
+  -- nothing is held, and a session makes all pipelines at a load, and its two sides agree
+  abbrev IsCleanSeat : Seat (Traced P) → Type 0
+  IsCleanSeat seat = (seat.link.device.held ≡ no_records) × IsInMode made_at_load seat × AreAgreed T seat
+
   abbrev Clean : Life (Traced P) → Type 0
   Clean (Bare dsp) = dsp.held ≡ no_records
-  Clean (Seated seat inputs slots) = (seat.link.device.held ≡ no_records) × AreAgreed T seat
+  Clean (Seated seat inputs slots) = IsCleanSeat seat
+
+  -- a session that is begun over a device makes all pipelines at a load
+  abbrev IsFirst : Life (Traced P) → List Turn → Type 0
+  IsFirst (Bare dsp) turns = BeginsAtLoad turns
+  IsFirst (Seated seat inputs slots) turns = Unit {0}
 
   -- turns with records in front are turns of the device
   record Split (turns : List Turn) (p q : Life (Traced P)) : Type 0 where
@@ -131,7 +153,7 @@ module _ {P : Type 0} (means : Meaning P) where
 
   -- ---- a command
 
-  module _ (command : Command) (out : Out) (seat seat' : Seat (Traced P)) (inputs inputs' : List InputView) (slots slots' : List ℕ) (clean : seat.link.device.held ≡ no_records) (agreed : AreAgreed T seat)
+  module _ (command : Command) (out : Out) (seat seat' : Seat (Traced P)) (inputs inputs' : List InputView) (slots slots' : List ℕ) (clean : seat.link.device.held ≡ no_records) (mode_is : IsInMode made_at_load seat) (agreed : AreAgreed T seat)
       (k : KeptCarry T holds Emptied command out (Seated seat inputs slots) seat' inputs' slots') where
     abbrev left : Seat (Traced P)
     left = k.left
@@ -145,8 +167,11 @@ module _ {P : Type 0} (means : Meaning P) where
     abbrev v : World (Wire (Traced P))
     v = world left.link inputs' c.outputs
 
+    did : CommandDoneIn T made_at_load command seat left w v k.bare.answer
+    did = (load-stepped T command seat left w v k.bare.answer c.stepped mode_is).0
+
     pub l : Leaves means (Calm T seat.link.device left.link.device) (inner w) (inner v) (command_deeds seat.plan seat.heap (known_of seat.link seat.kept) command) 1048576
-    l = command-leaves means seat.plan seat.heap command seat.kept left.kept w v k.bare.answer agreed.sound agreed.agree.record_is agreed.fated agreed.pending c.stepped
+    l = command-leaves means seat.plan seat.heap command seat.kept left.kept w v k.bare.answer agreed.sound agreed.agree.record_is agreed.fated agreed.pending did.done
 
     abbrev pub es : List Entry
     es = entries_along T (inner w) l.calls (inner v) l.led
@@ -165,18 +190,19 @@ module _ {P : Type 0} (means : Meaning P) where
     device-is = k.emptied.did
 
     same-bare : bare_seat seat' ≡ bare_seat left
-    same-bare = ap bare_seat k.rest ∙ (λ i. record { link = record { device = (device-is i).device; entries = left.link.entries; sent = left.link.sent; dropped = left.link.dropped; refused = left.link.refused }; kept = left.kept; plan = left.plan; heap = left.heap })
+    same-bare = ap bare_seat k.rest ∙ (λ i. record { link = record { device = (device-is i).device; entries = left.link.entries; sent = left.link.sent; dropped = left.link.dropped; refused = left.link.refused }; kept = left.kept; plan = left.plan; heap = left.heap; up = left.up })
 
     pub clean-after : Clean (Seated seat' inputs' slots')
     clean-after = (
       ap (λ (t : Traced P). t.held) device-is,
+      ap (λ (s : Seat (Traced P)). is_some s.up) k.rest ∙ did.stays,
       subst (AreAgreed T) (sym k.rest) (AreAgreed-drained T left seat'.link.device k.emptied.on k.emptied.quiet c.agrees),
     )
 
     bare-carries : Carries means command k.bare (bare_seat seat) (bare_seat left) inputs inputs' slots
     bare-carries = record {
       outputs = c.outputs;
-      stepped = command-bare means seat.plan seat.heap command seat.kept left.kept w v k.bare.answer c.stepped;
+      stepped = stepped-bare means command seat left w v k.bare.answer (none_named seat.up mode_is) did;
       shown = c.shown;
       written = c.written;
       ends = c.ends;
@@ -213,24 +239,24 @@ module _ {P : Type 0} (means : Meaning P) where
   -- ---- turns, one after another
 
   -- one, and those behind it
-  split-by : (task : Task) (out : Out) (turns : List Turn) (p m q : Life (Traced P)) → (Clean m → AreTurns ByTracer m turns q → Split turns m q) → Clean p → ByTracer task out p m → AreTurns ByTracer m turns q → Split (record { task = task; out = out } ∷ turns) p q
-  split-by (Begin plan heap inputs slots) out turns (Bare dsp) m q others clean step more =
-      let after : Clean m = subst Clean (sym step.0) (clean, step.1) in
-      let rest = others after more in
+  split-by : (task : Task) (out : Out) (turns : List Turn) (p m q : Life (Traced P)) → (Clean m → IsFirst m turns → AreTurns ByTracer m turns q → Split turns m q) → Clean p → IsFirst p (record { task = task; out = out } ∷ turns) → ByTracer task out p m → AreTurns ByTracer m turns q → Split (record { task = task; out = out } ∷ turns) p q
+  split-by (Begin on_use plan heap inputs slots) out turns (Bare dsp) m q others clean first step more =
+      let after : Clean m = subst Clean (sym step.0) (clean, ap (λ (u : Bool). is_some (first_up u)) first, step.1) in
+      let rest = others after (subst (λ (l : Life (Traced P)). IsFirst l turns) (sym step.0) tt) more in
       record {
-        bare = record { task = Begin plan heap inputs slots; out = out } ∷ rest.bare;
+        bare = record { task = Begin on_use plan heap inputs slots; out = out } ∷ rest.bare;
         turned = (bare_life m, ap bare_life step.0, rest.turned);
         records = rest.records;
         kept = rest.kept;
-        are = ap (λ (ts : List Turn). record { task = Begin plan heap inputs slots; out = out } ∷ ts) rest.are ∙ sym (recorded-begun rest.records plan heap inputs slots out rest.bare);
+        are = ap (λ (ts : List Turn). record { task = Begin on_use plan heap inputs slots; out = out } ∷ ts) rest.are ∙ sym (recorded-begun rest.records on_use plan heap inputs slots out rest.bare);
       }
-  split-by (Begin plan heap inputs slots) out turns (Seated seat inputs' slots') m q others clean step more = absurd step
-  split-by (Give call) out turns p m q others clean step more = absurd step
-  split-by (Fill reads next) out turns (Bare dsp) m q others clean step more = absurd step
-  split-by (Fill reads next) out turns (Seated seat inputs slots) (Bare dsp) q others clean step more = absurd step
-  split-by (Fill reads next) out turns (Seated seat inputs slots) (Seated seat' inputs' slots') q others clean step more =
-      let after : Clean (Seated seat' inputs' slots') = subst (λ (s : Seat (Traced P)). (s.link.device.held ≡ no_records) × AreAgreed T s) (sym step.0) clean in
-      let rest = others after more in
+  split-by (Begin on_use plan heap inputs slots) out turns (Seated seat inputs' slots') m q others clean first step more = absurd step
+  split-by (Give call) out turns p m q others clean first step more = absurd step
+  split-by (Fill reads next) out turns (Bare dsp) m q others clean first step more = absurd step
+  split-by (Fill reads next) out turns (Seated seat inputs slots) (Bare dsp) q others clean first step more = absurd step
+  split-by (Fill reads next) out turns (Seated seat inputs slots) (Seated seat' inputs' slots') q others clean first step more =
+      let after : Clean (Seated seat' inputs' slots') = subst IsCleanSeat (sym step.0) clean in
+      let rest = others after tt more in
       record {
         bare = record { task = Fill reads next; out = out } ∷ rest.bare;
         turned = (Seated (bare_seat seat') inputs' slots', (ap bare_seat step.0, step.1, step.2, step.3), rest.turned);
@@ -238,30 +264,32 @@ module _ {P : Type 0} (means : Meaning P) where
         kept = rest.kept;
         are = ap (λ (ts : List Turn). record { task = Fill reads next; out = out } ∷ ts) rest.are ∙ sym (recorded-behind rest.records reads next out rest.bare);
       }
-  split-by (Carry command) out turns p (Bare dsp) q others clean step more = absurd step
-  split-by (Carry command) out turns (Bare dsp) (Seated seat' inputs' slots') q others clean step more = absurd step.turned
-  split-by (Carry command) out turns (Seated seat inputs slots) (Seated seat' inputs' slots') q others clean step more =
-      let rest = others (clean-after command out seat seat' inputs inputs' slots slots' clean.0 clean.1 step) more in
-      let records = es command out seat seat' inputs inputs' slots slots' clean.0 clean.1 step in
+  split-by (Carry command) out turns p (Bare dsp) q others clean first step more = absurd step
+  split-by (Carry command) out turns (Bare dsp) (Seated seat' inputs' slots') q others clean first step more = absurd step.turned
+  split-by (Carry command) out turns (Seated seat inputs slots) (Seated seat' inputs' slots') q others clean first step more =
+      let rest = others (clean-after command out seat seat' inputs inputs' slots slots' clean.0 clean.1 clean.2 step) tt more in
+      let records = es command out seat seat' inputs inputs' slots slots' clean.0 clean.1 clean.2 step in
       record {
         bare = record { task = Carry command; out = step.bare } ∷ rest.bare;
-        turned = (bare_life (Seated seat' inputs' slots'), turned-bare command out seat seat' inputs inputs' slots slots' clean.0 clean.1 step, rest.turned);
+        turned = (bare_life (Seated seat' inputs' slots'), turned-bare command out seat seat' inputs inputs' slots slots' clean.0 clean.1 clean.2 step, rest.turned);
         records = records ∷ rest.records;
-        kept = (left-bare command out seat seat' inputs inputs' slots slots' clean.0 clean.1 step, rest.kept);
-        are = λ i. record { task = Carry command; out = out-bare command out seat seat' inputs inputs' slots slots' clean.0 clean.1 step i } ∷ rest.are i;
+        kept = (left-bare command out seat seat' inputs inputs' slots slots' clean.0 clean.1 clean.2 step, rest.kept);
+        are = λ i. record { task = Carry command; out = out-bare command out seat seat' inputs inputs' slots slots' clean.0 clean.1 clean.2 step i } ∷ rest.are i;
       }
 
-  split : (turns : List Turn) (p q : Life (Traced P)) → Clean p → AreTurns ByTracer p turns q → Split turns p q
-  split [] p q clean turned = record { bare = []; turned = ap bare_life turned; records = []; kept = refl; are = refl }
-  split (turn ∷ turns) p q clean turned = split-by turn.task turn.out turns p turned.0 q (split turns turned.0 q) clean turned.1 turned.2
+  split : (turns : List Turn) (p q : Life (Traced P)) → Clean p → IsFirst p turns → AreTurns ByTracer p turns q → Split turns p q
+  split [] p q clean first turned = record { bare = []; turned = ap bare_life turned; records = []; kept = refl; are = refl }
+  split (turn ∷ turns) p q clean first turned = split-by turn.task turn.out turns p turned.0 q (split turns turned.0 q) clean first turned.1 turned.2
 
   exit-bare : (p : P) (last : Life (Traced P)) → Exit T (new_tracer p) last → Exit means p (bare_life last)
   exit-bare p (Bare q) exit = ap (λ (t : Traced P). t.device) exit
   exit-bare p (Seated seat inputs slots) exit = agreed-bare means seat exit
 
-  pub traced_gave : {D : Type 0} (desk : DeskMeaning D) (name : List ℕ) (todo : Todo) (old new : D) (p : P) (q : Traced P) (status : ℕ) → GaveBy desk T ByTracer todo old (new_tracer p) status new q → GaveKept desk means (Some name) todo old p status new q.device
-  traced_gave desk name todo old new p q status gave =
-      let s = split gave.ran.turns (Bare (new_tracer p)) gave.last refl gave.ran.turned in
+  pub traced_gave : {D : Type 0} (desk : DeskMeaning D) (name : List ℕ) (on_use : Bool) → on_use ≡ false → (heap : ℕ) (plan : Plan) (read : Read) (old new : D) (p : P) (q : Traced P) (status : ℕ) →
+      GaveBy desk T ByTracer (Free (ready_todo on_use heap (Some name) plan read)) old (new_tracer p) status new q → GaveKept desk means (Some name) (Free (ready_todo on_use heap (Some name) plan read)) old p status new q.device
+  traced_gave desk name on_use at_load heap plan read old new p q status gave =
+      let first = begins_at_load on_use at_load heap (Some name) plan read gave.ran.turns gave.ran.played.calls status gave.ran.played.goes in
+      let s = split gave.ran.turns (Bare (new_tracer p)) gave.last refl first gave.ran.turned in
       record {
         last = bare_life gave.last;
         is = device-bare gave.last ∙ ap (λ (t : Traced P). t.device) gave.is;
@@ -270,5 +298,5 @@ module _ {P : Type 0} (means : Meaning P) where
         turned = s.turned;
         records = s.records;
         kept = s.kept;
-        played = subst (λ (ts : List Turn). Played desk todo old ts status new) s.are gave.ran.played;
+        played = subst (λ (ts : List Turn). Played desk (Free (ready_todo on_use heap (Some name) plan read)) old ts status new) s.are gave.ran.played;
       }

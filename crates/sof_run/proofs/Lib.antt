@@ -6,6 +6,7 @@ pub mod TracedSessions
 mod RecordEntries
 mod TracedViews
 pub mod DeedRecords
+pub mod Begins
 pub mod CommandRecords
 pub mod Kept
 pub mod RecordedTurns

@@ -7,7 +7,7 @@ use Rattle.tplg_plan.specs.declared.plans.Plan.{Plan}
 use Rattle.sof_script.specs.declared.script.Numbered.{Numbered}
 use Rattle.sof_script.specs.Commands.{Read}
 use Rattle.sof_base.specs.Ports.{InputView}
-use Rattle.sof_session.specs.Seat.{new_seat}
+use Rattle.sof_session.specs.Seat.{seat_in}
 use Rattle.sof_session.specs.Lives.{Life, Bare, Seated, Turn, Turning, Begin}
 use Rattle.sof_run.specs.declared.prepare.Halt.{Halt}
 use Rattle.sof_run.specs.declared.prepare.Halt.TheVariants as halt
@@ -29,41 +29,41 @@ module _ {D : Type 0} (means : DeskMeaning D) where
   abbrev pub halt_todo : Halt → Todo
   halt_todo why = Stop (halt_line why) (halt_status why)
 
-  told_todo : (heap : ℕ) (trace : Option (List ℕ)) (files : Prepared) (h : Halt) (status : ℕ) (old new : D) → files ≡ Halted h → Played means (halt_todo h) old [] status new → Played means (Free (prepared_todo heap trace files)) old [] status new
-  told_todo heap trace files h status old new is played = free_on means (prepared_todo heap trace files) [] status old new (subst (λ f. Played means (prepared_todo heap trace f) old [] status new) (sym is) played)
+  told_todo : (on_use : Bool) (heap : ℕ) (trace : Option (List ℕ)) (files : Prepared) (h : Halt) (status : ℕ) (old new : D) → files ≡ Halted h → Played means (halt_todo h) old [] status new → Played means (Free (prepared_todo on_use heap trace files)) old [] status new
+  told_todo on_use heap trace files h status old new is played = free_on means (prepared_todo on_use heap trace files) [] status old new (subst (λ f. Played means (prepared_todo on_use heap trace f) old [] status new) (sym is) played)
 
   -- a halt after both loads
-  pub halted_todo : (heap : ℕ) (trace : Option (List ℕ)) (files : Prepared) (h : Halt) (status : ℕ) (old new : D) → Halts h files → Played means (halt_todo h) old [] status new → Played means (Free (prepared_todo heap trace files)) old [] status new
-  halted_todo heap trace files (halt.Script line cause) status old new is played = told_todo heap trace files (halt.Script line cause) status old new is played
-  halted_todo heap trace files (halt.Ticks sum) status old new is played = told_todo heap trace files (halt.Ticks sum) status old new is played
-  halted_todo heap trace files (halt.Broken fault) status old new is played = told_todo heap trace files (halt.Broken fault) status old new is played
-  halted_todo heap trace files (halt.Rule rule item) status old new is played = told_todo heap trace files (halt.Rule rule item) status old new is played
-  halted_todo heap trace files (halt.Binding line) status old new is played = told_todo heap trace files (halt.Binding line) status old new is played
-  halted_todo heap trace files halt.OutOfMemory status old new is played = free_off means (prepared_todo heap trace files) status old new played
+  pub halted_todo : (on_use : Bool) (heap : ℕ) (trace : Option (List ℕ)) (files : Prepared) (h : Halt) (status : ℕ) (old new : D) → Halts h files → Played means (halt_todo h) old [] status new → Played means (Free (prepared_todo on_use heap trace files)) old [] status new
+  halted_todo on_use heap trace files (halt.Script line cause) status old new is played = told_todo on_use heap trace files (halt.Script line cause) status old new is played
+  halted_todo on_use heap trace files (halt.Ticks sum) status old new is played = told_todo on_use heap trace files (halt.Ticks sum) status old new is played
+  halted_todo on_use heap trace files (halt.Broken fault) status old new is played = told_todo on_use heap trace files (halt.Broken fault) status old new is played
+  halted_todo on_use heap trace files (halt.Rule rule item) status old new is played = told_todo on_use heap trace files (halt.Rule rule item) status old new is played
+  halted_todo on_use heap trace files (halt.Binding line) status old new is played = told_todo on_use heap trace files (halt.Binding line) status old new is played
+  halted_todo on_use heap trace files halt.OutOfMemory status old new is played = free_off means (prepared_todo on_use heap trace files) status old new played
 
 -- both files were loaded
 module _ {D : Type 0} (means : DeskMeaning D) (form : Form) (topology script : List ℕ) (old m n new : D) (status : ℕ) (first : Loaded means form.topology 1048576 (Ok topology) old m) (second : Loaded means form.script 1048576 (Ok script) m n) (are : AreBytes topology) (others : AreBytes script) where
-  loaded : (turns : List Turn) → Played means (Free (prepared_todo form.heap form.trace (prepared topology script))) n turns status new → Played means (play form) old turns status new
+  loaded : (turns : List Turn) → Played means (Free (prepared_todo form.on_use form.heap form.trace (prepared topology script))) n turns status new → Played means (play form) old turns status new
   loaded turns played =
-      let asks = λ (bytes : List ℕ). Free (prepared_todo form.heap form.trace (prepared topology bytes)) in
-      let after = λ (bytes : List ℕ). Ask form.script 1048576 (codes "too long script\n") (λ script. Free (prepared_todo form.heap form.trace (prepared bytes script))) in
+      let asks = λ (bytes : List ℕ). Free (prepared_todo form.on_use form.heap form.trace (prepared topology bytes)) in
+      let after = λ (bytes : List ℕ). Ask form.script 1048576 (codes "too long script\n") (λ script. Free (prepared_todo form.on_use form.heap form.trace (prepared bytes script))) in
       ask_on means form.topology 1048576 (codes "too long topology\n") after topology turns status old m new first are
       (ask_on means form.script 1048576 (codes "too long script\n") asks script turns status m n new second others played)
 
   -- they make a run
-  pub ready_on : (plan : Plan) (read : Read) (turns : List Turn) → prepared topology script ≡ Ready plan read → Played means (Free (ready_todo form.heap form.trace plan read)) n turns status new → Played means (play form) old turns status new
-  ready_on plan read turns is played = loaded turns (subst (λ files. Played means (Free (prepared_todo form.heap form.trace files)) n turns status new) (sym is) played)
+  pub ready_on : (plan : Plan) (read : Read) (turns : List Turn) → prepared topology script ≡ Ready plan read → Played means (Free (ready_todo form.on_use form.heap form.trace plan read)) n turns status new → Played means (play form) old turns status new
+  ready_on plan read turns is played = loaded turns (subst (λ files. Played means (Free (prepared_todo form.on_use form.heap form.trace files)) n turns status new) (sym is) played)
 
   -- they make none
   pub halted_on : (h : Halt) → Halts h (prepared topology script) → Played means (halt_todo means h) n [] status new → Played means (play form) old [] status new
-  halted_on h is played = loaded [] (halted_todo means form.heap form.trace (prepared topology script) h status n new is played)
+  halted_on h is played = loaded [] (halted_todo means form.on_use form.heap form.trace (prepared topology script) h status n new is played)
 
 -- the second file was not loaded
 pub second_missing : {D : Type 0} (means : DeskMeaning D) (form : Form) (topology : List ℕ) (old m new : D) (status : ℕ) → Loaded means form.topology 1048576 (Ok topology) old m → AreBytes topology →
     ((next : List ℕ → Todo) → Played means (Ask form.script 1048576 (codes "too long script\n") next) m [] status new) → Played means (play form) old [] status new
 second_missing means form topology old m new status first are missing =
-    let after = λ (bytes : List ℕ). Ask form.script 1048576 (codes "too long script\n") (λ script. Free (prepared_todo form.heap form.trace (prepared bytes script))) in
-    ask_on means form.topology 1048576 (codes "too long topology\n") after topology [] status old m new first are (missing (λ script. Free (prepared_todo form.heap form.trace (prepared topology script))))
+    let after = λ (bytes : List ℕ). Ask form.script 1048576 (codes "too long script\n") (λ script. Free (prepared_todo form.on_use form.heap form.trace (prepared bytes script))) in
+    ask_on means form.topology 1048576 (codes "too long topology\n") after topology [] status old m new first are (missing (λ script. Free (prepared_todo form.on_use form.heap form.trace (prepared topology script))))
 
 module _ {D L : Type 0} (means : DeskMeaning D) (by : Turning L) where
   -- what calls on the desk make of a run
@@ -83,21 +83,21 @@ module _ {D L : Type 0} (means : DeskMeaning D) (by : Turning L) where
   free_ran todo old new p q status ran = over (Free todo) todo old old new p q status (λ turns played. free_on means todo turns status old new played) ran
 
 module _ {D P : Type 0} (means : DeskMeaning D) (by : Turning (Life P)) where
-  module _ (plan : Plan) (heap : ℕ) (p : P) where
+  module _ (on_use : Bool) (plan : Plan) (heap : ℕ) (p : P) where
     -- a session over the device
     pub begin_on : (inputs : List InputView) (slots : List ℕ) (commands : List Numbered) (old new : D) (status : ℕ) (q : Life P) →
-        by (Begin plan heap inputs slots) (record { answer = answers.Done; shown = []; written = [] }) (Bare p) (Seated (new_seat plan heap p) inputs slots) →
-        RanOn means by (commands_todo commands End) old (Seated (new_seat plan heap p) inputs slots) status new q → RanOn means by (session_todo heap plan commands inputs slots) old (Bare p) status new q
+        by (Begin on_use plan heap inputs slots) (record { answer = answers.Done; shown = []; written = [] }) (Bare p) (Seated (seat_in on_use plan heap p) inputs slots) →
+        RanOn means by (commands_todo commands End) old (Seated (seat_in on_use plan heap p) inputs slots) status new q → RanOn means by (session_todo on_use heap plan commands inputs slots) old (Bare p) status new q
     begin_on inputs slots commands old new status q begun ran =
-        step_on means by (record { task = Begin plan heap inputs slots; out = record { answer = answers.Done; shown = []; written = [] } }) (λ out. commands_todo commands End) status old new (Bare p) (Seated (new_seat plan heap p) inputs slots) q begun ran
+        step_on means by (record { task = Begin on_use plan heap inputs slots; out = record { answer = answers.Done; shown = []; written = [] } }) (λ out. commands_todo commands End) status old new (Bare p) (Seated (seat_in on_use plan heap p) inputs slots) q begun ran
 
     -- the bindings come before it, and the trace
     pub opened_on : (trace : Option (List ℕ)) (read : Read) (old m n new : D) (status : ℕ) (q : Life P) → DeskPhase means (bindings_todo plan read.bindings) true old m → DeskPhase means (traced_todo trace) true m n →
-        RanOn means by (session_todo heap plan read.commands (bound_inputs plan [] read.bindings) (bound_slots plan read.bindings)) n (Bare p) status new q → RanOn means by (Free (ready_todo heap trace plan read)) old (Bare p) status new q
+        RanOn means by (session_todo on_use heap plan read.commands (bound_inputs plan [] read.bindings) (bound_slots plan read.bindings)) n (Bare p) status new q → RanOn means by (Free (ready_todo on_use heap trace plan read)) old (Bare p) status new q
     opened_on trace read old m n new status q opens creates ran =
-        let session = session_todo heap plan read.commands (bound_inputs plan [] read.bindings) (bound_slots plan read.bindings) in
-        free_ran means by (ready_todo heap trace plan read) old new (Bare p) q status
-        (over means by (ready_todo heap trace plan read) (traced_todo trace session) old m new (Bare p) q status (λ turns played. opens (traced_todo trace session) turns status new played)
+        let session = session_todo on_use heap plan read.commands (bound_inputs plan [] read.bindings) (bound_slots plan read.bindings) in
+        free_ran means by (ready_todo on_use heap trace plan read) old new (Bare p) q status
+        (over means by (ready_todo on_use heap trace plan read) (traced_todo trace session) old m new (Bare p) q status (λ turns played. opens (traced_todo trace session) turns status new played)
         (over means by (traced_todo trace session) session m n new (Bare p) q status (λ turns played. creates session turns status new played) ran))
 
   -- nothing was done with the device

@@ -41,7 +41,7 @@ records-each means (turn ∷ turns) p q turned records kept = by (λ rs left. re
         TurnLeft means task p turned.0 rs (λ rest. TurnsLeft means turned.0 turns q turned.2 rest) → AllByRecursion IsEntry (all_records rs)
     by later (Carry command) [] left = absurd left
     by later (Carry command) (es ∷ rest) left = all_append es (all_records rest) (left_each means command p turned.0 es left.0) (later rest left.1)
-    by later (Begin plan heap inputs slots) rs left = later rs left
+    by later (Begin on_use plan heap inputs slots) rs left = later rs left
     by later (Fill reads next) rs left = later rs left
     by later (Give call) rs left = later rs left
 
@@ -124,8 +124,8 @@ module _ {D : Type 0} (means : DeskMeaning D) (turns : List Turn) where
 
   pub told_heard : (form : Form) (topology script : List ℕ) (calls : List DeskCall) (d e : D) → means.holds d form.topology ≡ Some topology → means.holds d form.script ≡ Some script → DoneBy (play form) turns calls 0 → DeskLed means d calls e → heard_in calls ≡ Ok topology ∷ Ok script ∷ []
   told_heard form topology script calls d e first second goes led =
-      let behind : List ℕ → List ℕ → Todo = λ xs ys. Free (prepared_todo form.heap form.trace (prepared xs ys)) in
+      let behind : List ℕ → List ℕ → Todo = λ xs ys. Free (prepared_todo form.on_use form.heap form.trace (prepared xs ys)) in
       let a = brought form.topology (codes "too long topology\n") topology 1048576 (λ xs. Ask form.script 1048576 (codes "too long script\n") (behind xs)) calls d e first goes led in
       let b = brought form.script (codes "too long script\n") script 1048576 (behind topology) a.later a.mid e (a.holds form.script ∙ second) a.goes a.led in
-      let none : heard_in b.later ≡ [] = unheard (behind topology script) turns b.later 0 b.goes (tt, prepared_all AnyStatus (λ name. ⊥) form.heap form.trace (prepared topology script) tt tt tt tt tt) in
+      let none : heard_in b.later ≡ [] = unheard (behind topology script) turns b.later 0 b.goes (tt, prepared_all AnyStatus (λ name. ⊥) form.on_use form.heap form.trace (prepared topology script) tt tt tt tt tt) in
       a.heard ∙ ap (λ (hs : List Heard). Ok topology ∷ hs) (b.heard ∙ ap (λ (hs : List Heard). Ok script ∷ hs) none)

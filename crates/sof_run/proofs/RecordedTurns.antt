@@ -1,5 +1,5 @@
 -- Turns with records in front do what they do without.
-use Rattle.std.proofs.Common.{◌≡◌, refl, sym, ap, ◌∙◌, subst, ℕ, List, [], ◌∷◌, ◌++◌, map, length, Option, None, arith}
+use Rattle.std.proofs.Common.{Bool, ◌≡◌, refl, sym, ap, ◌∙◌, subst, ℕ, List, [], ◌∷◌, ◌++◌, map, length, Option, None, arith}
 use Rattle.sof_base.specs.Ports.{InputView}
 use Rattle.mbox_link.specs.Calls.{Meaning}
 use Rattle.tplg_plan.specs.declared.plans.Plan.{Plan}
@@ -47,7 +47,7 @@ outs_recorded (es ∷ records) (turn ∷ turns) = by turn.task (outs_recorded re
     by : (task : Task) → carried_outs (recorded_turns records turns) ≡ recorded_outs records (carried_outs turns) → carried_outs (recorded_turns (es ∷ records) turns) ≡ recorded_outs (es ∷ records) (carried_outs turns) →
         with_out task (fronted_at task (records_bytes es) turn.out) (carried_outs (recorded_turns (records_behind task (es ∷ records)) turns)) ≡ recorded_outs (es ∷ records) (with_out task turn.out (carried_outs turns))
     by (Carry command) used unused = ap (λ (outs : List Out). fronted (records_bytes es) turn.out ∷ outs) used
-    by (Begin plan heap inputs slots) used unused = unused
+    by (Begin on_use plan heap inputs slots) used unused = unused
     by (Fill reads next) used unused = unused
     by (Give call) used unused = unused
 
@@ -105,14 +105,14 @@ pub record BareBegun (records : List (List Entry)) (bare others : List Turn) (ta
   pub task_is : begins.task ≡ task
   pub others_are : others ≡ recorded_turns records rest
 
-pub bare_begun : (plan : Plan) (heap : ℕ) (inputs : List InputView) (slots : List ℕ) (records : List (List Entry)) (bare : List Turn) (begins : Turn) (others : List Turn) →
-    begins ∷ others ≡ recorded_turns records bare → begins.task ≡ Begin plan heap inputs slots → BareBegun records bare others (Begin plan heap inputs slots)
-bare_begun plan heap inputs slots [] bare begins others are task = record { begins = begins; rest = others; is = sym are; task_is = task; others_are = refl }
-bare_begun plan heap inputs slots (es ∷ records) [] begins others are task = absurd (cc are)
-bare_begun plan heap inputs slots (es ∷ records) (turn ∷ turns) begins others are task =
+pub bare_begun : (on_use : Bool) (plan : Plan) (heap : ℕ) (inputs : List InputView) (slots : List ℕ) (records : List (List Entry)) (bare : List Turn) (begins : Turn) (others : List Turn) →
+    begins ∷ others ≡ recorded_turns records bare → begins.task ≡ Begin on_use plan heap inputs slots → BareBegun records bare others (Begin on_use plan heap inputs slots)
+bare_begun on_use plan heap inputs slots [] bare begins others are task = record { begins = begins; rest = others; is = sym are; task_is = task; others_are = refl }
+bare_begun on_use plan heap inputs slots (es ∷ records) [] begins others are task = absurd (cc are)
+bare_begun on_use plan heap inputs slots (es ∷ records) (turn ∷ turns) begins others are task =
     let first : begins ≡ record { task = turn.task; out = fronted_at turn.task (records_bytes es) turn.out } = cc are in
     let behind : others ≡ recorded_turns (records_behind turn.task (es ∷ records)) turns = cc are in
-    let is : turn.task ≡ Begin plan heap inputs slots = sym (ap (λ (t : Turn). t.task) first) ∙ task in
+    let is : turn.task ≡ Begin on_use plan heap inputs slots = sym (ap (λ (t : Turn). t.task) first) ∙ task in
     record {
       begins = turn;
       rest = turns;

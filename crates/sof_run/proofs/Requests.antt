@@ -4,12 +4,12 @@ use Rattle.std.specs.Prelude.{option_map, Ok, Err}
 use Rattle.std.specs.Result.{result_ok}
 use Rattle.std.specs.Option.{option_or, option_and_then}
 use Rattle.std.specs.Str.{bytes_eq}
-use Rattle.std.proofs.lemmas.Bool.{and_parts, leb-true}
+use Rattle.std.proofs.lemmas.Bool.{false≢true, and_parts, leb-true}
 use Rattle.std.proofs.lemmas.Slice.Eq.{bytes_eq-Decides}
 use Rattle.sof_script.specs.declared.fault_causes.Cause.{Cause}
 use Rattle.sof_script.specs.declared.fault_causes.Cause.TheVariants as causes
 use Rattle.sof_script.specs.ValueForms.{in_range, decimal_value, number_value}
-use Rattle.sof_run.specs.Words.{Form, is_file_name, named_by, form_with, untraced_of, traced_of, play_of, trace_named}
+use Rattle.sof_run.specs.Words.{Form, is_file_name, named_by, form_with, untraced_by, untraced_of, dynamic_of, traced_of, play_of, trace_named}
 use Rattle.sof_run.specs.Checking.{check_of}
 use Rattle.sof_run.specs.Picturing.{graph_file_of}
 use Rattle.sof_run.specs.Compiling.{CompileNames, compile_of}
@@ -178,42 +178,50 @@ in_range_most least most (Some m) n is = by (nat_le least m && nat_le m most) re
     by true test is = let same : m ≡ n = cc is in subst (λ (k : ℕ). k ≤ most) same (leb-true m most (and_parts (nat_le least m) (nat_le m most) test).1)
     by false test is = absurd (cc is)
 
--- the heap of a form is at most the room
-form_most : (room : ℕ) (heap topology script : List ℕ) (trace : Option (List ℕ)) (f : Form) → form_with (result_ok (number_value 0 room heap)) topology script trace ≡ Some f → f.heap ≤ room
-form_most room heap topology script trace f is = by (result_ok (number_value 0 room heap)) refl is
+-- the heap of a form is at most the room, and where pipelines are made on use, no trace is kept
+abbrev pub IsFormIn : ℕ → Form → Type 0
+IsFormIn room f = (f.heap ≤ room) × (f.on_use ≡ true → f.trace ≡ None)
+
+form_in : (on_use : Bool) (room : ℕ) (heap topology script : List ℕ) (trace : Option (List ℕ)) (f : Form) → (on_use ≡ true → trace ≡ None) →
+    form_with on_use (result_ok (number_value 0 room heap)) topology script trace ≡ Some f → IsFormIn room f
+form_in on_use room heap topology script trace f untraced is = by (result_ok (number_value 0 room heap)) refl is
   where
-    by : (o : Option ℕ) → result_ok (number_value 0 room heap) ≡ o → form_with o topology script trace ≡ Some f → f.heap ≤ room
+    by : (o : Option ℕ) → result_ok (number_value 0 room heap) ≡ o → form_with on_use o topology script trace ≡ Some f → IsFormIn room f
     by None number is = absurd (cc is)
     by (Some n) number is =
-        let same : form n topology script trace ≡ f = cc (some_by (is_file_name topology && is_file_name script) (Some (form n topology script trace)) f is).1 in
-        subst (λ (f : Form). f.heap ≤ room) same (in_range_most 0 room (decimal_value heap) n number)
+        let same : form on_use n topology script trace ≡ f = cc (some_by (is_file_name topology && is_file_name script) (Some (form on_use n topology script trace)) f is).1 in
+        subst (IsFormIn room) same (in_range_most 0 room (decimal_value heap) n number, untraced)
 
-untraced_most : (room : ℕ) (words : List (List ℕ)) (f : Form) → untraced_of room words ≡ Some f → f.heap ≤ room
-untraced_most room [] f is = absurd (cc is)
-untraced_most room (verb ∷ []) f is = absurd (cc is)
-untraced_most room (verb ∷ heap ∷ []) f is = absurd (cc is)
-untraced_most room (verb ∷ heap ∷ topology ∷ []) f is = absurd (cc is)
-untraced_most room (verb ∷ heap ∷ topology ∷ script ∷ []) f is =
-    form_most room heap topology script None f (some_by (bytes_eq verb (codes "play")) (form_with (result_ok (number_value 0 room heap)) topology script None) f is).1
-untraced_most room (verb ∷ heap ∷ topology ∷ script ∷ more ∷ words) f is = absurd (cc is)
+untraced_in : (word : List ℕ) (on_use : Bool) (room : ℕ) (words : List (List ℕ)) (f : Form) → untraced_by word on_use room words ≡ Some f → IsFormIn room f
+untraced_in word on_use room [] f is = absurd (cc is)
+untraced_in word on_use room (verb ∷ []) f is = absurd (cc is)
+untraced_in word on_use room (verb ∷ heap ∷ []) f is = absurd (cc is)
+untraced_in word on_use room (verb ∷ heap ∷ topology ∷ []) f is = absurd (cc is)
+untraced_in word on_use room (verb ∷ heap ∷ topology ∷ script ∷ []) f is =
+    form_in on_use room heap topology script None f (λ uses. refl) (some_by (bytes_eq verb word) (form_with on_use (result_ok (number_value 0 room heap)) topology script None) f is).1
+untraced_in word on_use room (verb ∷ heap ∷ topology ∷ script ∷ more ∷ words) f is = absurd (cc is)
 
-traced_most : (room : ℕ) (words : List (List ℕ)) (f : Form) → traced_of room words ≡ Some f → f.heap ≤ room
-traced_most room [] f is = absurd (cc is)
-traced_most room (verb ∷ []) f is = absurd (cc is)
-traced_most room (verb ∷ heap ∷ []) f is = absurd (cc is)
-traced_most room (verb ∷ heap ∷ topology ∷ []) f is = absurd (cc is)
-traced_most room (verb ∷ heap ∷ topology ∷ script ∷ []) f is = absurd (cc is)
-traced_most room (verb ∷ heap ∷ topology ∷ script ∷ trace ∷ []) f is =
-    form_most room heap topology script (Some trace) f
-    (some_by (bytes_eq verb (codes "trace") && is_file_name trace) (form_with (result_ok (number_value 0 room heap)) topology script (Some trace)) f is).1
-traced_most room (verb ∷ heap ∷ topology ∷ script ∷ trace ∷ more ∷ words) f is = absurd (cc is)
+traced_in : (room : ℕ) (words : List (List ℕ)) (f : Form) → traced_of room words ≡ Some f → IsFormIn room f
+traced_in room [] f is = absurd (cc is)
+traced_in room (verb ∷ []) f is = absurd (cc is)
+traced_in room (verb ∷ heap ∷ []) f is = absurd (cc is)
+traced_in room (verb ∷ heap ∷ topology ∷ []) f is = absurd (cc is)
+traced_in room (verb ∷ heap ∷ topology ∷ script ∷ []) f is = absurd (cc is)
+traced_in room (verb ∷ heap ∷ topology ∷ script ∷ trace ∷ []) f is =
+    form_in false room heap topology script (Some trace) f (λ uses. absurd (false≢true uses))
+    (some_by (bytes_eq verb (codes "trace") && is_file_name trace) (form_with false (result_ok (number_value 0 room heap)) topology script (Some trace)) f is).1
+traced_in room (verb ∷ heap ∷ topology ∷ script ∷ trace ∷ more ∷ words) f is = absurd (cc is)
 
-play_most : (room : ℕ) (words : List (List ℕ)) (f : Form) → play_of room words ≡ Some f → f.heap ≤ room
-play_most room words f is = by (untraced_of room words) refl is
+pub play_in : (room : ℕ) (words : List (List ℕ)) (f : Form) → play_of room words ≡ Some f → IsFormIn room f
+play_in room words f is = by (untraced_of room words) refl is
   where
-    by : (o : Option Form) → untraced_of room words ≡ o → option_or o (traced_of room words) ≡ Some f → f.heap ≤ room
-    by (Some g) untraced is = untraced_most room words f (untraced ∙ is)
-    by None untraced is = traced_most room words f is
+    later : (o : Option Form) → dynamic_of room words ≡ o → option_or o (traced_of room words) ≡ Some f → IsFormIn room f
+    later (Some g) dynamic is = untraced_in (codes "dynamic") true room words f (dynamic ∙ is)
+    later None dynamic is = traced_in room words f is
+
+    by : (o : Option Form) → untraced_of room words ≡ o → option_or o (option_or (dynamic_of room words) (traced_of room words)) ≡ Some f → IsFormIn room f
+    by (Some g) untraced is = untraced_in (codes "play") false room words f (untraced ∙ is)
+    by None untraced is = later (dynamic_of room words) refl is
 
 -- the number of a stress is at most 1000
 pub stress_most : (words : List (List ℕ)) (seed : ℕ) → stress_of words ≡ Some seed → seed ≤ 1000
@@ -223,9 +231,9 @@ stress_most (verb ∷ number ∷ []) seed is =
     in_range_most 1 1000 (decimal_value number) seed (some_by (bytes_eq verb (codes "stress")) (result_ok (number_value 1 1000 number)) seed is).1
 stress_most (verb ∷ number ∷ more ∷ words) seed is = absurd (cc is)
 
--- heap and number are at most these
+-- a form is one of these, and a number at most this
 abbrev pub IsWithin : ℕ → Request → Type 0
-IsWithin room (Play f) = f.heap ≤ room
+IsWithin room (Play f) = IsFormIn room f
 IsWithin room (Check name) = Unit {0}
 IsWithin room (Picture name) = Unit {0}
 IsWithin room (Compile names) = Unit {0}
@@ -239,7 +247,7 @@ asked_within room words r is = by (play_of room words) refl (check_of words) (gr
   where
     by : (p : Option Form) → play_of room words ≡ p → (c g : Option (List ℕ)) (s : Option CompileNames) (f : Option SourceFiles) (n : Option ℕ) → stress_of words ≡ n → (d w : Option (List ℕ)) →
         option_or (option_map Play p) (option_or (option_map Check c) (option_or (option_map Picture g) (option_or (option_map Compile s) (option_or (option_map Source f) (option_or (option_map Stress n) (option_or (option_map Decode d) (option_map Replay w))))))) ≡ Some r → IsWithin room r
-    by (Some asked) is_play c g s f n is_stress d w is = let same : Play asked ≡ r = cc is in subst (IsWithin room) same (play_most room words asked is_play)
+    by (Some asked) is_play c g s f n is_stress d w is = let same : Play asked ≡ r = cc is in subst (IsWithin room) same (play_in room words asked is_play)
     by None is_play (Some name) g s f n is_stress d w is = let same : Check name ≡ r = cc is in subst (IsWithin room) same tt
     by None is_play None (Some name) s f n is_stress d w is = let same : Picture name ≡ r = cc is in subst (IsWithin room) same tt
     by None is_play None None (Some names) f n is_stress d w is = let same : Compile names ≡ r = cc is in subst (IsWithin room) same tt

@@ -6,9 +6,11 @@ use Rattle.sof_desk.specs.Desk.{DeskMeaning, Spoken, Slot, DeskCall, Load, Did, 
 use Rattle.mbox_link.specs.Calls.{Meaning}
 use Rattle.tplg_plan.specs.Sound.{IsSound}
 use Rattle.stream_law.specs.Past.{Moment}
+use Rattle.host_widgets.specs.declared.kept.Record.{Record}
 use Rattle.sof_session.specs.Commands.{Known}
-use Rattle.sof_session.specs.Written.{Out, Ground, At, first_at, end_of, moments_of}
+use Rattle.sof_session.specs.Written.{Out, Ground, At, first_at, end_of, moments_of, basis_of}
 use Rattle.sof_session.specs.Lives.{Life, Bare, Seated, Turn, Turns}
+use Rattle.sof_session.specs.Modes.{made_at_load}
 use Rattle.sof_session.specs.RunOver.{EndsAt}
 use Rattle.sof_stress.specs.declared.counts.Counts.{Counts}
 use Rattle.sof_stress.specs.Draws.{stream_count}
@@ -66,9 +68,9 @@ counted_off slot (t ∷ todo) counts next (turn ∷ turns) calls status none goe
 -- ---- the run
 
 -- a session at the end of a run has sent what the run says
-sent_at : {P : Type 0} (dsp : Meaning P) (g : Ground) (life : Life P) (moments : List Moment) (at : At) → EndsAt dsp g life moments at → sent_in life ≡ at.known.queue.sent
+sent_at : {P : Type 0} (dsp : Meaning P) (g : Ground) (life : Life P) (moments : List Moment) (at : At Record) → EndsAt dsp made_at_load g life moments at → sent_in life ≡ at.known.queue.sent
 sent_at dsp g (Bare p) moments at ends = absurd ends
-sent_at dsp g (Seated seat inputs slots) moments at ends = ap (λ (k : Known). k.queue.sent) ends.known_is
+sent_at dsp g (Seated seat inputs slots) moments at ends = ap (λ (k : Known Record). k.queue.sent) ends.known_is
 
 module _ {D P : Type 0} (means : DeskMeaning D) (dsp : Meaning P) (seed : ℕ) (small_is : seed ≤ 1000) (old new : D) (status : ℕ) (p : P) (last : Life P) (off : dsp.on p ≡ None) (sound : IsSound (stress_plan seed)) where
   abbrev g : Ground
@@ -84,7 +86,7 @@ module _ {D P : Type 0} (means : DeskMeaning D) (dsp : Meaning P) (seed : ℕ) (
       let lines : List Out → ℕ → List (List ℕ) = λ outs n. stress_lines (stress_counts seed n outs) in
       let parted = lines_parted means (lines (map (λ (turn : Turn). turn.out) turns) sent) [] calls old new status made.1 led in
       let same : concat (map with_newline (lines (map (λ (turn : Turn). turn.out) turns) sent)) ≡ stress_text seed g over.0 =
-      λ i. concat (map with_newline (lines (sym over.2 i) ((is_sent ∙ sent_at dsp g last (moments_of over.0) (end_of (first_at g) over.0) over.1.ends) i))) in
+      λ i. concat (map with_newline (lines (sym over.2 i) ((is_sent ∙ sent_at dsp g last (moments_of over.0) (end_of (first_at (basis_of g)) over.0) over.1.ends) i))) in
       record {
         legs = over.0;
         over = over.1;

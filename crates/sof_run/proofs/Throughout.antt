@@ -66,8 +66,8 @@ module _ (P : ℕ → Type 0) (A : List ℕ → Type 0) where
   rounds_all [] done = done
   rounds_all (round ∷ rounds) done = λ out. flush_all out.written (lines_todo (lines_after round out) (rounds_todo rounds End)) (lines_all (lines_after round out) (rounds_todo rounds End) (rounds_all rounds done))
 
-  session_all : (heap : ℕ) (plan : Plan) (commands : List Numbered) (inputs : List InputView) (slots : List ℕ) → P 0 → Throughout P A (session_todo heap plan commands inputs slots)
-  session_all heap plan commands inputs slots done = λ out. rounds_all (rounds_of commands) done
+  session_all : (on_use : Bool) (heap : ℕ) (plan : Plan) (commands : List Numbered) (inputs : List InputView) (slots : List ℕ) → P 0 → Throughout P A (session_todo on_use heap plan commands inputs slots)
+  session_all on_use heap plan commands inputs slots done = λ out. rounds_all (rounds_of commands) done
 
   bindings_all : (plan : Plan) (bs : List Bound) (rest : Todo) → Throughout P A rest → Throughout P A (bindings_todo plan bs rest)
   bindings_all plan [] rest all = all
@@ -77,11 +77,11 @@ module _ (P : ℕ → Type 0) (A : List ℕ → Type 0) where
   acts_all [] rest all = all
   acts_all (act ∷ acts) rest all = acts_all acts rest all
 
-  pub ready_all : (heap : ℕ) (trace : Option (List ℕ)) (plan : Plan) (read : Read) → P 0 → Throughout P A (ready_todo heap trace plan read)
-  ready_all heap trace plan read done =
-      let session = session_todo heap plan read.commands (bound_inputs plan [] read.bindings) (bound_slots plan read.bindings) in
+  pub ready_all : (on_use : Bool) (heap : ℕ) (trace : Option (List ℕ)) (plan : Plan) (read : Read) → P 0 → Throughout P A (ready_todo on_use heap trace plan read)
+  ready_all on_use heap trace plan read done =
+      let session = session_todo on_use heap plan read.commands (bound_inputs plan [] read.bindings) (bound_slots plan read.bindings) in
       bindings_all plan read.bindings (traced_todo trace session)
-      (acts_all (trace_acts trace) session (session_all heap plan read.commands (bound_inputs plan [] read.bindings) (bound_slots plan read.bindings) done))
+      (acts_all (trace_acts trace) session (session_all on_use heap plan read.commands (bound_inputs plan [] read.bindings) (bound_slots plan read.bindings) done))
 
   halts_all : (why : Halt) → P 2 → P 4 → P 7 → P 8 → P (halt_status why)
   halts_all (halt.Script line cause) two four seven eight = four
@@ -91,13 +91,13 @@ module _ (P : ℕ → Type 0) (A : List ℕ → Type 0) where
   halts_all (halt.Binding line) two four seven eight = four
   halts_all halt.OutOfMemory two four seven eight = seven
 
-  pub prepared_all : (heap : ℕ) (trace : Option (List ℕ)) (files : Prepared) → P 0 → P 2 → P 4 → P 7 → P 8 → Throughout P A (prepared_todo heap trace files)
-  prepared_all heap trace (Ready plan read) done two four seven eight = ready_all heap trace plan read done
-  prepared_all heap trace (Halted why) done two four seven eight = halts_all why two four seven eight
+  pub prepared_all : (on_use : Bool) (heap : ℕ) (trace : Option (List ℕ)) (files : Prepared) → P 0 → P 2 → P 4 → P 7 → P 8 → Throughout P A (prepared_todo on_use heap trace files)
+  prepared_all on_use heap trace (Ready plan read) done two four seven eight = ready_all on_use heap trace plan read done
+  prepared_all on_use heap trace (Halted why) done two four seven eight = halts_all why two four seven eight
 
   pub play_all : (form : Form) → P 0 → P 2 → P 4 → P 5 → P 7 → P 8 → ((name : List ℕ) → A name) → Throughout P A (play form)
   play_all form done two four five seven eight names =
-      (names form.topology, five, seven, λ topology. (names form.script, five, seven, λ script. (seven, prepared_all form.heap form.trace (prepared topology script) done two four seven eight)))
+      (names form.topology, five, seven, λ topology. (names form.script, five, seven, λ script. (seven, prepared_all form.on_use form.heap form.trace (prepared topology script) done two four seven eight)))
 
   said_all : (lines : List (List ℕ)) → P 0 → Throughout P A (said_todo lines End)
   said_all [] done = done
@@ -240,8 +240,8 @@ given_puts room (e ∷ es) end on awaited at last puts =
 
 -- the status is 3 or one of those, and one of those where all was done
 module _ (P : ℕ → Type 0) (done : P 0) where
-  session_last : (heap : ℕ) (plan : Plan) (commands : List Numbered) (inputs : List InputView) (slots : List ℕ) → TurnsLast P (session_todo heap plan commands inputs slots)
-  session_last heap plan commands inputs slots = λ out. (rounds_all P (λ name. ⊥) (rounds_of commands) done, rounds_puts (rounds_of commands))
+  session_last : (on_use : Bool) (heap : ℕ) (plan : Plan) (commands : List Numbered) (inputs : List InputView) (slots : List ℕ) → TurnsLast P (session_todo on_use heap plan commands inputs slots)
+  session_last on_use heap plan commands inputs slots = λ out. (rounds_all P (λ name. ⊥) (rounds_of commands) done, rounds_puts (rounds_of commands))
 
   bindings_last : (plan : Plan) (bs : List Bound) (rest : Todo) → TurnsLast P rest → TurnsLast P (bindings_todo plan bs rest)
   bindings_last plan [] rest last = last
@@ -251,12 +251,12 @@ module _ (P : ℕ → Type 0) (done : P 0) where
   acts_last [] rest last = last
   acts_last (act ∷ acts) rest last = acts_last acts rest last
 
-  prepared_last : (heap : ℕ) (trace : Option (List ℕ)) (files : Prepared) → TurnsLast P (prepared_todo heap trace files)
-  prepared_last heap trace (Ready plan read) =
-      let session = session_todo heap plan read.commands (bound_inputs plan [] read.bindings) (bound_slots plan read.bindings) in
+  prepared_last : (on_use : Bool) (heap : ℕ) (trace : Option (List ℕ)) (files : Prepared) → TurnsLast P (prepared_todo on_use heap trace files)
+  prepared_last on_use heap trace (Ready plan read) =
+      let session = session_todo on_use heap plan read.commands (bound_inputs plan [] read.bindings) (bound_slots plan read.bindings) in
       bindings_last plan read.bindings (traced_todo trace session)
-      (acts_last (trace_acts trace) session (session_last heap plan read.commands (bound_inputs plan [] read.bindings) (bound_slots plan read.bindings)))
-  prepared_last heap trace (Halted why) = tt
+      (acts_last (trace_acts trace) session (session_last on_use heap plan read.commands (bound_inputs plan [] read.bindings) (bound_slots plan read.bindings)))
+  prepared_last on_use heap trace (Halted why) = tt
 
   said_last : (lines : List (List ℕ)) → TurnsLast P (said_todo lines End)
   said_last [] = tt
@@ -335,9 +335,9 @@ module _ (P : ℕ → Type 0) (done : P 0) where
   words_last room sent (Some (Source files)) other = λ bytes. sourced_last files.out (checked bytes)
   words_last room sent (Some (Check name)) other = λ bytes. checked_last count_lines (checked bytes)
   words_last room sent (Some (Picture name)) other = λ bytes. checked_last picture_lines (checked bytes)
-  words_last room sent (Some (Play form)) other = λ topology script. prepared_last form.heap form.trace (prepared topology script)
+  words_last room sent (Some (Play form)) other = λ topology script. prepared_last form.on_use form.heap form.trace (prepared topology script)
 
 -- files that make a run end with 0 or 3, or memory was wanting
-pub ready_ends : (heap : ℕ) (trace : Option (List ℕ)) (plan : Plan) (read : Read) (turns : List Turn) (calls : List DeskCall) (status : ℕ) → DoneBy (ready_todo heap trace plan read) turns calls status → IsLate status ⊎ (status ≡ 7)
-ready_ends heap trace plan read turns calls status goes =
-    ends (λ n. IsLate n ⊎ (n ≡ 7)) (λ name. Unit {0}) (ready_todo heap trace plan read) turns calls status goes (ready_all (λ n. IsLate n ⊎ (n ≡ 7)) (λ name. Unit {0}) heap trace plan read (inl (inl refl))) (inl (inr refl))
+pub ready_ends : (on_use : Bool) (heap : ℕ) (trace : Option (List ℕ)) (plan : Plan) (read : Read) (turns : List Turn) (calls : List DeskCall) (status : ℕ) → DoneBy (ready_todo on_use heap trace plan read) turns calls status → IsLate status ⊎ (status ≡ 7)
+ready_ends on_use heap trace plan read turns calls status goes =
+    ends (λ n. IsLate n ⊎ (n ≡ 7)) (λ name. Unit {0}) (ready_todo on_use heap trace plan read) turns calls status goes (ready_all (λ n. IsLate n ⊎ (n ≡ 7)) (λ name. Unit {0}) on_use heap trace plan read (inl (inl refl))) (inl (inr refl))

@@ -23,7 +23,8 @@ use Rattle.ipc3_trace.specs.declared.entry.Entry.{Entry}
 use Rattle.ipc3_trace.specs.Records.{record_bytes, records_bytes}
 use Rattle.sof_script.specs.declared.script.Command.{Command}
 use Rattle.sof_script.specs.Commands.{Bound}
-use Rattle.sof_session.specs.Written.{Written, Out, Ground, At, Leg, IsRun, with_bytes, bytes_between, written_between}
+use Rattle.host_widgets.specs.declared.kept.Record.{Record}
+use Rattle.sof_session.specs.Written.{Written, Out, Ground, At, Leg, IsRun, basis_of, with_bytes, bytes_between, written_between}
 use Rattle.sof_run.specs.TopologyBytes.{IsFile}
 use Rattle.sof_run.specs.Bindings.{bound_outputs, bound_slots, wrong_behind, wrong_binding}
 use Rattle.sof_run.specs.LineParts.{has_widget_name, has_endpoint, slot_of, slot_pieces, line_pieces}
@@ -128,8 +129,8 @@ module _ (n : ℕ) where
       ∙ append-nil bytes
 
 -- the outs of a run are bytes of outputs
-outs-other : (n : ℕ) (g : Ground) (doing : Doing) (commands : List Command) (at : At) (legs : List Leg) → IsRun g doing commands at legs → AllByRecursion (IsOther n g.slots) (map (λ (leg : Leg). leg.out) legs)
-outs-other n g doing [] at legs run = subst (λ (ls : List Leg). AllByRecursion (IsOther n g.slots) (map (λ (leg : Leg). leg.out) ls)) (sym run) tt
+outs-other : (n : ℕ) (g : Ground) (doing : Doing) (commands : List Command) (at : At Record) (legs : List (Leg Record)) → IsRun (basis_of g) doing commands at legs → AllByRecursion (IsOther n g.slots) (map (λ (leg : Leg Record). leg.out) legs)
+outs-other n g doing [] at legs run = subst (λ (ls : List (Leg Record)). AllByRecursion (IsOther n g.slots) (map (λ (leg : Leg Record). leg.out) ls)) (sym run) tt
 outs-other n g doing (command ∷ commands) at [] run = absurd run
 outs-other n g doing (command ∷ commands) at (leg ∷ legs) run =
     ((at.past, leg.at.past, ap (λ (out : Out). out.written) run.0.out_is), outs-other n g doing commands leg.at legs run.1)
@@ -165,8 +166,8 @@ file-bytes n slots o w bytes all wrote told =
     let made : w ≡ with_more (with_nothing o) bytes = wrote ∙ (rw (eq-eqb n n refl) refl) in
     told_bytes o bytes all (sym made ∙ told)
 
-pub trace-bytes : (g : Ground) (doing : Doing) (commands : List Command) (at : At) (legs : List Leg) (rounds : List Round) (records : List (List Entry)) → IsRun g doing commands at legs → has_slot trace_slot g.slots ≡ false →
-    length (map (λ (leg : Leg). leg.out) legs) ≡ length rounds → length records ≡ length (map (λ (leg : Leg). leg.out) legs) →
-    bytes_of_pieces (Slot trace_slot) (all_pieces rounds (recorded_outs records (map (λ (leg : Leg). leg.out) legs))) ≡ records_bytes (all_records records)
+pub trace-bytes : (g : Ground) (doing : Doing) (commands : List Command) (at : At Record) (legs : List (Leg Record)) (rounds : List Round) (records : List (List Entry)) → IsRun (basis_of g) doing commands at legs → has_slot trace_slot g.slots ≡ false →
+    length (map (λ (leg : Leg Record). leg.out) legs) ≡ length rounds → length records ≡ length (map (λ (leg : Leg Record). leg.out) legs) →
+    bytes_of_pieces (Slot trace_slot) (all_pieces rounds (recorded_outs records (map (λ (leg : Leg Record). leg.out) legs))) ≡ records_bytes (all_records records)
 trace-bytes g doing commands at legs rounds records run none as_many each =
-    all-bytes g.slots rounds records (map (λ (leg : Leg). leg.out) legs) none (outs-other trace_slot g doing commands at legs run) as_many each
+    all-bytes g.slots rounds records (map (λ (leg : Leg Record). leg.out) legs) none (outs-other trace_slot g doing commands at legs run) as_many each

@@ -1,5 +1,6 @@
 -- A session over a tracer is a session over the tracer's device.
-use Rattle.std.proofs.Common.{ap, ℕ, replicate, Bool, true, false, List, [], ◌∷◌, Option, Some, None}
+use Rattle.std.proofs.Common.{◌≡◌, refl, sym, subst, ap, ℕ, replicate, Bool, true, false, List, [], ◌∷◌, Option, Some, None}
+use Rattle.stream_law.specs.State.{View}
 use Rattle.ipc3_model.specs.Messages.{message_spelling}
 use Rattle.mbox_link.specs.declared.fates.Fate.{Fate}
 use Rattle.mbox_link.specs.declared.fates.Fate.TheVariants.{Pass, Refuse, Drop, Lose}
@@ -14,20 +15,20 @@ use Rattle.host_widgets.specs.declared.answers.HostFault.{HostFault}
 use Rattle.host_widgets.specs.declared.kept.Power.{Power}
 use Rattle.host_widgets.specs.declared.kept.Power.TheVariants.{Unloaded, On, Off}
 use Rattle.host_widgets.specs.declared.kept.Record.{Record}
-use Rattle.host_widgets.specs.Host.{Outcome, Sides}
-use Rattle.host_widgets.specs.HostActs.{Act}
-use Rattle.host_widgets.specs.ActMessages.{act_message}
+use Rattle.host_widgets.specs.Host.{Outcome, SidesBy}
+use Rattle.host_widgets.specs.ActRules.{ActRules}
 use Rattle.host_widgets.specs.OneAct.{one_act}
-use Rattle.host_widgets.specs.Walk.{goes_past}
-use Rattle.host_widgets.specs.ActCalls.{ActDid, ActsDid, Counted, Onwards}
-use Rattle.host_widgets.specs.Orders.{Order, Carried}
+use Rattle.host_widgets.specs.Walk.{Walked, goes_past, walk}
+use Rattle.host_widgets.specs.ActCalls.{ActDid, ActsDid, Counted, Onwards, next_of}
+use Rattle.host_widgets.specs.Routines.{Routine, Finished, Sending, Job, JobDone, RoutineDid}
 use Rattle.ipc3_trace.specs.Tracing.{Traced, tracer, traced}
 use Rattle.ipc3_trace.proofs.HeldLaws.{tracer-is-device}
 use Rattle.sof_script.specs.declared.script.Command.{Command}
 use Rattle.sof_session.specs.Seat.{Seat}
-use Rattle.sof_session.specs.Agreement.{AreAgreed, Powered}
-use Rattle.sof_session.specs.CommandTests.{fault_of}
-use Rattle.sof_session.specs.Commands.{is_plan, order_of}
+use Rattle.sof_session.specs.Agreement.{AreAgreed, Powered, PoweredBy, expected_in}
+use Rattle.sof_session.specs.CommandRules.{CommandRules}
+use Rattle.sof_session.specs.Commands.{command_rules, is_plan}
+use Rattle.sof_session.specs.Modes.{made_at_load, CommandDoneIn, DoneWith, SteppedBy}
 use Rattle.mbox_link.specs.Meetings.{Doing}
 use Rattle.sof_session.specs.SessionStep.{Calm, CallsBy, CommandDone}
 use Rattle.sof_session.specs.Lives.{Life, Bare, Seated}
@@ -41,7 +42,7 @@ abbrev pub bare_world : {P : Type 0} → World (Wire (Traced P)) → World (Wire
 bare_world w = record { device = bare_wire w.device; io = w.io }
 
 abbrev pub bare_seat : {P : Type 0} → Seat (Traced P) → Seat P
-bare_seat seat = record { link = bare_wire seat.link; kept = seat.kept; plan = seat.plan; heap = seat.heap }
+bare_seat seat = record { link = bare_wire seat.link; kept = seat.kept; plan = seat.plan; heap = seat.heap; up = seat.up }
 
 abbrev pub bare_life : {P : Type 0} → Life (Traced P) → Life P
 bare_life (Bare dsp) = Bare dsp.device
@@ -118,80 +119,103 @@ module _ {P : Type 0} (means : Meaning P) where
   counted-bare Drop a b c = c
   counted-bare Lose a b c = c
 
-  act-bare : (plan : Plan) (heap : ℕ) (kept : Record) (act : Act) (m : Meeting) (w v : World (Wire (Traced P))) → ActDid (link (tracer means)) plan heap kept act m w v → ActDid (link means) plan heap kept act m (bare_world w) (bare_world v)
-  act-bare plan heap kept act m w v did = record {
-    on = did.on;
-    message = did.message;
-    answer = did.answer;
-    exchanged = exchange-bare (message_spelling (act_message plan act)) did.answer w v did.exchanged;
-    lag = did.lag;
-    counted = counted-bare m.fate w.device v.device did.counted;
-    came = did.came;
-  }
+  module _ {S A : Type 0} (rules : ActRules S A) where
+    act-bare : (kept : S) (act : A) (m : Meeting) (w v : World (Wire (Traced P))) → ActDid (link (tracer means)) rules kept act m w v → ActDid (link means) rules kept act m (bare_world w) (bare_world v)
+    act-bare kept act m w v did = record {
+      on = did.on;
+      message = did.message;
+      answer = did.answer;
+      exchanged = exchange-bare (message_spelling (rules.message act)) did.answer w v did.exchanged;
+      lag = did.lag;
+      counted = counted-bare m.fate w.device v.device did.counted;
+      came = did.came;
+    }
 
-  acts-bare : (plan : Plan) (heap : ℕ) (goes_on : Bool) (acts : List Act) (ms : List Meeting) (kept : Record) (w v : World (Wire (Traced P))) → ActsDid (link (tracer means)) plan heap goes_on kept acts ms w v → ActsDid (link means) plan heap goes_on kept acts ms (bare_world w) (bare_world v)
-  acts-bare plan heap goes_on [] ms kept w v did = (did.0, ap (λ (x : World (Wire (Traced P))). bare_world x) did.1)
-  acts-bare plan heap goes_on (act ∷ acts) [] kept w v did = absurd did
-  acts-bare plan heap goes_on (act ∷ acts) (m ∷ ms) kept w v did =
-      let a = one_act plan heap kept act m in (
-        bare_world did.0,
-        act-bare plan heap kept act m w did.0 did.1,
-        by (goes_past goes_on a.outcome) (acts-bare plan heap goes_on acts ms a.kept did.0 v) did.2,
-      )
-    where
-      by : (b : Bool) → (ActsDid (link (tracer means)) plan heap goes_on (one_act plan heap kept act m).kept acts ms did.0 v → ActsDid (link means) plan heap goes_on (one_act plan heap kept act m).kept acts ms (bare_world did.0) (bare_world v)) →
-          Onwards b ms did.0 v (ActsDid (link (tracer means)) plan heap goes_on (one_act plan heap kept act m).kept acts ms did.0 v) →
-          Onwards b ms (bare_world did.0) (bare_world v) (ActsDid (link means) plan heap goes_on (one_act plan heap kept act m).kept acts ms (bare_world did.0) (bare_world v))
-      by true rest on = rest on
-      by false rest on = (on.0, ap (λ (x : World (Wire (Traced P))). bare_world x) on.1)
+    acts-bare : (goes_on : Bool) (acts : List A) (ms : List Meeting) (kept : S) (w v : World (Wire (Traced P))) → ActsDid (link (tracer means)) rules goes_on kept acts ms w v → ActsDid (link means) rules goes_on kept acts ms (bare_world w) (bare_world v)
+    acts-bare goes_on [] ms kept w v did = (did.0, ap (λ (x : World (Wire (Traced P))). bare_world x) did.1)
+    acts-bare goes_on (act ∷ acts) [] kept w v did = absurd did
+    acts-bare goes_on (act ∷ acts) (m ∷ ms) kept w v did =
+        let a = one_act rules kept act m in (
+          bare_world did.0,
+          act-bare kept act m w did.0 did.1,
+          by (goes_past goes_on a.outcome) (acts-bare goes_on acts ms a.kept did.0 v) did.2,
+        )
+      where
+        by : (b : Bool) → (ActsDid (link (tracer means)) rules goes_on (one_act rules kept act m).kept acts ms did.0 v → ActsDid (link means) rules goes_on (one_act rules kept act m).kept acts ms (bare_world did.0) (bare_world v)) →
+            Onwards b ms did.0 v (ActsDid (link (tracer means)) rules goes_on (one_act rules kept act m).kept acts ms did.0 v) →
+            Onwards b ms (bare_world did.0) (bare_world v) (ActsDid (link means) rules goes_on (one_act rules kept act m).kept acts ms (bare_world did.0) (bare_world v))
+        by true rest on = rest on
+        by false rest on = (on.0, ap (λ (x : World (Wire (Traced P))). bare_world x) on.1)
+
+    -- ---- a job
+
+    routine-bare : (heap : ℕ) (routine : Routine S A) (kept : S) (ms : List Meeting) (w v : World (Wire (Traced P))) → RoutineDid (link (tracer means)) rules heap kept routine ms w v → RoutineDid (link means) rules heap kept routine ms (bare_world w) (bare_world v)
+    routine-bare heap (Finished end moments) kept ms w v did = (did.0, led-bare _ w v did.1)
+    routine-bare heap (Sending acts goes_on then) kept ms w v (early, late, mid, split, acts_did, rest_did) =
+        let now : Walked S A (List Meeting) = walk rules goes_on next_of kept early acts in
+        (early, late, bare_world mid, split, acts-bare goes_on acts early kept w mid acts_did, routine-bare heap (then now.kept now.outcome) now.kept late mid v rest_did)
+
+    job-bare : (heap : ℕ) (job : Job S A) (kept' : S) (w v : World (Wire (Traced P))) (result : Outcome) → JobDone (link (tracer means)) rules heap job kept' w v result → JobDone (link means) rules heap job kept' (bare_world w) (bare_world v) result
+    job-bare heap job kept' w v result j = record {
+      meetings = j.meetings;
+      begun = bare_world j.begun;
+      first = led-bare _ w j.begun j.first;
+      did = routine-bare heap job.routine job.from j.meetings j.begun v j.did;
+      came = j.came;
+      left = j.left;
+    }
+
+    calls-bare : (heap : ℕ) (doing : Doing) (job : Job S A) (kept' : S) (w v : World (Wire (Traced P))) (answer : Answer) (planned : Bool) (fault : Option HostFault) →
+        CallsBy (tracer means) rules heap doing job kept' w v answer planned fault → CallsBy means rules heap doing job kept' (bare_world w) (bare_world v) answer planned fault
+    unfolding job-bare
+    calls-bare heap doing job kept' w v answer true fault by = (ap (λ (t : Traced P). t.device) by.0, by.1)
+    calls-bare heap doing job kept' w v answer false (Some fault) by = ap (λ (x : World (Wire (Traced P))). bare_world x) by
+    calls-bare heap doing job kept' w v answer false None by = (by.0, job-bare heap job kept' w v by.0 by.1, by.2, by.3)
 
   -- ---- a command
 
-  carried-bare : (plan : Plan) (heap : ℕ) (o : Order) (kept kept' : Record) (w v : World (Wire (Traced P))) (result : Outcome) → Carried (link (tracer means)) plan heap o kept kept' w v result → Carried (link means) plan heap o kept kept' (bare_world w) (bare_world v) result
-  carried-bare plan heap o kept kept' w v result c = record {
-    meetings = c.meetings;
-    begun = bare_world c.begun;
-    sent = bare_world c.sent;
-    first = led-bare _ w c.begun c.first;
-    walked = acts-bare plan heap _ o.acts c.meetings kept c.begun c.sent c.walked;
-    came = c.came;
-    ends = (c.ends.0, led-bare _ c.sent v c.ends.1);
-  }
-
-  calls-bare : (plan : Plan) (heap : ℕ) (doing : Doing) (o : Order) (kept kept' : Record) (w v : World (Wire (Traced P))) (answer : Answer) (planned : Bool) (fault : Option HostFault) →
-      CallsBy (tracer means) plan heap doing o kept kept' w v answer planned fault → CallsBy means plan heap doing o kept kept' (bare_world w) (bare_world v) answer planned fault
-  unfolding carried-bare
-  calls-bare plan heap doing o kept kept' w v answer true fault by = (ap (λ (t : Traced P). t.device) by.0, by.1)
-  calls-bare plan heap doing o kept kept' w v answer false (Some fault) by = ap (λ (x : World (Wire (Traced P))). bare_world x) by
-  calls-bare plan heap doing o kept kept' w v answer false None by = (by.0, carried-bare plan heap o kept kept' w v by.0 by.1, by.2, by.3)
-
-  pub command-bare : (plan : Plan) (heap : ℕ) (command : Command) (kept kept' : Record) (w v : World (Wire (Traced P))) (answer : Answer) →
-      CommandDone (tracer means) plan heap command kept kept' w v answer → CommandDone means plan heap command kept kept' (bare_world w) (bare_world v) answer
-  command-bare plan heap command kept kept' w v answer c = record {
+  pub command-bare : {S A : Type 0} (rules : CommandRules S A) (heap : ℕ) (command : Command) (kept kept' : S) (w v : World (Wire (Traced P))) (answer : Answer) →
+      CommandDone (tracer means) rules heap command kept kept' w v answer → CommandDone means rules heap command kept kept' (bare_world w) (bare_world v) answer
+  command-bare rules heap command kept kept' w v answer c = record {
     doing = c.doing;
     none = λ calm. c.none (calm-traced w.device.device v.device.device calm);
     known_is = c.known_is;
     answer_is = c.answer_is;
-    calls = calls-bare plan heap c.doing (order_of plan kept command) kept kept' w v answer (is_plan command) (fault_of plan kept command) c.calls;
+    calls = calls-bare rules.acts heap c.doing (rules.job kept command) kept' w v answer (is_plan command) (rules.fault kept command) c.calls;
     stands = c.stands;
   }
 
+  -- a session's step where all pipelines are made at a load
+  pub stepped-bare : (command : Command) (old new : Seat (Traced P)) (w v : World (Wire (Traced P))) (answer : Answer) → old.up ≡ None →
+      CommandDoneIn (tracer means) made_at_load command old new w v answer → SteppedBy means command (bare_seat old) (bare_seat new) (bare_world w) (bare_world v) answer
+  stepped-bare command old new w v answer none c =
+      let did : CommandDoneIn means made_at_load command (bare_seat old) (bare_seat new) (bare_world w) (bare_world v) answer =
+      record { done = command-bare (command_rules old.plan old.heap) old.heap command old.kept new.kept w v answer c.done; stays = c.stays } in
+      record {
+        doing = did.done.doing;
+        did = subst (λ (up : Option (List ℕ)). DoneWith means did.done.doing up command (bare_seat old) (bare_seat new) (bare_world w) (bare_world v) answer) (sym none) (did, refl);
+      }
+
   -- ---- both sides
 
-  sides-bare : (plan : Plan) (kept : Record) (dsp : Traced P) (power : Power) → Sides (tracer means) plan kept dsp power → Sides means plan kept dsp.device power
-  sides-bare plan kept dsp Unloaded sides = sides
-  sides-bare plan kept dsp On sides = sides
-  sides-bare plan kept dsp Off sides = sides
+  sides-bare : (plan : Plan) (view : View) (kept : Record) (dsp : Traced P) (power : Power) → SidesBy (tracer means) plan view kept dsp power → SidesBy means plan view kept dsp.device power
+  sides-bare plan view kept dsp Unloaded sides = sides
+  sides-bare plan view kept dsp On sides = sides
+  sides-bare plan view kept dsp Off sides = sides
 
   powered-bare : (seat : Seat (Traced P)) (power : Power) → Powered (tracer means) seat power → Powered means (bare_seat seat) power
   powered-bare seat Unloaded powered = powered
   powered-bare seat On powered = powered
   powered-bare seat Off powered = powered
 
+  powered-by-bare : (seat : Seat (Traced P)) (up : Option (List ℕ)) → PoweredBy (tracer means) seat up → PoweredBy means (bare_seat seat) up
+  powered-by-bare seat None powered = powered-bare seat seat.kept.power powered
+  powered-by-bare seat (Some up) powered = powered
+
   pub agreed-bare : (seat : Seat (Traced P)) → AreAgreed (tracer means) seat → AreAgreed means (bare_seat seat)
   agreed-bare seat agreed = record {
-    agree = record { record_is = agreed.agree.record_is; sides = sides-bare seat.plan seat.kept seat.link.device seat.kept.power agreed.agree.sides };
-    powered = powered-bare seat seat.kept.power agreed.powered;
+    agree = record { record_is = agreed.agree.record_is; sides = sides-bare seat.plan (expected_in seat.up seat.plan seat.kept) seat.kept seat.link.device seat.kept.power agreed.agree.sides };
+    powered = powered-by-bare seat seat.up agreed.powered;
     room = agreed.room;
     pending = agreed.pending;
     fated = record { held = agreed.fated.held; dropped = agreed.fated.dropped; refused = agreed.fated.refused; counted = agreed.fated.counted };

@@ -110,7 +110,7 @@ abbrev pub filling : List Turn → (List Turn → Course) → Course
 filling [] next = record { items = Turns (Fill [] None) ∷ []; status = 0 }
 filling (turn ∷ turns) next = filling_by turn.task (next turns)
 
--- ---- `play` and `trace`
+-- ---- `play`, `dynamic` and `trace`
 
 abbrev pub putting : Piece → Item
 putting piece = Calls (Did (Put piece.0 piece.1) true)
@@ -126,19 +126,19 @@ abbrev pub bindings : Plan → List Bound → Course → Course
 bindings plan bs next = before_course (map (λ b. Calls (Did (binding_act plan b) true)) bs) next
 
 -- then that of the trace that is kept, if one is, and then a session over what they bind
-abbrev pub files : ℕ → Option (List ℕ) → Result (Topology × ReadScript) Halt → List Turn → Course
-files heap trace (Ok (t, read)) turns =
+abbrev pub files : Bool → ℕ → Option (List ℕ) → Result (Topology × ReadScript) Halt → List Turn → Course
+files on_use heap trace (Ok (t, read)) turns =
     let plan = plan_of t in
     bindings plan read.bindings
     (before_course (map (λ act. Calls (Did act true)) (trace_acts trace))
-    (turning (Begin plan heap (bound_inputs plan [] read.bindings) (bound_slots plan read.bindings)) turns (λ out turns. units (rounds_of read.commands) turns)))
-files heap trace (Err why) turns = last_line (halt_line why) (halt_status why)
+    (turning (Begin on_use plan heap (bound_inputs plan [] read.bindings) (bound_slots plan read.bindings)) turns (λ out turns. units (rounds_of read.commands) turns)))
+files on_use heap trace (Err why) turns = last_line (halt_line why) (halt_status why)
 
 abbrev pub playing : Form → Result (Topology × ReadScript) Halt → List Heard → List Turn → Course
 playing form run heard turns =
     load_course form.topology 1048576 (codes "too long topology\n") heard (λ heard.
     load_course form.script 1048576 (codes "too long script\n") heard (λ heard.
-    before_course (Memory ∷ []) (files form.heap form.trace run turns)))
+    before_course (Memory ∷ []) (files form.on_use form.heap form.trace run turns)))
 
 -- ---- `check`, `graph`, `compile` and `source`
 

@@ -6,7 +6,7 @@ use Rattle.mbox_link.specs.Calls.{Meaning}
 use Rattle.mbox_link.specs.Drained.{Drained}
 use Rattle.sof_script.specs.declared.script.Command.{Command}
 use Rattle.sof_session.specs.Agreement.{AreAgreed}
-use Rattle.sof_session.specs.Seat.{Seat, new_seat, with_device}
+use Rattle.sof_session.specs.Seat.{Seat, seat_in, with_device}
 use Rattle.sof_session.specs.Written.{Out}
 use Rattle.ipc3_trace.specs.declared.entry.Entry.{Entry}
 use Rattle.sof_session.specs.Lives.{Life, Bare, Seated, Begin, Fill, Carry, Turn, Turning, Turned, Turns, device_of, Exit}
@@ -24,7 +24,7 @@ pub record KeptCarry {K : Type 0} (means : Meaning K) (holds : K → List ℕ) (
 
 -- a session is begun whose two sides agree, its inputs are filled, or it carries out a command
 abbrev pub KeptTurn : {K : Type 0} → Meaning K → (K → List ℕ) → (K → K → Type 0) → Turning (Life K)
-KeptTurn means holds empties (Begin plan heap inputs slots) out (Bare dsp) new = (new ≡ Seated (new_seat plan heap dsp) inputs slots) × AreAgreed means (new_seat plan heap dsp)
+KeptTurn means holds empties (Begin on_use plan heap inputs slots) out (Bare dsp) new = (new ≡ Seated (seat_in on_use plan heap dsp) inputs slots) × AreAgreed means (seat_in on_use plan heap dsp)
 KeptTurn means holds empties (Fill reads next) out old new = Turned means (Fill reads next) out old new
 KeptTurn means holds empties (Carry command) out old (Seated seat' inputs' slots') = KeptCarry means holds empties command out old seat' inputs' slots'
 KeptTurn means holds empties _ out old new = ⊥

@@ -36,8 +36,8 @@ abbrev pub slot_of : Plan → Bool → List ℕ → ℕ
 slot_of plan input name = option_map_or (λ c. c.id) (find (is_sought plan input name) plan.graph.comps) 0
 
 -- a form of these parts
-abbrev pub form : ℕ → List ℕ → List ℕ → Option (List ℕ) → Form
-form heap topology script trace = record { heap = heap; topology = topology; script = script; trace = trace }
+abbrev pub form : Bool → ℕ → List ℕ → List ℕ → Option (List ℕ) → Form
+form on_use heap topology script trace = record { on_use = on_use; heap = heap; topology = topology; script = script; trace = trace }
 
 -- these names
 abbrev pub names : List ℕ → List ℕ → CompileNames

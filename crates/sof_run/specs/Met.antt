@@ -14,14 +14,14 @@ use Rattle.host_widgets.specs.declared.answers.HostFault.{HostFault}
 use Rattle.host_widgets.specs.declared.kept.Record.{Record}
 use Rattle.host_widgets.specs.HostActs.{Act}
 use Rattle.host_widgets.specs.ActMessages.{act_message}
-use Rattle.host_widgets.specs.OneAct.{one_act}
+use Rattle.host_widgets.specs.OneAct.{act_rules, one_act}
 use Rattle.host_widgets.specs.Walk.{goes_past, walk}
 use Rattle.host_widgets.specs.Orders.{Order, goes_on_after_refusal, end_by}
 use Rattle.ipc3_trace.specs.declared.entry.Entry.{Entry}
 use Rattle.ipc3_trace.specs.Steps.{Deed, Start, Stop, Send, Wait, recorded, steps_from}
 use Rattle.sof_script.specs.declared.script.Command.{Command}
 use Rattle.sof_session.specs.CommandTests.{fault_of}
-use Rattle.sof_session.specs.Commands.{Known, first_known, is_plan, next, order_of}
+use Rattle.sof_session.specs.Commands.{Known, command_rules, first_known, is_plan, next, order_of}
 
 -- ---- the deeds of a command
 
@@ -40,7 +40,7 @@ act_deeds plan act m = replicate m.lag Wait ++ sent_deeds m.fate (message_spelli
 abbrev pub walk_deeds : {Q : Type 0} → Plan → ℕ → Bool → (Q → Meeting × Q) → Record → Q → List Act → List Deed
 walk_deeds plan heap goes_on next kept q [] = []
 walk_deeds plan heap goes_on next kept q (act ∷ acts) =
-    let a = one_act plan heap kept act (next q).0 in
+    let a = one_act (act_rules plan heap) kept act (next q).0 in
     act_deeds plan act (next q).0 ++ (if goes_past goes_on a.outcome then walk_deeds plan heap goes_on next a.kept (next q).1 acts else [])
 
 -- of moments before and after the acts
@@ -52,35 +52,35 @@ moment_deeds heap (past.Now view fresh ∷ moments) = moment_deeds heap moments
 moment_deeds heap (past.Tick ∷ moments) = Wait ∷ moment_deeds heap moments
 
 -- of an order: its first moments, its acts and its last moments
-abbrev pub order_deeds : Plan → ℕ → Known → Order → List Deed
+abbrev pub order_deeds : Plan → ℕ → Known Record → Order → List Deed
 order_deeds plan heap known o =
     let goes_on = goes_on_after_refusal o.manner in
-    let w = walk plan heap goes_on (next_meeting calm) known.kept known.queue o.acts in
+    let w = walk (act_rules plan heap) goes_on (next_meeting calm) known.kept known.queue o.acts in
     moment_deeds heap o.first
     ++ (walk_deeds plan heap goes_on (next_meeting calm) known.kept known.queue o.acts
     ++ moment_deeds heap (end_by o.manner plan o.done known.kept w.kept w.outcome).1)
 
 -- none where a test fails or something is planned
-abbrev pub deeds_by : Plan → ℕ → Known → Order → Bool → Option HostFault → List Deed
+abbrev pub deeds_by : Plan → ℕ → Known Record → Order → Bool → Option HostFault → List Deed
 deeds_by plan heap known o true fault = []
 deeds_by plan heap known o false (Some fault) = []
 deeds_by plan heap known o false None = order_deeds plan heap known o
 
-abbrev pub command_deeds : Plan → ℕ → Known → Command → List Deed
+abbrev pub command_deeds : Plan → ℕ → Known Record → Command → List Deed
 command_deeds plan heap known command = deeds_by plan heap known (order_of plan known.kept command) (is_plan command) (fault_of plan known.kept command)
 
 -- ---- the records of a run
 
 -- the records of each unit, from what is known and the device that the records so far leave
-abbrev pub met_from : Plan → ℕ → Known → Option FwState → List Command → List (List Entry)
+abbrev pub met_from : Plan → ℕ → Known Record → Option FwState → List Command → List (List Entry)
 met_from plan heap known s [] = []
 met_from plan heap known s (command ∷ commands) =
     let records = recorded s (command_deeds plan heap known command) in
-    records ∷ met_from plan heap (next plan heap calm known command).known (steps_from s records) commands
+    records ∷ met_from plan heap (next (command_rules plan heap) calm known command).known (steps_from s records) commands
 
 -- of each unit of a run
 abbrev pub met_units : Plan → ℕ → List Command → List (List Entry)
-met_units plan heap commands = met_from plan heap (first_known plan) None commands
+met_units plan heap commands = met_from plan heap (first_known (command_rules plan heap)) None commands
 
 -- of a whole run, one after the other
 abbrev pub met : Plan → ℕ → List Command → List Entry

@@ -1,5 +1,5 @@
--- What `play` has to do, by its words and by the bytes of the files that they name.
-use Rattle.std.specs.Prelude.{ℕ, List, [], ◌∷◌, Option, codes}
+-- What `play`, `dynamic` and `trace` have to do, by its words and by the bytes of the files that they name.
+use Rattle.std.specs.Prelude.{ℕ, Bool, List, [], ◌∷◌, Option, codes}
 use Rattle.sof_base.specs.Ports.{InputView}
 use Rattle.sof_desk.specs.Desk.{DeskAct, Put, Slot, Spoken}
 use Rattle.tplg_plan.specs.declared.plans.Plan.{Plan}
@@ -49,9 +49,9 @@ rounds_after n numbered = rounds_with (λ last. record { numbered = numbered; la
 abbrev pub commands_todo : List Numbered → Todo → Todo
 commands_todo commands rest = rounds_todo (rounds_of commands) rest
 
--- a session is begun over the device with these inputs and slots of outputs, and then come the commands
-abbrev pub session_todo : ℕ → Plan → List Numbered → List InputView → List ℕ → Todo
-session_todo heap plan commands inputs slots = Step (Begin plan heap inputs slots) (λ out. commands_todo commands End)
+-- a session is begun over the device, in a mode, with these inputs and slots of outputs, and then come the commands
+abbrev pub session_todo : Bool → ℕ → Plan → List Numbered → List InputView → List ℕ → Todo
+session_todo on_use heap plan commands inputs slots = Step (Begin on_use plan heap inputs slots) (λ out. commands_todo commands End)
 
 -- ---- the files
 
@@ -69,14 +69,14 @@ abbrev pub traced_todo : Option (List ℕ) → Todo → Todo
 traced_todo trace rest = acts_todo (trace_acts trace) rest
 
 -- the bindings come first, then the trace, and then a session over what they bind
-abbrev pub ready_todo : ℕ → Option (List ℕ) → Plan → Read → Todo
-ready_todo heap trace plan read =
-    bindings_todo plan read.bindings (traced_todo trace (session_todo heap plan read.commands (bound_inputs plan [] read.bindings) (bound_slots plan read.bindings)))
+abbrev pub ready_todo : Bool → ℕ → Option (List ℕ) → Plan → Read → Todo
+ready_todo on_use heap trace plan read =
+    bindings_todo plan read.bindings (traced_todo trace (session_todo on_use heap plan read.commands (bound_inputs plan [] read.bindings) (bound_slots plan read.bindings)))
 
 -- what is to do then
-abbrev pub prepared_todo : ℕ → Option (List ℕ) → Prepared → Todo
-prepared_todo heap trace (Ready plan read) = ready_todo heap trace plan read
-prepared_todo heap trace (Halted why) = Stop (halt_line why) (halt_status why)
+abbrev pub prepared_todo : Bool → ℕ → Option (List ℕ) → Prepared → Todo
+prepared_todo on_use heap trace (Ready plan read) = ready_todo on_use heap trace plan read
+prepared_todo on_use heap trace (Halted why) = Stop (halt_line why) (halt_status why)
 
 -- ---- the words
 
@@ -85,4 +85,4 @@ abbrev pub play : Form → Todo
 play form =
     Ask form.topology 1048576 (codes "too long topology\n") (λ topology.
     Ask form.script 1048576 (codes "too long script\n") (λ script.
-    Free (prepared_todo form.heap form.trace (prepared topology script))))
+    Free (prepared_todo form.on_use form.heap form.trace (prepared topology script))))

@@ -7,7 +7,7 @@ use Rattle.sof_run.specs.Requests.{Request, Play, Check, Picture, Compile, Sourc
 
 -- what the code reads off the words
 abbrev pub request : ReadRequest → Request
-request (requests.Play f) = Play (form f.heap f.topology.now f.script.now (option_map (λ name. name.now) f.trace))
+request (requests.Play f) = Play (form f.on_use f.heap f.topology.now f.script.now (option_map (λ name. name.now) f.trace))
 request (requests.Check name) = Check name.now
 request (requests.Picture name) = Picture name.now
 request (requests.Compile n) = Compile (names n.source.now n.out.now)

@@ -9,7 +9,7 @@ use Rattle.sof_run.specs.Sourcing.{SourceFiles, source_files_of}
 use Rattle.sof_run.specs.Stressing.{stress_of}
 use Rattle.sof_run.specs.TraceForms.{decode_of, replay_of}
 
--- what is asked for: `play` and `trace` by their form, `check`, `graph`, `decode` and `replay` by the name of a file, `compile` and
+-- what is asked for: `play`, `dynamic` and `trace` by their form, `check`, `graph`, `decode` and `replay` by the name of a file, `compile` and
 -- `source` by the names of their files, or `stress` by its number
 pub data Request : Type 0 where
   Play : (form : Form) → Request

@@ -7,9 +7,9 @@ ghost use Rattle.tplg_plan.specs.Sound.{IsSound};
 ghost use Rattle.sof_script.specs.Text.{answer_line};
 ghost use Rattle.sof_script.specs.declared.script.Command.TheVariants.{Tick};
 ghost use Rattle.sof_script.specs.declared.script.Numbered.{Numbered};
-ghost use Rattle.sof_session.specs.Show.{show_lines, shown_by};
-ghost use Rattle.sof_session.specs.CommandRanges.{is_in_range, most_sent};
+ghost use Rattle.sof_session.specs.CommandRanges.{is_in_range};
 ghost use Rattle.sof_session.specs.Lives.{Seated};
+ghost use Rattle.sof_session.specs.Modes.{lines_in, shown_in, most_sent_by};
 ghost use Rattle.sof_run.specs.Todo.{DeskPhase, Phase};
 ghost use Rattle.sof_script.specs.Ticks.{earlier as units_before};
 ghost use Rattle.sof_run.specs.Rounds.{command_rounds};
@@ -39,7 +39,7 @@ fn write_line(number: u32, answer: &Answer, line: &mut Line)
 // Says how everything stands, line by line.
 fn say_shown<D: Desk, P: Dsp>(desk: &mut D, session: &Session<P>, line: &mut Line) -> bool
     requires { IsSound session.now.plan }
-    ensures phase { DeskPhase D.means (lines_todo (show_lines session.now.plan session.now.kept)) result desk.old desk.new }
+    ensures phase { DeskPhase D.means (lines_todo (lines_in session.now.up session.now.plan session.now.kept)) result desk.old desk.new }
     ensures same { SameFiles D.means desk.old desk.new }
 {
     let mut k = 0;
@@ -69,7 +69,7 @@ fn say_lines<D: Desk, P: Dsp>(
     line: &mut Line,
 ) -> bool
     requires plan { IsSound session.now.plan }
-    ensures phase { DeskPhase D.means (lines_todo (answer_line numbered.now.line answer.now ∷ shown_by numbered.now.command session.now.plan session.now.kept)) result desk.old desk.new }
+    ensures phase { DeskPhase D.means (lines_todo (answer_line numbered.now.line answer.now ∷ shown_in numbered.now.command session.now.up session.now.plan session.now.kept)) result desk.old desk.new }
     ensures same { SameFiles D.means desk.old desk.new }
 {
     write_line(numbered.line, answer, line);
@@ -124,7 +124,7 @@ fn do_round<D: Desk, K: Keeps>(
     ensures phase { Phase D.means (KeptTurn K.means K.holds K.empties) (unit_todo (record { numbered = numbered.now; last = true })) result
         desk.old (Seated session.old inputs.old (output_slots outputs.old)) desk.new (Seated session.new inputs.new (output_slots outputs.new)) }
     ensures plan { session.new.plan ≡ session.old.plan }
-    ensures sent { session.new.link.sent ≤ session.old.link.sent + most_sent numbered.now.command }
+    ensures sent { session.new.link.sent ≤ session.old.link.sent + most_sent_by session.old.up numbered.now.command }
     ensures files { HaveFiles D.means inputs.new outputs.new desk.new }
     ensures keeps { CanKeep D.means K.holds desk.new }
     ensures empty { drained outputs.new ≡ outputs.new }
@@ -166,7 +166,7 @@ fn do_command<D: Desk, K: Keeps>(
     ensures phase { Phase D.means (KeptTurn K.means K.holds K.empties) (rounds_todo (command_rounds numbered.now)) result
         desk.old (Seated session.old inputs.old (output_slots outputs.old)) desk.new (Seated session.new inputs.new (output_slots outputs.new)) }
     ensures plan { session.new.plan ≡ session.old.plan }
-    ensures sent { session.new.link.sent ≤ session.old.link.sent + 900 }
+    ensures sent { session.new.link.sent ≤ session.old.link.sent + 1200 }
     ensures files { HaveFiles D.means inputs.new outputs.new desk.new }
     ensures keeps { CanKeep D.means K.holds desk.new }
     ensures empty { drained outputs.new ≡ outputs.new }

@@ -1,5 +1,5 @@
 // The top call.
-ghost use Rattle.std.specs.Prelude.{◌≡◌, ◌≤◌, [], map, None, true, is_some, option_map, string_bytes};
+ghost use Rattle.std.specs.Prelude.{◌≡◌, ◌≤◌, [], map, None, true, false, is_some, option_map, string_bytes};
 ghost use Rattle.sof_run.specs.Todo.{Todo, Free, GaveBy, Played};
 ghost use Rattle.sof_run.specs.KeptTurns.{KeptTurn, GaveKept};
 ghost use Rattle.sof_run.specs.LineParts.{form as form_of};
@@ -48,8 +48,8 @@ pub fn end_wanting<D: Desk, P: Dsp>(desk: &mut D, dsp: P) -> Ended<P>
     }
 }
 
-// Takes the memory of a run: the places of its bindings, and a session over the device. Then come the files, that of the trace last, and
-// then the commands.
+// Takes the memory of a run: the places of its bindings, and a session over the device, in the mode that the words ask for. Then come the
+// files, that of the trace last, and then the commands.
 fn do_session<D: Desk, K: Keeps>(
     alloc: Global,
     form: Form<'_>,
@@ -63,7 +63,7 @@ fn do_session<D: Desk, K: Keeps>(
     requires carriable { IsCarriable ready.plan (script_read ready.script) }
     requires sound { IsInRange (script_read ready.script) }
     requires keeps { form.trace ≡ None → (k : K) → K.holds k ≡ [] }
-    ensures { GaveBy D.means K.means (KeptTurn K.means K.holds K.empties) (Free (ready_todo form.entry.heap (option_map (λ name. name.now) form.entry.trace) ready.plan (script_read ready.script))) desk.old dsp result.status desk.new result.dsp }
+    ensures { GaveBy D.means K.means (KeptTurn K.means K.holds K.empties) (Free (ready_todo form.entry.on_use form.entry.heap (option_map (λ name. name.now) form.entry.trace) ready.plan (script_read ready.script))) desk.old dsp result.status desk.new result.dsp }
 {
     let Ok(mut inputs) = Inputs::new(alloc) else {
         return end_wanting(desk, dsp);
@@ -75,7 +75,7 @@ fn do_session<D: Desk, K: Keeps>(
     let Ok(()) = bind_all(&ready.plan, bindings, &mut inputs, &mut outputs) else {
         return end_wanting(desk, dsp);
     };
-    let mut session = match Session::new(alloc, ready.plan, form.heap, dsp) {
+    let mut session = match Session::begun(alloc, form.on_use, ready.plan, form.heap, dsp) {
         Ok(session) => session,
         Err(refused) => return end_wanting(desk, refused.dsp),
     };
@@ -113,7 +113,7 @@ fn do_untraced<D: Desk, P: Dsp>(
     requires carriable { IsCarriable ready.plan (script_read ready.script) }
     requires sound { IsInRange (script_read ready.script) }
     requires none { form.trace ≡ None }
-    ensures { GaveKept D.means P.means None (Free (ready_todo form.entry.heap None ready.plan (script_read ready.script))) desk.old dsp result.status desk.new result.dsp }
+    ensures { GaveKept D.means P.means None (Free (ready_todo form.entry.on_use form.entry.heap None ready.plan (script_read ready.script))) desk.old dsp result.status desk.new result.dsp }
 {
     let ended = do_session(alloc, form, ready, desk, Untraced::new(dsp));
     Ended {
@@ -135,8 +135,9 @@ fn do_traced<D: Desk, P: Dsp>(
     requires fits { form.heap ≤ P.means.most dsp }
     requires carriable { IsCarriable ready.plan (script_read ready.script) }
     requires sound { IsInRange (script_read ready.script) }
+    requires at_load { form.on_use ≡ false }
     requires some { is_some form.trace ≡ true }
-    ensures { GaveKept D.means P.means (option_map (λ name. name.now) form.entry.trace) (Free (ready_todo form.entry.heap (option_map (λ name. name.now) form.entry.trace) ready.plan (script_read ready.script))) desk.old dsp result.status desk.new result.dsp }
+    ensures { GaveKept D.means P.means (option_map (λ name. name.now) form.entry.trace) (Free (ready_todo form.entry.on_use form.entry.heap (option_map (λ name. name.now) form.entry.trace) ready.plan (script_read ready.script))) desk.old dsp result.status desk.new result.dsp }
 {
     match Tracer::new(alloc, dsp) {
         Ok(tracer) => {
@@ -150,7 +151,7 @@ fn do_traced<D: Desk, P: Dsp>(
     }
 }
 
-// A run, of which a trace is kept where the words name one.
+// A run, of which a trace is kept where the words name one: then all pipelines are made at a load.
 fn do_run<D: Desk, P: Dsp>(
     alloc: Global,
     form: Form<'_>,
@@ -163,7 +164,8 @@ fn do_run<D: Desk, P: Dsp>(
     requires fits { form.heap ≤ P.means.most dsp }
     requires carriable { IsCarriable ready.plan (script_read ready.script) }
     requires sound { IsInRange (script_read ready.script) }
-    ensures { GaveKept D.means P.means (option_map (λ name. name.now) form.entry.trace) (Free (ready_todo form.entry.heap (option_map (λ name. name.now) form.entry.trace) ready.plan (script_read ready.script))) desk.old dsp result.status desk.new result.dsp }
+    requires untraced { form.on_use ≡ true → form.trace ≡ None }
+    ensures { GaveKept D.means P.means (option_map (λ name. name.now) form.entry.trace) (Free (ready_todo form.entry.on_use form.entry.heap (option_map (λ name. name.now) form.entry.trace) ready.plan (script_read ready.script))) desk.old dsp result.status desk.new result.dsp }
 {
     if form.trace.is_some() {
         do_traced(alloc, form, ready, desk, dsp)
@@ -172,12 +174,13 @@ fn do_run<D: Desk, P: Dsp>(
     }
 }
 
-// All of `play` and `trace`: the files, and then the run.
+// All of `play`, `dynamic` and `trace`: the files, and then the run.
 fn do_play<D: Desk, P: Dsp>(alloc: Global, form: Form<'_>, desk: &mut D, dsp: P) -> Ended<P>
     requires off { P.means.on dsp ≡ None }
     requires pending { P.means.pending dsp ≡ 0 }
     requires fits { form.heap ≤ P.means.most dsp }
-    ensures { GaveKept D.means P.means (option_map (λ name. name.now) form.entry.trace) (play (form_of form.entry.heap form.entry.topology.now form.entry.script.now (option_map (λ name. name.now) form.entry.trace))) desk.old dsp result.status desk.new result.dsp }
+    requires untraced { form.on_use ≡ true → form.trace ≡ None }
+    ensures { GaveKept D.means P.means (option_map (λ name. name.now) form.entry.trace) (play (form_of form.entry.on_use form.entry.heap form.entry.topology.now form.entry.script.now (option_map (λ name. name.now) form.entry.trace))) desk.old dsp result.status desk.new result.dsp }
 {
     let topology = match fetch(alloc, desk, form.topology, LIMIT, b"too long topology\n") {
         Ok(bytes) => bytes,
@@ -236,10 +239,11 @@ fn do_words<D: Desk, P: Dsp>(alloc: Global, words: &[String], desk: &mut D, dsp:
 
 /// Does what the words ask for over a desk and a device, and hands the device back.
 ///
-/// The words are `play HEAP TOPOLOGY SCRIPT`, `check TOPOLOGY`, `graph TOPOLOGY`, `compile SOURCE OUT`, `source TOPOLOGY OUT`, `stress N`,
-/// `trace HEAP TOPOLOGY SCRIPT TRACE`, `decode TRACE` or `replay TRACE`: HEAP is a decimal number of bytes without a needless leading zero,
-/// at most the device's room, N is one from 1 to 1000, and each name has 1 to 255 bytes. A topology, a script and a source have at most
-/// 1048576 bytes, a trace 16777216. The script's inputs, of any length, are opened and its outputs created in the order of its lines,
+/// The words are `play HEAP TOPOLOGY SCRIPT`, `dynamic HEAP TOPOLOGY SCRIPT`, `check TOPOLOGY`, `graph TOPOLOGY`, `compile SOURCE OUT`,
+/// `source TOPOLOGY OUT`, `stress N`, `trace HEAP TOPOLOGY SCRIPT TRACE`, `decode TRACE` or `replay TRACE`: HEAP is a decimal number of
+/// bytes without a needless leading zero, at most the device's room, N is one from 1 to 1000, and each name has 1 to 255 bytes. `dynamic`
+/// is `play` over a device in which a pipeline is there while a stream needs it that is not closed. A topology, a script and a source have
+/// at most 1048576 bytes, a trace 16777216. The script's inputs, of any length, are opened and its outputs created in the order of its lines,
 /// before the commands; `trace` creates its file behind them, in slot 4294967295. Before each tick, and before each other command, the
 /// inputs are read until each holds the bytes that it may take or has ended. After it the records of the device's calls are appended where
 /// they are kept, then the bytes of the outputs, and then the command's lines are said. `replay` gives the records of a trace to the

@@ -3,7 +3,7 @@ ghost use Rattle.std.specs.Prelude.{◌≡◌, ◌≤◌, map, option_map, Match
 ghost use Rattle.std.specs.Result.{result_ok};
 ghost use Rattle.std.specs.Str.{bytes_eq};
 ghost use Rattle.sof_script.specs.ValueForms.{number_value};
-ghost use Rattle.sof_run.specs.Words.{play_of, untraced_of, traced_of, named_by, is_file_name};
+ghost use Rattle.sof_run.specs.Words.{play_of, untraced_by, traced_of, named_by, is_file_name};
 ghost use Rattle.sof_run.specs.LineParts.{form, names, source_files};
 ghost use Rattle.sof_run.specs.Compiling.{compile_of};
 ghost use Rattle.sof_run.specs.Sourcing.{source_files_of};
@@ -13,9 +13,11 @@ ghost use Rattle.sof_run.specs.ReadRequests.{request};
 
 use sof_script::values::number;
 
-/// What `play` and `trace` are given: the heap in bytes, the names of two files, and that of the trace that is kept, if one is.
+/// What `play`, `dynamic` and `trace` are given: whether pipelines are made on use, the heap in bytes, the names of two files, and that of
+/// the trace that is kept, if one is.
 #[derive(Clone, Copy, Debug)]
 pub struct Form<'a> {
+    pub on_use: bool,
     pub heap: u32,
     pub topology: &'a str,
     pub script: &'a str,
@@ -39,24 +41,25 @@ fn is_file_name(name: &str) -> bool
     name.len() >= 1 && name.len() <= 255
 }
 
-fn is_play(word: &str) -> bool
-    ensures { result ≡ bytes_eq word.now (codes "play") }
+// Whether a word is the other one.
+fn is_word(word: &str, other: &str) -> bool
+    ensures { result ≡ bytes_eq word.now other.now }
 {
-    word == "play"
+    word == other
 }
 
-// `play HEAP TOPOLOGY SCRIPT`, with a heap of at most `room` bytes.
-fn read_untraced<'a>(words: &'a [String], room: u32) -> Option<Form<'a>>
+// Such a word, then HEAP TOPOLOGY SCRIPT, with a heap of at most `room` bytes.
+fn read_untraced<'a>(words: &'a [String], word: &str, on_use: bool, room: u32) -> Option<Form<'a>>
     ensures { MatchOption result
-        (untraced_of room (map string_bytes words.now) ≡ None)
-        (λ f. untraced_of room (map string_bytes words.now) ≡ Some (form f.heap f.topology.now f.script.now (option_map (λ name. name.now) f.trace))) }
+        (untraced_by word.now on_use room (map string_bytes words.now) ≡ None)
+        (λ f. untraced_by word.now on_use room (map string_bytes words.now) ≡ Some (form f.on_use f.heap f.topology.now f.script.now (option_map (λ name. name.now) f.trace))) }
 {
     if words.len() != 4 {
         return None;
     }
     let topology = words[2].as_str();
     let script = words[3].as_str();
-    if !is_play(words[0].as_str()) {
+    if !is_word(words[0].as_str(), word) {
         return None;
     }
     let Some(heap) = number_in(words[1].as_bytes(), 0, room) else {
@@ -69,6 +72,7 @@ fn read_untraced<'a>(words: &'a [String], room: u32) -> Option<Form<'a>>
         return None;
     }
     Some(Form {
+        on_use,
         heap,
         topology,
         script,
@@ -86,7 +90,7 @@ fn is_trace(word: &str) -> bool
 fn read_traced<'a>(words: &'a [String], room: u32) -> Option<Form<'a>>
     ensures { MatchOption result
         (traced_of room (map string_bytes words.now) ≡ None)
-        (λ f. traced_of room (map string_bytes words.now) ≡ Some (form f.heap f.topology.now f.script.now (option_map (λ name. name.now) f.trace))) }
+        (λ f. traced_of room (map string_bytes words.now) ≡ Some (form f.on_use f.heap f.topology.now f.script.now (option_map (λ name. name.now) f.trace))) }
 {
     if words.len() != 5 {
         return None;
@@ -110,6 +114,7 @@ fn read_traced<'a>(words: &'a [String], room: u32) -> Option<Form<'a>>
         return None;
     }
     Some(Form {
+        on_use: false,
         heap,
         topology,
         script,
@@ -117,23 +122,19 @@ fn read_traced<'a>(words: &'a [String], room: u32) -> Option<Form<'a>>
     })
 }
 
-// The words of a play, of which a trace may be kept.
+// The words of a play, in one of its modes, of which a trace may be kept.
 fn read_play<'a>(words: &'a [String], room: u32) -> Option<Form<'a>>
     ensures { MatchOption result
         (play_of room (map string_bytes words.now) ≡ None)
-        (λ f. play_of room (map string_bytes words.now) ≡ Some (form f.heap f.topology.now f.script.now (option_map (λ name. name.now) f.trace))) }
+        (λ f. play_of room (map string_bytes words.now) ≡ Some (form f.on_use f.heap f.topology.now f.script.now (option_map (λ name. name.now) f.trace))) }
 {
-    if let Some(form) = read_untraced(words, room) {
+    if let Some(form) = read_untraced(words, "play", false, room) {
+        return Some(form);
+    }
+    if let Some(form) = read_untraced(words, "dynamic", true, room) {
         return Some(form);
     }
     read_traced(words, room)
-}
-
-// Whether a word is the other one.
-fn is_word(word: &str, other: &str) -> bool
-    ensures { result ≡ bytes_eq word.now other.now }
-{
-    word == other
 }
 
 // `check TOPOLOGY`, `graph TOPOLOGY`, `decode TRACE`, `replay TRACE`: the name of the file behind this word.
@@ -250,7 +251,7 @@ fn read_stress(words: &[String]) -> Option<u32>
 /// What the words of a command line ask for.
 #[derive(Clone, Copy, Debug)]
 pub enum Request<'a> {
-    /// A script is played over the graph of a topology, and a trace of it may be kept.
+    /// A script is played over the graph of a topology, whose pipelines may be made on use, and a trace of it may be kept.
     Play(Form<'a>),
     /// The topology file of this name is checked.
     Check(&'a str),

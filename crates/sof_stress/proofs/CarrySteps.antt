@@ -11,8 +11,7 @@ use Rattle.sof_script.specs.declared.script.Command.{Command}
 use Rattle.sof_session.specs.Agreement.{AreAgreed}
 use Rattle.sof_session.specs.Fills.{input_ends}
 use Rattle.sof_session.specs.Seat.{Seat}
-use Rattle.sof_session.specs.SessionStep.{CommandDone}
-use Rattle.sof_session.specs.Show.{shown_by}
+use Rattle.sof_session.specs.Modes.{SteppedBy, shown_in}
 use Rattle.sof_session.specs.Written.{Out, with_bytes, written_in}
 use Rattle.sof_session.specs.Lives.{Life, Seated, Turn, Turned, Carry}
 use Rattle.sof_session.proofs.Writings.{empty-outputs}
@@ -24,13 +23,13 @@ use Rattle.sof_stress.specs.CarriedTurns.{CarriesOn, CarriedFirst, CommandsCarri
 
 -- a session's step is a turn
 pub carries-on : {P : Type 0} (means : Meaning P) (command : Command) (seat seat' : Seat P) (inputs inputs' : List InputView) (outputs outputs' : List OutputView) (answer : Answer) →
-    drained outputs ≡ outputs → CommandDone means seat.plan seat.heap command seat.kept seat'.kept (world seat.link inputs outputs) (world seat'.link inputs' outputs') answer → seat'.plan ≡ seat.plan → seat'.heap ≡ seat.heap → AreAgreed means seat' → input_ends inputs' ≡ input_ends inputs →
-    Turned means (Carry command) (record { answer = answer; shown = shown_by command seat.plan seat.kept; written = written_in outputs' }) (Seated seat inputs (output_slots outputs)) (Seated seat' inputs' (output_slots outputs))
+    drained outputs ≡ outputs → SteppedBy means command seat seat' (world seat.link inputs outputs) (world seat'.link inputs' outputs') answer → seat'.plan ≡ seat.plan → seat'.heap ≡ seat.heap → AreAgreed means seat' → input_ends inputs' ≡ input_ends inputs →
+    Turned means (Carry command) (record { answer = answer; shown = shown_in command seat.up seat.plan seat.kept; written = written_in outputs' }) (Seated seat inputs (output_slots outputs)) (Seated seat' inputs' (output_slots outputs))
 carries-on means command seat seat' inputs inputs' outputs outputs' answer empty stepped plan heap agreed ends = (
   refl,
   record {
     outputs = outputs';
-    stepped = subst (λ (xs : List OutputView). CommandDone means seat.plan seat.heap command seat.kept seat'.kept (world seat.link inputs xs) (world seat'.link inputs' outputs') answer) (sym (empty-outputs outputs empty)) stepped;
+    stepped = subst (λ (xs : List OutputView). SteppedBy means command seat seat' (world seat.link inputs xs) (world seat'.link inputs' outputs') answer) (sym (empty-outputs outputs empty)) stepped;
     shown = refl;
     written = refl;
     ends = ends;
@@ -132,7 +131,7 @@ module _ {P : Type 0} (means : Meaning P) (slot : ℕ) where
   module _ {seat seat' : Seat P} {inputs inputs' : List InputView} {outputs outputs' : List OutputView} {counts counts' : Counts} where
     -- one
     pub one-carried : (made command : Command) → made ≡ command →
-        CarriedFirst means slot (command_turns made) (Seated seat inputs (output_slots outputs)) counts (Seated seat' inputs' (output_slots outputs')) counts' → seat'.link.sent ≤ seat.link.sent + 9000 →
+        CarriedFirst means slot (command_turns made) (Seated seat inputs (output_slots outputs)) counts (Seated seat' inputs' (output_slots outputs')) counts' → seat'.link.sent ≤ seat.link.sent + 12000 →
         output_slots outputs' ≡ output_slots outputs → drained outputs' ≡ outputs' → ((n : ℕ) → AreCountsOf n counts → AreCountsOf (n + 10) counts') →
         CommandsCarried means slot (command ∷ []) seat inputs outputs counts seat' inputs' outputs' counts'
     one-carried made command is carried sent slots empty turn_counted = record {

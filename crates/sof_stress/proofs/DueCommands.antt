@@ -1,5 +1,5 @@
 -- Each command of a stress is one that is carried out, and they are few.
-use Rattle.std.proofs.Common.{◌≡◌, ℕ, ◌+◌, ◌*◌, ◌/◌, ◌%◌, ◌≤◌, ◌==◌, Bool, true, false, List, [], ◌∷◌, ◌++◌, map, length, refl, arith, length-append, lit≤, if◌then◌else◌}
+use Rattle.std.proofs.Common.{◌≡◌, ℕ, ◌+◌, ◌*◌, ◌/◌, ◌%◌, ◌≤◌, ◌==◌, Bool, true, false, List, [], ◌∷◌, ◌++◌, map, length, Option, Some, None, refl, arith, length-append, lit≤, if◌then◌else◌}
 use Rattle.std.specs.List.{AllByRecursion, flat_map, range_with_len}
 use Rattle.std.proofs.lemmas.List.FromFn.{length-range_with_len, length-map-range_with_len}
 use Rattle.sof_script.specs.declared.script.Command.{Command}
@@ -7,35 +7,39 @@ use Rattle.sof_script.specs.declared.script.Command.TheVariants as commands
 use Rattle.sof_stress.specs.Draws.{command_by, drawn, stream_count, opening, stress_commands}
 use Rattle.sof_stress.specs.CarriedTurns.{openings, drawn_commands}
 use Rattle.sof_script.specs.Ticks.{command_ticks}
-use Rattle.sof_session.specs.CommandRanges.{most_sent}
+use Rattle.sof_session.specs.Modes.{most_sent_in, most_sent_by}
 use Rattle.sof_script.specs.Ticks.{earlier as earlier_turns}
 use Rattle.sof_stress.specs.CarriedTurns.{IsDue}
 
 -- ---- how much each does
 
--- no command sends more than 900 messages
-pub at-most : (c : Command) → most_sent c ≤ 900
-at-most commands.Load = lit≤ tt
-at-most commands.Unload = lit≤ tt
-at-most commands.Suspend = lit≤ tt
-at-most commands.Resume = lit≤ tt
-at-most commands.Show = lit≤ tt
-at-most (commands.Open name) = lit≤ tt
-at-most (commands.Start name) = lit≤ tt
-at-most (commands.Stop name) = lit≤ tt
-at-most (commands.Pause name) = lit≤ tt
-at-most (commands.Release name) = lit≤ tt
-at-most (commands.Close name) = lit≤ tt
-at-most (commands.Get name) = lit≤ tt
-at-most (commands.Read name) = lit≤ tt
-at-most (commands.Params name p) = lit≤ tt
-at-most (commands.Set name v) = lit≤ tt
-at-most (commands.Bytes name b) = lit≤ tt
-at-most (commands.Tick t) = lit≤ tt
-at-most (commands.Refuse k e) = lit≤ tt
-at-most (commands.Drop k) = lit≤ tt
-at-most (commands.Lose k) = lit≤ tt
-at-most (commands.Lag k t) = lit≤ tt
+-- no command sends more than 1200 messages, in either mode
+mode-most : (up : Option (List ℕ)) → most_sent_in up ≤ 1200
+mode-most None = lit≤ tt
+mode-most (Some up) = lit≤ tt
+
+pub at-most-by : (up : Option (List ℕ)) (c : Command) → most_sent_by up c ≤ 1200
+at-most-by up commands.Load = mode-most up
+at-most-by up commands.Unload = mode-most up
+at-most-by up commands.Suspend = mode-most up
+at-most-by up commands.Resume = mode-most up
+at-most-by up commands.Show = mode-most up
+at-most-by up (commands.Open name) = mode-most up
+at-most-by up (commands.Start name) = mode-most up
+at-most-by up (commands.Stop name) = mode-most up
+at-most-by up (commands.Pause name) = mode-most up
+at-most-by up (commands.Release name) = mode-most up
+at-most-by up (commands.Close name) = mode-most up
+at-most-by up (commands.Get name) = mode-most up
+at-most-by up (commands.Read name) = mode-most up
+at-most-by up (commands.Params name p) = mode-most up
+at-most-by up (commands.Set name v) = mode-most up
+at-most-by up (commands.Bytes name b) = mode-most up
+at-most-by up (commands.Tick t) = lit≤ tt
+at-most-by up (commands.Refuse k e) = mode-most up
+at-most-by up (commands.Drop k) = mode-most up
+at-most-by up (commands.Lose k) = mode-most up
+at-most-by up (commands.Lag k t) = mode-most up
 
 -- none that is due has more than ten turns
 pub earlier-few : (c : Command) → command_ticks c ≤ 10 → earlier_turns c ≤ 9

@@ -8,12 +8,14 @@ use Rattle.stream_law.specs.Past.{start}
 use Rattle.stream_law.specs.Stands.{HasRead, position_of, left_of}
 use Rattle.mbox_link.specs.Calls.{Meaning}
 use Rattle.tplg_plan.specs.Sound.{IsSound}
+use Rattle.host_widgets.specs.declared.kept.Record.{Record}
 use Rattle.sof_script.specs.declared.script.Command.{Command}
 use Rattle.sof_session.specs.Written.{Ground, Leg}
 use Rattle.sof_session.specs.Lives.{Life, Bare, Turn, Turns, Carry}
 use Rattle.sof_session.specs.RunOver.{RunOver}
-use Rattle.sof_session.proofs.FewOrders.{few-order}
-use Rattle.sof_session.proofs.RunLegs.{HasFew, AreCarried, messages, run-over}
+use Rattle.sof_session.specs.Modes.{made_at_load}
+use Rattle.sof_session.proofs.LoadMode.{load-laws}
+use Rattle.sof_session.proofs.RunLegs.{AreCarried, messages, run-over}
 use Rattle.sof_stress.specs.Draws.{stream_count, stress_commands}
 use Rattle.sof_stress.specs.StressPorts.{stream_input, stress_inputs}
 use Rattle.sof_stress.specs.CommandTurns.{CommandTurn, turns_of}
@@ -23,7 +25,7 @@ use Rattle.sof_stress.specs.CarriedTurns.{IsDue, tasks_of}
 use Rattle.sof_stress.specs.GraphParts.{stress_plan}
 use Rattle.sof_stress.specs.StressRun.{stress_begins, stress_ground, stress_turns}
 use Rattle.sof_stress.specs.CarriedTurns.{commands_of}
-use Rattle.sof_stress.proofs.DueCommands.{at-most, earlier-few, all-due, few-commands}
+use Rattle.sof_stress.proofs.DueCommands.{earlier-few, all-due, few-commands}
 
 -- ---- the inputs, of which nothing was read
 
@@ -57,17 +59,9 @@ none-read seed room =
 
 -- ---- the commands
 
-few-after : (g : Ground) → IsSound g.plan → (n : ℕ) (command : Command) (rest : List CommandTurn) → AllByRecursion (HasFew g) (commands_of rest) → AllByRecursion (HasFew g) (commands_of (turns_after n command ++ rest))
-few-after g sound zero command rest few = (few-order g.plan sound command, few)
-few-after g sound (suc n) command rest few = (few-order g.plan sound command, few-after g sound n command rest few)
-
-few-all : (g : Ground) → IsSound g.plan → (cs : List Command) → AllByRecursion (HasFew g) (commands_of (turns_of cs))
-few-all g sound [] = tt
-few-all g sound (c ∷ cs) = few-after g sound (earlier_turns c) c (turns_of cs) (few-all g sound cs)
-
-messages-few : (turns : List CommandTurn) → messages (commands_of turns) ≤ 900 * length turns
-messages-few [] = omega arith
-messages-few (turn ∷ turns) = omega (arith, at-most turn.command, messages-few turns)
+messages-few : (most : Command → ℕ) → ((command : Command) → most command ≤ 1200) → (turns : List CommandTurn) → messages most (commands_of turns) ≤ 1200 * length turns
+messages-few most few [] = omega arith
+messages-few most few (turn ∷ turns) = omega (arith, few turn.command, messages-few most few turns)
 
 after-length : (n : ℕ) (c : Command) (rest : List CommandTurn) → length (turns_after n c ++ rest) ≡ n + 1 + length rest
 after-length zero c rest = omega arith
@@ -94,9 +88,9 @@ module _ {P : Type 0} (means : Meaning P) (seed : ℕ) (small : seed ≤ 1000) (
 
   -- the written run of all commands, whose legs are the turns
   pub stress-over : (begins : Turn) (turns : List Turn) → begins.task ≡ stress_begins (means.most p) seed → map (λ (turn : Turn). turn.task) turns ≡ tasks_of (stress_turns seed) → Turns means (Bare p) (begins ∷ turns) last →
-      (legs : List Leg) × RunOver means g (commands_of (stress_turns seed)) legs p (begins ∷ turns) last × (map (λ (leg : Leg). leg.out) legs ≡ map (λ (turn : Turn). turn.out) turns)
+      (legs : List (Leg Record)) × RunOver means made_at_load g (commands_of (stress_turns seed)) legs p (begins ∷ turns) last × (map (λ (leg : Leg Record). leg.out) legs ≡ map (λ (turn : Turn). turn.out) turns)
   stress-over begins turns begun tasks turned =
-      run-over means g (stress_inputs (stream_count seed)) p (commands_of (stress_turns seed)) begins turns last off
+      let laws = load-laws means g.plan g.heap sound in
+      run-over means made_at_load g laws (stress_inputs (stream_count seed)) p (commands_of (stress_turns seed)) begins turns last off
       (none-read seed (means.most p)) begun (are-carried (stress_turns seed) turns tasks)
-      (few-all g sound (stress_commands seed))
-      (omega (arith, messages-few (stress_turns seed), turns-few (stress_commands seed) (all-due seed), few-commands seed small)) turned
+      (omega (arith, messages-few laws.most laws.most_few (stress_turns seed), turns-few (stress_commands seed) (all-due seed), few-commands seed small)) turned

@@ -83,7 +83,7 @@ CarriedFirst means slot todo old before new after = (rest : List CommandTurn) �
 
 -- Nothing but so many commands was carried out, and the outputs are one, of this slot, and empty.
 pub record IsUnderWay {P : Type 0} (slot commands : ℕ) (seat : Seat P) (outputs : List OutputView) (counts : Counts) : Type 0 where
-  pub sent : seat.link.sent ≤ 9000 * commands
+  pub sent : seat.link.sent ≤ 12000 * commands
   pub slots : output_slots outputs ≡ slot ∷ []
   pub empty : drained outputs ≡ outputs
   pub counted : AreCountsOf (10 * commands) counts
@@ -92,7 +92,7 @@ pub record IsUnderWay {P : Type 0} (slot commands : ℕ) (seat : Seat P) (output
 pub record CommandsCarried {P : Type 0} (means : Meaning P) (slot : ℕ) (commands : List Command) (seat : Seat P) (inputs : List InputView) (outputs : List OutputView) (counts : Counts)
     (seat' : Seat P) (inputs' : List InputView) (outputs' : List OutputView) (counts' : Counts) : Type 0 where
   pub carried : CarriedFirst means slot (turns_of commands) (Seated seat inputs (output_slots outputs)) counts (Seated seat' inputs' (output_slots outputs')) counts'
-  pub sent : seat'.link.sent ≤ seat.link.sent + 9000 * length commands
+  pub sent : seat'.link.sent ≤ seat.link.sent + 12000 * length commands
   pub slots : output_slots outputs' ≡ output_slots outputs
   pub empty : drained outputs' ≡ outputs'
   pub counted : (n : ℕ) → AreCountsOf n counts → AreCountsOf (n + 10 * length commands) counts'

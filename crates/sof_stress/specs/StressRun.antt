@@ -1,5 +1,5 @@
 -- A stress over a device: the turns of its session, and its five numbers.
-use Rattle.std.specs.Prelude.{ℕ, min, List, [], ◌∷◌, map}
+use Rattle.std.specs.Prelude.{ℕ, min, false, List, [], ◌∷◌, map}
 use Rattle.sof_base.specs.Ports.{InputView}
 use Rattle.tplg_graph.specs.PlanOf.{plan_of}
 use Rattle.tplg_graph.specs.TopologyNeed.{need_of}
@@ -25,7 +25,7 @@ stress_ground room seed = record {
 
 -- a session is begun over these
 abbrev pub stress_begins : ℕ → ℕ → Task
-stress_begins room seed = let g = stress_ground room seed in Begin g.plan g.heap (stress_inputs (stream_count seed)) g.slots
+stress_begins room seed = let g = stress_ground room seed in Begin false g.plan g.heap (stress_inputs (stream_count seed)) g.slots
 
 -- and carries out the commands, turn by turn
 abbrev pub stress_turns : ℕ → List CommandTurn

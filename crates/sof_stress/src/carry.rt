@@ -2,9 +2,9 @@
 ghost use Rattle.std.specs.Prelude.{◌≡◌, ◌+◌, ◌*◌, ◌<◌, ◌≤◌, ◌^◌, ◌∷◌, [], ℕ, false};
 ghost use Rattle.sof_base.specs.DrainedOutputs.{drained};
 ghost use Rattle.sof_io.specs.Bound.{output_slots};
-ghost use Rattle.sof_session.specs.CommandRanges.{most_sent};
 ghost use Rattle.sof_session.specs.Commands as steps;
 ghost use Rattle.sof_session.specs.Lives.{Seated};
+ghost use Rattle.sof_session.specs.Modes.{most_sent_by};
 ghost use Rattle.sof_session.specs.Written.{written_in};
 ghost use Rattle.sof_stress.specs.CommandTurns as law;
 ghost use Rattle.sof_stress.specs.CommandTurns.{command_turns, turns_of};
@@ -97,7 +97,7 @@ fn carry_turn<P: Dsp>(
     requires counts { AreCountsOf (2 ^ 31) counts.old }
     ensures carried { CarriedFirst P.means slot (record { command = command.now; last = last } ∷ [])
         (Seated session.old inputs.old (output_slots outputs.old)) counts.old (Seated session.new inputs.new (output_slots outputs.new)) counts.new }
-    ensures sent { session.new.link.sent ≤ session.old.link.sent + most_sent command.now }
+    ensures sent { session.new.link.sent ≤ session.old.link.sent + most_sent_by session.old.up command.now }
     ensures slots { output_slots outputs.new ≡ output_slots outputs.old }
     ensures empty { drained outputs.new ≡ outputs.new }
     ensures counts { (n : ℕ) → AreCountsOf n counts.old → AreCountsOf (n + 1) counts.new }
@@ -124,7 +124,7 @@ fn carry_command<P: Dsp>(
     requires counts { AreCountsOf (2 ^ 30) counts.old }
     ensures carried { CarriedFirst P.means slot (command_turns command.now)
         (Seated session.old inputs.old (output_slots outputs.old)) counts.old (Seated session.new inputs.new (output_slots outputs.new)) counts.new }
-    ensures sent { session.new.link.sent ≤ session.old.link.sent + 9000 }
+    ensures sent { session.new.link.sent ≤ session.old.link.sent + 12000 }
     ensures slots { output_slots outputs.new ≡ output_slots outputs.old }
     ensures empty { drained outputs.new ≡ outputs.new }
     ensures counts { (n : ℕ) → AreCountsOf n counts.old → AreCountsOf (n + 10) counts.new }

@@ -19,7 +19,8 @@ use Rattle.tplg_graph.specs.PlanOf.{plan_of}
 use Rattle.sof_script.specs.declared.script.Command.TheVariants.{Load, Show}
 use Rattle.sof_script.specs.ScriptRead.{numbered_from}
 use Rattle.sof_script.specs.declared.script.Numbered.{Numbered}
-use Rattle.sof_session.specs.Commands.{Known, first_known, next}
+use Rattle.host_widgets.specs.declared.kept.Record.{Record}
+use Rattle.sof_session.specs.Commands.{Known, first_known, next, command_rules}
 use Rattle.sof_session.specs.Show.{shown_by}
 use Rattle.sof_session.specs.Written.{boots_in}
 use Rattle.sof_run.specs.Lines.{with_newline}
@@ -69,24 +70,24 @@ thin_topology = record {
 }
 
 -- the lines of numbered commands, one after another, over a device that does nothing of its own accord
-abbrev pub said_from : Plan → ℕ → Known → List Numbered → List (List ℕ)
+abbrev pub said_from : Plan → ℕ → Known Record → List Numbered → List (List ℕ)
 said_from plan heap known [] = []
 said_from plan heap known (numbered ∷ commands) =
-    let c = next plan heap calm known numbered.command in
+    let c = next (command_rules plan heap) calm known numbered.command in
     spoken numbered.line (record { answer = c.answer; shown = shown_by numbered.command plan known.kept; written = [] }) ++ said_from plan heap c.known commands
 
 -- their moments
-abbrev pub moments_from : Plan → ℕ → Known → List Numbered → List Moment
+abbrev pub moments_from : Plan → ℕ → Known Record → List Numbered → List Moment
 moments_from plan heap known [] = []
-moments_from plan heap known (numbered ∷ commands) = let c = next plan heap calm known numbered.command in c.moments ++ moments_from plan heap c.known commands
+moments_from plan heap known (numbered ∷ commands) = let c = next (command_rules plan heap) calm known numbered.command in c.moments ++ moments_from plan heap c.known commands
 
 abbrev pub load_and_show : List Numbered
 load_and_show = numbered_from 1 (Load ∷ Show ∷ [])
 
 -- what a run of `load` and `show` says, with a heap of so many bytes
 abbrev pub load_said : ℕ → List ℕ
-load_said heap = concat (map with_newline (said_from (plan_of thin_topology) heap (first_known (plan_of thin_topology)) load_and_show))
+load_said heap = concat (map with_newline (said_from (plan_of thin_topology) heap (first_known (command_rules (plan_of thin_topology) heap)) load_and_show))
 
 -- how often the device is booted by it
 abbrev pub boots_of : ℕ → ℕ
-boots_of heap = boots_in (moments_from (plan_of thin_topology) heap (first_known (plan_of thin_topology)) load_and_show)
+boots_of heap = boots_in (moments_from (plan_of thin_topology) heap (first_known (command_rules (plan_of thin_topology) heap)) load_and_show)

@@ -8,7 +8,7 @@ use Rattle.sof_run.proofs.Kept.{keeps-same}
 use Rattle.sof_run.proofs.Commands.{round_on, round_unfilled, rounds_on, rounds_off, rounds_last}
 use Rattle.sof_run.proofs.Openings.{files_moved}
 use Rattle.sof_run.proofs.Refills.{refill_phase}
-use Rattle.sof_run.proofs.FewMessages.{tick_before, at_most}
+use Rattle.sof_run.proofs.FewMessages.{tick_before, at_most_by}
 use Rattle.sof_run.proofs.carry.do_command.Goals as goal
 
 pub do_earlier_tick-requires-clause-files : goal.do_earlier_tick-requires-clause-files
@@ -91,7 +91,7 @@ pub do_round-requires-clause-few : goal.do_round-requires-clause-few
 do_round-requires-clause-few g c = omega (arith, c.loop.invariant.sent, c.requires.few)
 
 pub returns-clause-sent : goal.returns-clause-sent
-returns-clause-sent g c = omega (arith, c.do_round.ensures.sent, c.loop.invariant.sent, at_most c.args.numbered.now.command)
+returns-clause-sent g c = omega (arith, c.do_round.ensures.sent, c.loop.invariant.sent, at_most_by c.loop.session.up c.args.numbered.now.command)
 
 pub do_round-requires-clause-plan : goal.do_round-requires-clause-plan
 do_round-requires-clause-plan g c = subst IsSound (sym c.loop.invariant.plan) c.requires.plan

@@ -2,7 +2,7 @@ use Rattle.std.proofs.Common.{false, ap, ◌∙◌}
 use Rattle.sof_io.specs.Bound.{output_slots}
 use Rattle.sof_io.proofs.OutputLaws.{slots-drained, drained-drained}
 use Rattle.host_widgets.specs.declared.answers.Answer.TheVariants.{Done}
-use Rattle.sof_session.specs.Show.{shown_by}
+use Rattle.sof_session.specs.Modes.{shown_in}
 use Rattle.sof_session.specs.Written.{with_bytes, written_in}
 use Rattle.sof_run.specs.Keeping.{trace_slot}
 use Rattle.sof_run.specs.KeptTurns.{KeptTurn}
@@ -23,7 +23,7 @@ returns-clause-phase g c numbered n is =
     let round : Round = record { numbered = numbered; last = false } in
     let left = c.tick.new.self in
     let slots = ap output_slots c.write_unit.ensures.empty ∙ slots-drained c.tick.new.out ∙ c.tick.ensures.slots in
-    let shown = shown_by numbered.command c.args.session.now.plan c.args.session.now.kept in
+    let shown = shown_in numbered.command c.args.session.now.up c.args.session.now.plan c.args.session.now.kept in
     same_slots means (KeptTurn device holds empties) (unit_todo round) c.write_unit.result _ _ _ _ _ (output_slots c.args.outputs.now) (output_slots c.write_unit.new.outputs) slots
     (earlier_said means (KeptTurn device holds empties) numbered Done shown (with_bytes trace_slot (holds left.link.device) (written_in c.tick.new.out)) c.write_unit.result _ _ _ _
     (kept_on device holds empties numbered.command c.args.session.now left c.write_unit.new.session c.args.inputs.now c.tick.new.io c.args.outputs.now c.tick.new.out Done c.requires.empty (rw is (c.tick.ensures.stepped n)) c.tick.ensures.ends c.tick.ensures.plan c.tick.ensures.heap c.tick.ensures.agreed

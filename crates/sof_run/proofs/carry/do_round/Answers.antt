@@ -3,7 +3,7 @@ use Rattle.sof_io.specs.Bound.{output_slots}
 use Rattle.sof_io.proofs.OutputLaws.{slots-drained, drained-drained}
 use Rattle.tplg_plan.specs.Sound.{IsSound}
 use Rattle.sof_script.specs.Text.{answer_line}
-use Rattle.sof_session.specs.Show.{shown_by}
+use Rattle.sof_session.specs.Modes.{shown_in}
 use Rattle.sof_session.specs.Written.{with_bytes, written_in}
 use Rattle.sof_run.specs.Keeping.{trace_slot}
 use Rattle.sof_run.specs.KeptTurns.{KeptTurn}
@@ -31,11 +31,13 @@ returns-then-write_unit-clause-phase g c =
     let round : Round = record { numbered = numbered; last = true } in
     let left = c.step-answer.new.self in
     let written = with_bytes trace_slot (holds left.link.device) (written_in c.step-answer.new.out) in
-    let shown = shown_by numbered.command c.args.session.now.plan c.args.session.now.kept in
+    let shown = shown_in numbered.command c.args.session.now.up c.args.session.now.plan c.args.session.now.kept in
     let slots = ap output_slots c.write_unit.ensures.empty ∙ slots-drained c.step-answer.new.out ∙ c.step-answer.ensures.slots in
     let plan = ap (λ s. s.plan) c.write_unit.ensures.rest ∙ c.step-answer.ensures.plan in
     let kept = ap (λ s. s.kept) c.write_unit.ensures.rest in
-    let same = shown_same numbered.command c.args.session.now.plan c.write_unit.new.session.plan c.args.session.now.kept c.write_unit.new.session.kept plan (λ shows. kept ∙ show_stays device _ _ numbered.command _ _ _ _ _ c.step-answer.ensures.stepped shows) in
+    let up = ap (λ s. s.up) c.write_unit.ensures.rest in
+    let same = shown_same numbered.command c.args.session.now.up c.write_unit.new.session.up c.args.session.now.plan c.write_unit.new.session.plan c.args.session.now.kept c.write_unit.new.session.kept plan
+    (λ shows. let stays = show_stays device numbered.command c.args.session.now left _ _ _ c.step-answer.ensures.stepped shows in (kept ∙ stays.0, up ∙ stays.1)) in
     let said = subst (λ (xs : List (List ℕ)). DeskPhase means (lines_todo xs) c.say_lines.result c.write_unit.new.desk c.say_lines.new.desk) (ap (λ (xs : List (List ℕ)). answer_line numbered.line c.step-answer.result ∷ xs) same) c.say_lines.ensures.phase in
     same_slots means (KeptTurn device holds empties) (unit_todo round) c.say_lines.result _ _ _ _ _ (output_slots c.args.outputs.now) (output_slots c.write_unit.new.outputs) slots
     (round_said means (KeptTurn device holds empties) round c.step-answer.result shown written c.say_lines.result _ _ _ _ _
@@ -54,7 +56,7 @@ returns-else-write_unit-clause-phase g c =
     let written = with_bytes trace_slot (holds left.link.device) (written_in c.step-answer.new.out) in
     let slots = ap output_slots c.write_unit.ensures.empty ∙ slots-drained c.step-answer.new.out ∙ c.step-answer.ensures.slots in
     same_slots means (KeptTurn device holds empties) (unit_todo round) false _ _ _ _ _ (output_slots c.args.outputs.now) (output_slots c.write_unit.new.outputs) slots
-    (round_cut means (KeptTurn device holds empties) round c.step-answer.result (shown_by numbered.command c.args.session.now.plan c.args.session.now.kept) written _ _ _ _
+    (round_cut means (KeptTurn device holds empties) round c.step-answer.result (shown_in numbered.command c.args.session.now.up c.args.session.now.plan c.args.session.now.kept) written _ _ _ _
     (kept_on device holds empties _ _ _ _ _ _ _ _ _ c.requires.empty c.step-answer.ensures.stepped c.step-answer.ensures.ends c.step-answer.ensures.plan c.step-answer.ensures.heap c.step-answer.ensures.agreed c.write_unit.ensures.emptied c.write_unit.ensures.rest)
     (rw c.if-write_unit.false at c.write_unit.ensures.phase))
 

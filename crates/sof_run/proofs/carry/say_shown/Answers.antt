@@ -1,6 +1,6 @@
 use Rattle.std.proofs.Common.{sym, ◌∙◌, arith}
 use Rattle.sof_desk.specs.Desk.{Spoken}
-use Rattle.sof_session.specs.Show.{show_lines}
+use Rattle.sof_session.specs.Modes.{lines_in}
 use Rattle.sof_run.proofs.FewLines.{line_within, few_lines}
 use Rattle.sof_run.proofs.Commands.{leads_on, leads_off, leads_all}
 use Rattle.sof_run.proofs.Refills.{same_then, same_put}
@@ -8,7 +8,7 @@ use Rattle.sof_run.proofs.carry.say_shown.Goals as goal
 
 pub returns-then-not-is_ok : goal.returns-then-not-is_ok
 returns-then-not-is_ok g c =
-    let lines = show_lines c.args.session.now.plan c.args.session.now.kept in
+    let lines = lines_in c.args.session.now.up c.args.session.now.plan c.args.session.now.kept in
     record {
       phase = leads_off g.D.Desk.means lines c.loop-line.k c.show_line.new.line _ _ _ (rw c.loop-line-test.true at c.show_line.ensures.line) c.loop-line.invariant.so_far
           (rw (sym c.is_ok.ensures.value ∙ c.if-not-is_ok.true, c.bytes.ensures ∙ c.say.ensures.said) at c.say-in-loop-line.ensures);
@@ -17,7 +17,7 @@ returns-then-not-is_ok g c =
 
 pub loop-line-preserved : goal.loop-line-preserved
 loop-line-preserved g c =
-    let lines = show_lines c.args.session.now.plan c.args.session.now.kept in
+    let lines = lines_in c.args.session.now.up c.args.session.now.plan c.args.session.now.kept in
     record {
       so_far = leads_on g.D.Desk.means lines c.loop-line.k c.show_line.new.line _ _ _ (rw c.loop-line-test.true at c.show_line.ensures.line) c.loop-line.invariant.so_far
           (rw (sym c.is_ok.ensures.value ∙ c.if-not-is_ok.false, c.bytes.ensures ∙ c.say.ensures.said) at c.say-in-loop-line.ensures);
@@ -26,7 +26,7 @@ loop-line-preserved g c =
 
 pub returns : goal.returns
 returns g c =
-    let lines = show_lines c.args.session.now.plan c.args.session.now.kept in
+    let lines = lines_in c.args.session.now.up c.args.session.now.plan c.args.session.now.kept in
     record {
       phase = leads_all g.D.Desk.means lines c.loop-line.k c.show_line.new.line _ _ (rw c.loop-line-test.false at c.show_line.ensures.line) c.loop-line.invariant.so_far;
       same = c.loop-line.invariant.same;
@@ -36,10 +36,10 @@ pub overflow_add-k : goal.overflow_add-k
 overflow_add-k g c =
     let plan = c.args.session.now.plan in
     let kept = c.args.session.now.kept in
-    omega (arith, line_within (show_lines plan kept) c.loop-line.k c.show_line.new.line (rw c.loop-line-test.true at c.show_line.ensures.line), few_lines plan c.requires kept)
+    omega (arith, line_within (lines_in c.args.session.now.up plan kept) c.loop-line.k c.show_line.new.line (rw c.loop-line-test.true at c.show_line.ensures.line), few_lines plan c.requires kept c.args.session.now.up)
 
 pub loop-line-smaller : goal.loop-line-smaller
 loop-line-smaller g c =
     let plan = c.args.session.now.plan in
     let kept = c.args.session.now.kept in
-    omega (arith, line_within (show_lines plan kept) c.loop-line.k c.show_line.new.line (rw c.loop-line-test.true at c.show_line.ensures.line))
+    omega (arith, line_within (lines_in c.args.session.now.up plan kept) c.loop-line.k c.show_line.new.line (rw c.loop-line-test.true at c.show_line.ensures.line))

@@ -1,5 +1,8 @@
-use Rattle.sof_run.proofs.Kept.{none_named}
+use Rattle.sof_run.proofs.Kept.{none_named, at_load_by}
 use Rattle.sof_run.proofs.play.do_run.Goals as goal
+
+pub do_traced-requires-clause-at_load : goal.do_traced-requires-clause-at_load
+do_traced-requires-clause-at_load g c = at_load_by c.args.form.on_use c.args.form.trace (rw c.is_some.ensures at c.if-is_some.true) c.requires.untraced
 
 pub do_untraced-requires-clause-none : goal.do_untraced-requires-clause-none
 do_untraced-requires-clause-none g c = none_named c.args.form.trace (rw c.is_some.ensures at c.if-is_some.false)

@@ -2,6 +2,7 @@ use Rattle.std.proofs.Common.{Some, None, map, string_bytes}
 use Rattle.std.specs.Prelude.{option_map}
 use Rattle.sof_run.specs.LineParts.{form, names, source_files}
 use Rattle.sof_run.specs.Requests.{Play, Check, Picture, Compile, Source, Stress, Decode}
+use Rattle.sof_run.proofs.Kept.{none_mapped}
 use Rattle.sof_run.proofs.Requests.{asked_within}
 use Rattle.sof_run.proofs.CompileVerdicts.{other_makes, compile_makes}
 use Rattle.sof_run.proofs.StressPhases.{play_gave, stress_gave, replay_gave, alone_gave}
@@ -9,8 +10,14 @@ use Rattle.sof_run.proofs.play.do_words.Goals as goal
 
 pub do_play-requires-clause-fits : goal.do_play-requires-clause-fits
 do_play-requires-clause-fits g c =
-    asked_within (g.P.Dsp.means.most c.args.dsp) (map string_bytes c.args.words.now) (Play (form c.in-Some-Play.form.heap c.in-Some-Play.form.topology.now c.in-Some-Play.form.script.now (option_map (λ name. name.now) c.in-Some-Play.form.trace)))
-    (rw (c.in-Some-Play.field-0-is, c.room.ensures) at c.in-Some-Play.ensures)
+    (asked_within (g.P.Dsp.means.most c.args.dsp) (map string_bytes c.args.words.now) (Play (form c.in-Some-Play.form.on_use c.in-Some-Play.form.heap c.in-Some-Play.form.topology.now c.in-Some-Play.form.script.now (option_map (λ name. name.now) c.in-Some-Play.form.trace)))
+    (rw (c.in-Some-Play.field-0-is, c.room.ensures) at c.in-Some-Play.ensures)).0
+
+pub do_play-requires-clause-untraced : goal.do_play-requires-clause-untraced
+do_play-requires-clause-untraced g c = λ uses.
+    none_mapped (λ name. name.now) c.in-Some-Play.form.trace
+    ((asked_within (g.P.Dsp.means.most c.args.dsp) (map string_bytes c.args.words.now) (Play (form c.in-Some-Play.form.on_use c.in-Some-Play.form.heap c.in-Some-Play.form.topology.now c.in-Some-Play.form.script.now (option_map (λ name. name.now) c.in-Some-Play.form.trace)))
+    (rw (c.in-Some-Play.field-0-is, c.room.ensures) at c.in-Some-Play.ensures)).1 uses)
 
 pub do_stress-requires-clause-most : goal.do_stress-requires-clause-most
 do_stress-requires-clause-most g c =
@@ -18,7 +25,7 @@ do_stress-requires-clause-most g c =
 
 pub returns-in-Some-Play-clause-gave : goal.returns-in-Some-Play-clause-gave
 returns-in-Some-Play-clause-gave g c =
-    play_gave g.D.Desk.means g.P.Dsp.means (map string_bytes c.args.words.now) _ _ _ _ _ (form c.in-Some-Play.form.heap c.in-Some-Play.form.topology.now c.in-Some-Play.form.script.now (option_map (λ name. name.now) c.in-Some-Play.form.trace))
+    play_gave g.D.Desk.means g.P.Dsp.means (map string_bytes c.args.words.now) _ _ _ _ _ (form c.in-Some-Play.form.on_use c.in-Some-Play.form.heap c.in-Some-Play.form.topology.now c.in-Some-Play.form.script.now (option_map (λ name. name.now) c.in-Some-Play.form.trace))
     (rw (c.in-Some-Play.field-0-is, c.room.ensures) at c.in-Some-Play.ensures) c.do_play.ensures
 
 pub returns-in-Some-Play-clause-sound : goal.returns-in-Some-Play-clause-sound

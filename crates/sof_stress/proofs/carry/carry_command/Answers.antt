@@ -1,7 +1,7 @@
 use Rattle.std.proofs.Common.{◌+◌, ◌^◌, ◌∙◌, arith}
 use Rattle.sof_script.specs.Ticks.{earlier as earlier_turns}
 use Rattle.sof_stress.proofs.CarrySteps.{counts-mono, turns-on, turns-last}
-use Rattle.sof_stress.proofs.DueCommands.{at-most, earlier-few}
+use Rattle.sof_stress.proofs.DueCommands.{at-most-by, earlier-few}
 use Rattle.sof_stress.proofs.carry.carry_command.Goals as goal
 
 pub carry_turn-requires-clause-due : goal.carry_turn-requires-clause-due
@@ -38,7 +38,7 @@ carry_turn-requires-2-clause-counts g c =
 
 pub loop-preserved : goal.loop-preserved
 loop-preserved g c = record {
-  sent = omega (arith, c.carry_turn.ensures.sent, c.loop.invariant.sent, at-most c.args.command.now);
+  sent = omega (arith, c.carry_turn.ensures.sent, c.loop.invariant.sent, at-most-by c.loop.session.up c.args.command.now);
   slots = c.carry_turn.ensures.slots ∙ c.loop.invariant.slots;
   empty = c.carry_turn.ensures.empty;
   counts = λ n are. counts-mono (n + c.loop.counter + 1) (n + (c.loop.counter + 1)) _ (omega arith) (c.carry_turn.ensures.counts (n + c.loop.counter) (c.loop.invariant.counts n are));
@@ -52,7 +52,7 @@ returns-clause-carried g c =
 pub returns-clause-sent : goal.returns-clause-sent
 returns-clause-sent g c =
     let few = earlier-few c.args.command.now c.requires.due.ticks in
-    omega (arith, few, c.carry_turn-2.ensures.sent, c.loop.invariant.sent, at-most c.args.command.now, c.earlier_turns-end.ensures)
+    omega (arith, few, c.carry_turn-2.ensures.sent, c.loop.invariant.sent, at-most-by c.loop.session.up c.args.command.now, c.earlier_turns-end.ensures)
 
 pub returns-clause-slots : goal.returns-clause-slots
 returns-clause-slots g c = c.carry_turn-2.ensures.slots ∙ c.loop.invariant.slots

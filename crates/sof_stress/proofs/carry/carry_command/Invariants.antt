@@ -12,7 +12,7 @@ use Rattle.sof_stress.proofs.carry.carry_command.Given as goal
 -- the turns that are left, carried out, make all carried out
 abbrev pub invariant-loop : goal.invariant-loop
 invariant-loop g l = record {
-  sent : l.session.link.sent ≤ l.fn.session.link.sent + 900 * l.counter;
+  sent : l.session.link.sent ≤ l.fn.session.link.sent + 1200 * l.counter;
   slots : output_slots l.outputs ≡ output_slots l.fn.outputs;
   empty : drained l.outputs ≡ l.outputs;
   counts : (n : ℕ) → AreCountsOf n l.fn.counts → AreCountsOf (n + l.counter) l.counts;

@@ -2,7 +2,7 @@ use Rattle.std.proofs.Common.{◌≡◌, ◌∷◌, [], ap, sym, subst, ◌∙�
 use Rattle.sof_io.specs.Bound.{output_slots}
 use Rattle.sof_io.proofs.OutputLaws.{slots-drained, drained-drained}
 use Rattle.sof_session.specs.Lives.{Seated}
-use Rattle.sof_session.specs.Show.{shown_by}
+use Rattle.sof_session.specs.Modes.{shown_in}
 use Rattle.sof_session.specs.Written.{Out, written_in}
 use Rattle.sof_stress.specs.CommandTurns.{CommandTurn}
 use Rattle.sof_stress.specs.CarriedTurns.{counted_by}
@@ -21,7 +21,7 @@ returns-clause-carried g c =
     let slots : output_slots c.drain.new.self ≡ output_slots c.args.outputs.now = ap output_slots c.drain.ensures ∙ slots-drained c.step-answer.new.out ∙ c.step-answer.ensures.slots in
     let turned = carries-on g.P.Dsp.means c.args.command.now _ _ _ _ _ _ c.step-answer.result c.requires.empty c.step-answer.ensures.stepped c.step-answer.ensures.plan c.step-answer.ensures.heap c.step-answer.ensures.agreed c.step-answer.ensures.ends in
     let turn : CommandTurn = record { command = c.args.command.now; last = c.args.last } in
-    let out : Out = record { answer = c.step-answer.result; shown = shown_by c.args.command.now c.args.session.now.plan c.args.session.now.kept; written = written_in c.step-answer.new.out } in
+    let out : Out = record { answer = c.step-answer.result; shown = shown_in c.args.command.now c.args.session.now.up c.args.session.now.plan c.args.session.now.kept; written = written_in c.step-answer.new.out } in
     let old = Seated c.args.session.now c.args.inputs.now (output_slots c.args.outputs.now) in
     let is = c.count_turn.ensures.counted ∙ ap (λ b. counted_by c.args.command.now c.args.last c.step-answer.result b c.args.counts.now) c.held-bytes.ensures.held in
     subst (λ xs. CarriedFirst g.P.Dsp.means c.args.slot (turn ∷ []) old c.args.counts.now (Seated c.step-answer.new.self c.step-answer.new.io xs) c.count_turn.new.counts) (sym slots)

@@ -25,6 +25,7 @@ A line that begins with '#' is a remark. Several lines of one FILE are joined.
 Of topology.py:
   limits MORE            a topology at every limit but for one buffer, with one more of MORE where it is given
   pairs COUNT            a topology of so many DAIs that capture, each through a buffer to one that plays
+  row COUNT              a topology of one stream that plays through so many pipelines, from 2 on
   widget KIND INDEX NAME STREAM TOKEN=VALUE ..
                          a widget in a block of its own; KIND as in a source, '-' for no STREAM, VALUE a number or a text
   outputs FIRST LAST     widgets W0, W1 and so on that a graph does not use, each in a block of its own

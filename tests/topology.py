@@ -100,6 +100,26 @@ def dai_pairs(count):
     return b"".join(widgets) + routes(edges)
 
 
+def pipelines_in_a_row(count):
+    """A host in the first of so many pipelines, a DAI in the last, and a volume with a control in each between.
+
+    A buffer in each pipeline but the last leads to the next.
+    """
+    last = int(count) - 1
+    widgets, edges = [], []
+    for k in range(last + 1):
+        text = "PCM0P" if k == 0 else "DAI0" if k == last else f"VOL{k}"
+        kind = HOST if k == 0 else DAI if k == last else VOLUME
+        control = volume_control("Level", 2, 0, 32, (-6400, 200, 1)) if kind == VOLUME else b""
+        widgets.append(widget(kind, k + 1, text, "P0" if k == 0 else "", control=control))
+        if k < last:
+            widgets.append(widget(BUFFER, k + 1, f"B{k}", tokens={SIZE: 768}))
+            edges.append((text, f"B{k}"))
+            edges.append((f"B{k}", "DAI0" if k + 1 == last else f"VOL{k + 1}"))
+        widgets.append(widget(SCHEDULER, k + 1, f"PIPE{k + 1}", text, {PERIOD: 1000}))
+    return b"".join(widgets) + routes(edges) + pcm("Main", 0, "P0")
+
+
 def at_the_limits(more=""):
     """16 hosts, each through four volumes and two mixers, and a row of mixers from chain to chain to one DAI.
 
@@ -156,6 +176,7 @@ RECIPES = {
     "outputs": lambda first, last: b"".join(widget(KINDS["output"], 0, f"W{n}") for n in range(int(first), int(last) + 1)),
     "limits": at_the_limits,
     "pairs": dai_pairs,
+    "row": pipelines_in_a_row,
     "widget": spelled_widget,
     "route": lambda source, sink: routes([(source, sink)]),
     "pcm": lambda text, number, stream: pcm(text, int(number), stream),

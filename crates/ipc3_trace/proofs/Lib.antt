@@ -8,3 +8,4 @@ pub mod HeldLaws
 pub mod FitLaws
 pub mod StepLaws
 pub mod LeadingLaws
+pub mod AlikeViews

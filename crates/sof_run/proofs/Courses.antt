@@ -8,26 +8,26 @@ use Rattle.tplg_compile.specs.declared.source_fault.SourceFault.{SourceFault}
 use Rattle.tplg_graph.specs.PlanOf.{plan_of}
 use Rattle.tplg_compile.specs.InOrder.{compiled_of}
 use Rattle.sof_script.specs.Commands.{Bound, Read as ReadScript}
-use Rattle.sof_session.specs.Written.{Out}
+use Rattle.sof_script.specs.Tasks.{Out, Task, Begin, Carry, Fill, Give, Turn}
 use Rattle.mbox_link.specs.Calls as device
-use Rattle.sof_session.specs.Lives.{Task, Begin, Carry, Fill, Give, Turn}
-use Rattle.sof_run.specs.declared.prepare.Halt.{Halt}
-use Rattle.sof_run.specs.Words.{Form}
-use Rattle.sof_run.specs.Todo.{Todo, End, Stop, Ask, Do, Step, Refill, Send, Free, Says, Over, DoneBy}
-use Rattle.sof_run.specs.Calls.{reading, answer_in}
-use Rattle.sof_run.specs.Bindings.{binding_act, bound_inputs, bound_slots}
-use Rattle.sof_run.specs.Keeping.{trace_acts}
-use Rattle.sof_run.specs.Rounds.{Round, rounds_of}
-use Rattle.sof_run.specs.Lines.{no_memory_line, with_newline, lines_after}
-use Rattle.sof_run.specs.Prepared.{prepared, checked}
+use Rattle.run_desk.specs.declared.preparing.Halt.{Halt}
+use Rattle.run_words.specs.Words.{Form}
+use Rattle.run_desk.specs.Todo.{Todo, End, Stop, Ask, Do, Step, Refill, Send, Free, Says, Over, DoneBy}
+use Rattle.run_desk.specs.DeskCalls.{reading, answer_in, heard_in}
+use Rattle.run_desk.specs.Bindings.{binding_act, bound_inputs, bound_slots}
+use Rattle.run_play.specs.Keeping.{trace_acts}
+use Rattle.run_play.specs.Rounds.{Round, rounds_of}
+use Rattle.run_desk.specs.Lines.{no_memory_line, with_newline}
+use Rattle.run_play.specs.Pieces.{lines_after, Piece, pieces_of}
+use Rattle.run_desk.specs.Prepared.{prepared, checked}
 use Rattle.tplg_source.specs.Outcome.{source_for}
-use Rattle.sof_run.specs.Play.{prepared_todo, ready_todo, lines_todo, rounds_todo, session_todo, bindings_todo, acts_todo, traced_todo, play}
-use Rattle.sof_run.specs.Pieces.{Piece, pieces_of}
-use Rattle.sof_run.specs.Checking.{count_lines}
-use Rattle.sof_run.specs.Picturing.{picture_lines}
-use Rattle.sof_run.specs.CheckTodo.{said_todo, checked_todo, check}
-use Rattle.sof_run.specs.CompileTodo.{compiled_todo}
-use Rattle.sof_run.specs.SourceTodo.{kept_todo, sourced_todo}
+use Rattle.run_play.specs.Play.{prepared_todo, ready_todo, rounds_todo, session_todo, bindings_todo, acts_todo, traced_todo, play}
+use Rattle.run_desk.specs.LinesTodo.{lines_todo}
+use Rattle.run_tools.specs.Checking.{count_lines}
+use Rattle.run_tools.specs.Picturing.{picture_lines}
+use Rattle.run_tools.specs.CheckTodo.{said_todo, checked_todo, check}
+use Rattle.run_tools.specs.CompileTodo.{compiled_todo}
+use Rattle.run_tools.specs.SourceTodo.{kept_todo, sourced_todo}
 use Rattle.sof_stress.specs.declared.counts.Counts.{Counts}
 use Rattle.sof_stress.specs.Draws.{stream_count}
 use Rattle.sof_stress.specs.StressPorts.{dai_slot}
@@ -40,17 +40,17 @@ use Rattle.ipc3_trace.specs.declared.entry.Entry.TheVariants as entries
 use Rattle.ipc3_trace.specs.declared.fault.TraceFault.{TraceFault}
 use Rattle.ipc3_trace.specs.EntryLines.{entry_line}
 use Rattle.ipc3_trace.specs.Reading.{trace_in}
-use Rattle.sof_run.specs.DecodeTodo.{decoded_todo}
-use Rattle.sof_run.specs.declared.replay_fault.ReplayFault.{ReplayFault}
-use Rattle.sof_run.specs.Replaying.{next_place, record_fault, end_fault, on_after, tally_of, replay_lines}
-use Rattle.sof_run.specs.ReplayTodo.{without_fault, replied_todo, give_todo, given_todo, replayed_todo}
-use Rattle.sof_run.specs.Requests.{Request, Play, Check, Picture, Compile, Source, Stress, Decode, Replay, request_of}
+use Rattle.run_tools.specs.DecodeTodo.{decoded_todo}
+use Rattle.run_replay.specs.declared.replay_fault.ReplayFault.{ReplayFault}
+use Rattle.run_replay.specs.Replaying.{next_place, record_fault, end_fault, on_after, tally_of, replay_lines}
+use Rattle.run_replay.specs.ReplayTodo.{without_fault, replied_todo, give_todo, given_todo, replayed_todo}
+use Rattle.run_words.specs.Requests.{Request, Play, Check, Picture, Compile, Source, Stress, Decode, Replay, request_of}
 use Rattle.sof_run.specs.Forms.{todo_for, todo_of}
-use Rattle.sof_run.specs.Calls.{Item, Calls, Turns, Memory, Course, before_course, saying, last_line, load_course, turning, filling_by, filling, putting, units, bindings, files, playing, counting, checking, making, keeping, sourcing, recounting, sending, faulting, replying, giving, giving_all, replaying, counting_turns, telling, stressing, heard_in, Wants, Made, course}
+use Rattle.sof_run.specs.Calls.{Item, Calls, Turns, Memory, Course, before_course, saying, last_line, load_course, turning, filling_by, filling, putting, units, bindings, files, playing, counting, checking, making, keeping, sourcing, recounting, sending, faulting, replying, giving, giving_all, replaying, counting_turns, telling, stressing, Wants, Made, course}
 use Rattle.sof_run.specs.ComeTo.{IsMade}
 use Rattle.sof_run.specs.Findings.{FollowsCourse}
-use Rattle.sof_run.proofs.WrittenPieces.{puts, puts_flush}
-use Rattle.sof_run.proofs.LoadedBytes.{heard_behind, loads_bring}
+use Rattle.run_play.proofs.WrittenPieces.{puts, puts_flush}
+use Rattle.run_desk.proofs.LoadedBytes.{heard_behind, loads_bring}
 use Rattle.sof_run.proofs.Findings.{run_of, as_prepared, prepared_same, run_heard, topology_heard, source_heard, trace_heard, findings_of, are_found}
 
 -- ---- what is to do, unrolled

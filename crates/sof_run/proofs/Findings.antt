@@ -18,21 +18,23 @@ use Rattle.tplg_compile.proofs.CompileLaws.{compiled_take, text_fault_take}
 use Rattle.sof_script.specs.declared.reading.ScriptFault.{ScriptFault}
 use Rattle.sof_script.specs.declared.reading.ScriptFault.TheVariants as scripts
 use Rattle.sof_script.specs.Commands.{Read, script_of}
-use Rattle.sof_run.specs.declared.prepare.Halt.{Halt}
-use Rattle.sof_run.specs.declared.prepare.Halt.TheVariants as halts
-use Rattle.sof_run.specs.TopologyBytes.{AreBytes, BringsBytes, IsFile, IsBroken}
-use Rattle.sof_run.specs.Bindings.{wrong_binding}
-use Rattle.sof_run.specs.Verdicts.{ticks_of, IsScript}
+use Rattle.run_desk.specs.declared.preparing.Halt.{Halt}
+use Rattle.run_desk.specs.declared.preparing.Halt.TheVariants as halts
+use Rattle.run_desk.specs.TopologyBytes.{AreBytes, BringsBytes, IsFile, IsBroken}
+use Rattle.run_desk.specs.Bindings.{wrong_binding}
+use Rattle.run_desk.specs.Verdicts.{ticks_of, IsScript}
 use Rattle.ipc3_trace.specs.declared.entry.Entry.{Entry}
 use Rattle.ipc3_trace.specs.declared.fault.TraceFault.{TraceFault}
 use Rattle.ipc3_trace.specs.WholeTraces.{IsTraceOf}
 use Rattle.ipc3_trace.specs.Reading.{trace_in}
 use Rattle.ipc3_trace.proofs.WholeLaws.{has-trace}
 use Rattle.sof_run.specs.Calls.{Findings}
-use Rattle.sof_run.specs.ComeTo.{FilesComeTo, TopologyComesTo, SourceComesTo}
+use Rattle.sof_run.specs.ComeTo.{FilesComeTo, SourceComesTo}
+use Rattle.run_tools.specs.Checks.{TopologyComesTo}
 use Rattle.sof_run.specs.Findings.{AreFindings}
-use Rattle.sof_run.specs.Prepared.{Prepared, Ready, Halted, prepared, prepared_script, prepared_ticks, prepared_topology, prepared_rules, prepared_bindings, checked, checked_file, checked_rules}
+use Rattle.run_desk.specs.Prepared.{Prepared, Ready, Halted, prepared, prepared_script, prepared_ticks, prepared_topology, prepared_rules, prepared_bindings, checked}
 use Rattle.sof_run.proofs.ScriptReads.{never_wanting}
+use Rattle.run_tools.proofs.CheckedFiles.{checked_found}
 
 -- ---- numbers
 
@@ -154,34 +156,6 @@ module _ (topology script : List ℕ) where
   files_only (Err (halts.Binding line)) is =
       only_rules is.1 is.0 is.2 is.3 ∙ ap (run_by_rules is.1 is.0) (whole_none is.1 is.4) ∙ ap (run_by_bindings is.1 is.0) is.5
   files_only (Err halts.OutOfMemory) is = absurd is
-
--- ---- a topology alone
-
-module _ (bytes : List ℕ) where
-  module _ (are : AreBytes bytes) where
-    by_rules : (t : Topology) (ruling : Option (ℕ × ℕ)) → IsFile bytes t → ruling_of t ≡ ruling → TopologyComesTo bytes (checked_rules t ruling)
-    by_rules t (Some (rule, item)) file is = (t, file, some_breaks t rule item is)
-    by_rules t None file is = (file, none_whole t is)
-
-    by_file : (r : Result Topology TplgFault) → topology_of bytes ≡ r → TopologyComesTo bytes (checked_file r)
-    by_file (Err fault) is = (none, topology_found bytes fault are is)
-      where
-        none : IsBroken bytes
-        none t file = cc (sym is ∙ topology_again bytes t file.0 file.1)
-    by_file (Ok t) is = by_rules t (ruling_of t) (topology_take bytes t are is) refl
-
-    pub checked_found : TopologyComesTo bytes (checked bytes)
-    checked_found = by_file (topology_of bytes) refl
-
-  pub checked_only : (r : Result Topology Halt) → TopologyComesTo bytes r → checked bytes ≡ r
-  checked_only (Ok t) is = ap checked_file (topology_again bytes t is.0.0 is.0.1) ∙ ap (checked_rules t) (whole_none t is.1)
-  checked_only (Err (halts.Broken fault)) is = ap checked_file (topology_only bytes fault is.1)
-  checked_only (Err (halts.Rule rule item)) is =
-      ap checked_file (topology_again bytes is.0 is.1.0 is.1.1) ∙ ap (checked_rules is.0) (breaks_some is.0 rule item is.2)
-  checked_only (Err (halts.Script line cause)) is = absurd is
-  checked_only (Err (halts.Ticks sum)) is = absurd is
-  checked_only (Err (halts.Binding line)) is = absurd is
-  checked_only (Err halts.OutOfMemory) is = absurd is
 
 -- ---- a source
 

@@ -13,7 +13,8 @@ use Rattle.sof_script.specs.Commands.{Read}
 use Rattle.tplg_plan.specs.Sound.{IsSound}
 use Rattle.sof_script.specs.declared.script.Command.{Command}
 use Rattle.sof_session.specs.SessionStep.{Calm}
-use Rattle.sof_session.specs.Written.{Out, Ground, Leg, first_at, basis_of}
+use Rattle.sof_script.specs.Tasks.{Out, Turn, AreTurns}
+use Rattle.sof_session.specs.Written.{Ground, Leg, first_at, basis_of}
 use Rattle.sof_session.specs.Fills.{bytes_read}
 use Rattle.sof_session.specs.Modes.{Mode, made_at_load, made_on_use}
 use Rattle.sof_session.proofs.LoadMode.{load-laws}
@@ -23,55 +24,56 @@ use Rattle.ipc3_trace.specs.declared.entry.Entry.{Entry}
 use Rattle.ipc3_trace.specs.Records.{IsEntry, records_bytes}
 use Rattle.ipc3_trace.specs.Steps.{steps_of}
 use Rattle.ipc3_trace.specs.WholeTraces.{IsTraceOf}
-use Rattle.sof_session.specs.Lives.{Bare, Turn, Turns, AreTurns, device_of, reads_in}
+use Rattle.sof_session.specs.Lives.{Bare, Turns, device_of, reads_in}
 use Rattle.sof_stress.specs.StressRun.{sent_in}
-use Rattle.sof_run.specs.Todo.{Todo, Says, DoneBy}
-use Rattle.sof_run.specs.Throughout.{Throughout}
-use Rattle.sof_run.specs.Bindings.{bound_files}
-use Rattle.sof_run.specs.Rounds.{Round, rounds_of}
-use Rattle.sof_run.specs.Prepared.{Ready, prepared}
-use Rattle.sof_run.specs.Play.{play}
-use Rattle.sof_run.specs.Checking.{count_lines}
-use Rattle.sof_run.specs.Picturing.{picture_lines}
-use Rattle.sof_run.specs.CheckTodo.{check}
-use Rattle.sof_run.specs.CompileTodo.{compile}
-use Rattle.sof_run.specs.SourceTodo.{make_source}
+use Rattle.run_desk.specs.Todo.{Todo, Says, DoneBy}
+use Rattle.run_desk.specs.Throughout.{Throughout}
+use Rattle.run_desk.specs.Bindings.{bound_files}
+use Rattle.run_play.specs.Rounds.{Round, rounds_of}
+use Rattle.run_desk.specs.Prepared.{Ready, prepared}
+use Rattle.run_play.specs.Play.{play}
+use Rattle.run_tools.specs.Checking.{count_lines}
+use Rattle.run_tools.specs.Picturing.{picture_lines}
+use Rattle.run_tools.specs.CheckTodo.{check}
+use Rattle.run_tools.specs.CompileTodo.{compile}
+use Rattle.run_tools.specs.SourceTodo.{make_source}
 use Rattle.sof_run.specs.StressTodo.{stress}
-use Rattle.sof_run.specs.DecodeTodo.{decode}
-use Rattle.sof_run.specs.ReplayTodo.{replay}
-use Rattle.sof_run.specs.Requests.{Request, Play, Check, Picture, Compile, Source, Stress, Decode, Replay, request_of}
-use Rattle.sof_run.specs.TraceForms.{replay_of}
-use Rattle.sof_run.specs.Words.{Form, play_of}
-use Rattle.sof_run.specs.Met.{met_units}
-use Rattle.sof_run.specs.Pieces.{AreWritten, opened, bytes_of_pieces}
-use Rattle.sof_run.specs.Traces.{met_in, TracesWhole}
-use Rattle.sof_run.specs.Keeping.{trace_slot, trace_slots, recorded_turns, recorded_outs, TurnsLeft, KeptRecords}
+use Rattle.run_tools.specs.DecodeTodo.{decode}
+use Rattle.run_replay.specs.ReplayTodo.{replay}
+use Rattle.run_words.specs.Requests.{Request, Play, Check, Picture, Compile, Source, Stress, Decode, Replay, request_of}
+use Rattle.run_words.specs.TraceForms.{replay_of}
+use Rattle.run_words.specs.Words.{Form, play_of}
+use Rattle.run_play.specs.Met.{met_units}
+use Rattle.run_play.specs.Pieces.{AreWritten, opened, bytes_of_pieces}
+use Rattle.run_play.specs.Traces.{met_in, TracesWhole}
+use Rattle.run_play.specs.Keeping.{trace_slot, trace_slots, recorded_turns, recorded_outs, TurnsLeft, KeptRecords}
 use Rattle.sof_run.specs.Forms.{todo_for, todo_of, GaveSent}
 use Rattle.sof_run.specs.Ends.{IsEarly, Worded}
-use Rattle.sof_run.specs.Verdicts.{MakeRun, Judged}
-use Rattle.sof_run.specs.Plays.{ToPlay, AreFilesTold, AreMet, Plays, PlaysIn, Unbegun, PlaysWhole, written_slots, ground_of, commands_in}
-use Rattle.sof_run.specs.HeardRuns.{RunsBy, RunsIn, PlaysWhatIsHeard}
+use Rattle.run_desk.specs.Verdicts.{MakeRun}
+use Rattle.sof_run.specs.PlayVerdict.{Judged}
+use Rattle.run_play.specs.Plays.{ToPlay, AreFilesTold, AreMet, Plays, PlaysIn, Unbegun, PlaysWhole, written_slots, ground_of, commands_in}
+use Rattle.run_play.specs.HeardRuns.{RunsBy, RunsIn, PlaysWhatIsHeard}
 use Rattle.sof_run.specs.Run.{Left}
 use Rattle.sof_run.specs.Findings.{FollowsCourse}
-use Rattle.sof_run.specs.TopologyBytes.{BringsBytes}
-use Rattle.sof_run.specs.Calls.{heard_in}
-use Rattle.sof_run.proofs.Requests.{play_asked, play_in, replay_meant, kept_of, nothing_asked, formless_asked}
-use Rattle.sof_run.proofs.SaidLines.{said}
+use Rattle.run_desk.specs.TopologyBytes.{BringsBytes}
+use Rattle.run_desk.specs.DeskCalls.{heard_in}
+use Rattle.run_words.proofs.Requests.{play_asked, play_in, replay_meant, kept_of, nothing_asked, formless_asked}
+use Rattle.run_desk.proofs.SaidLines.{said}
 use Rattle.sof_run.proofs.Judging.{judge}
-use Rattle.sof_run.proofs.PlanWords.{sound_plan}
-use Rattle.sof_run.proofs.ScriptRanges.{script_sound}
-use Rattle.sof_run.proofs.OpenedFiles.{Next}
+use Rattle.run_play.proofs.PlanWords.{sound_plan}
+use Rattle.run_play.proofs.ScriptRanges.{script_sound}
+use Rattle.run_play.proofs.OpenedFiles.{Next}
 use Rattle.sof_run.proofs.Findings.{as_prepared, prepared_same, files_only}
-use Rattle.sof_run.proofs.LoadedBytes.{loads_bring}
+use Rattle.run_desk.proofs.LoadedBytes.{loads_bring}
 use Rattle.sof_run.proofs.Courses.{follows}
-use Rattle.sof_run.proofs.PlayRuns.{play_goes, plays, before_begun}
-use Rattle.sof_run.proofs.HeardRuns.{Began, Ended, play_heard, legs, over_is, met_is, view_is, all_legs}
-use Rattle.sof_run.proofs.RecordedTurns.{Fronted, fronted_turns, none_recorded, as_many_outs}
-use Rattle.sof_run.proofs.MetRuns.{all_records, met-length}
+use Rattle.run_play.proofs.PlayRuns.{play_goes, plays, before_begun}
+use Rattle.run_play.proofs.HeardRuns.{Began, Ended, play_heard, legs, over_is, met_is, view_is, all_legs}
+use Rattle.run_play.proofs.RecordedTurns.{Fronted, fronted_turns, none_recorded, as_many_outs}
+use Rattle.run_play.proofs.MetRuns.{all_records, met-length}
 use Rattle.sof_run.proofs.TraceFiles.{trace-apart, file-bytes, trace-bytes}
 use Rattle.sof_run.proofs.RecordEntries.{records-each, trace-written, told_heard}
 use Rattle.sof_run.proofs.OnePlay.{all_made}
-use Rattle.sof_run.proofs.Statuses.{IsLate, ends, none_turned, none_asked, three_rose}
+use Rattle.run_desk.proofs.Statuses.{IsLate, ends, none_turned, none_asked, three_rose}
 use Rattle.sof_run.proofs.Throughout.{play_all, check_all, compile_all, source_all, stress_all, decode_all, replay_all, words_last}
 
 not_late : (status : ℕ) → IsEarly status → IsLate status → ⊥

@@ -6,18 +6,17 @@ use Rattle.sof_desk.specs.Desk.{DeskMeaning, Put, Spoken, DeskCall, Load, Did, R
 use Rattle.tplg_model.specs.declared.block.Topology.{Topology}
 use Rattle.tplg_graph.specs.PlanOf.{plan_of}
 use Rattle.sof_script.specs.Commands.{Read}
-use Rattle.sof_session.specs.Lives.{Turn}
-use Rattle.sof_run.specs.declared.prepare.Halt.{Halt}
-use Rattle.sof_run.specs.Words.{Form}
-use Rattle.sof_run.specs.Todo.{Todo, Ask, Free, Says, DoneBy}
-use Rattle.sof_run.specs.Lines.{no_memory_line, halt_line, halt_status}
-use Rattle.sof_run.specs.Prepared.{prepared}
-use Rattle.sof_run.specs.Play.{prepared_todo, play}
-use Rattle.sof_run.specs.TopologyBytes.{AreBytes}
-use Rattle.sof_run.specs.ComeTo.{IsLong}
-use Rattle.sof_run.specs.Verdicts.{Fit, MakeRun, IsHalt, Verdict}
-use Rattle.sof_run.specs.ComeTo.{FilesComeTo}
-use Rattle.sof_run.proofs.Statuses.{IsLate}
+use Rattle.sof_script.specs.Tasks.{Turn}
+use Rattle.run_desk.specs.declared.preparing.Halt.{Halt}
+use Rattle.run_words.specs.Words.{Form}
+use Rattle.run_desk.specs.Todo.{Todo, Ask, Free, Says, DoneBy}
+use Rattle.run_desk.specs.Lines.{no_memory_line, halt_line, halt_status}
+use Rattle.run_desk.specs.Prepared.{prepared}
+use Rattle.run_play.specs.Play.{prepared_todo, play}
+use Rattle.run_desk.specs.TopologyBytes.{AreBytes}
+use Rattle.sof_run.specs.ComeTo.{IsLong, FilesComeTo}
+use Rattle.run_desk.specs.Verdicts.{Fit, MakeRun, IsHalt, Verdict}
+use Rattle.run_desk.proofs.Statuses.{IsLate}
 use Rattle.sof_run.proofs.Throughout.{ready_ends}
 use Rattle.sof_run.proofs.Findings.{run_of, as_prepared, prepared_same, files_found}
 

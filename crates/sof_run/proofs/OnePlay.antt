@@ -9,22 +9,23 @@ use Rattle.tplg_graph.specs.PlanOf.{plan_of}
 use Rattle.tplg_plan.specs.declared.plans.Plan.{Plan}
 use Rattle.ipc3_trace.specs.declared.entry.Entry.{Entry}
 use Rattle.sof_script.specs.declared.script.Command.{Command}
-use Rattle.sof_session.specs.Written.{Out, Ground, Leg, IsRun, first_at, basis_of}
-use Rattle.sof_session.specs.Lives.{Life, Turn, device_of}
+use Rattle.sof_script.specs.Tasks.{Out, Turn}
+use Rattle.sof_session.specs.Written.{Ground, Leg, IsRun, first_at, basis_of}
+use Rattle.sof_session.specs.Lives.{Life, device_of}
 use Rattle.sof_session.specs.Modes.{Mode, made_at_load, made_on_use, basis_in}
 use Rattle.sof_session.specs.RunLaws.{IsOneRun}
 use Rattle.sof_session.specs.SessionStep.{Calm}
 use Rattle.sof_session.proofs.OneRun.{one-run}
 use Rattle.sof_session.proofs.RankedRuns.{empty-ranks}
 use Rattle.sof_session.proofs.UpOneRun.{up-one-run}
-use Rattle.sof_run.specs.Bindings.{bound_files}
-use Rattle.sof_run.specs.Rounds.{Round, rounds_of}
-use Rattle.sof_run.specs.Pieces.{Piece, pieces_of, AreWritten, opened, bytes_of_pieces}
-use Rattle.sof_run.specs.Keeping.{trace_slots, recorded_outs}
-use Rattle.sof_run.specs.Plays.{AreMet, Plays, PlaysIn, Unbegun, ground_of}
+use Rattle.run_desk.specs.Bindings.{bound_files}
+use Rattle.run_play.specs.Rounds.{Round, rounds_of}
+use Rattle.run_play.specs.Pieces.{Piece, pieces_of, AreWritten, opened, bytes_of_pieces}
+use Rattle.run_play.specs.Keeping.{trace_slots, recorded_outs}
+use Rattle.run_play.specs.Plays.{AreMet, Plays, PlaysIn, Unbegun, ground_of}
 use Rattle.sof_run.specs.PlayLaws.{PlaysAreOne}
-use Rattle.sof_run.proofs.PlanWords.{sound_plan}
-use Rattle.sof_run.proofs.RecordedTurns.{as_many_outs}
+use Rattle.run_play.proofs.PlanWords.{sound_plan}
+use Rattle.run_play.proofs.RecordedTurns.{as_many_outs}
 
 -- the pieces of all units
 abbrev pub all_pieces : List Round → List Out → List Piece

@@ -9,17 +9,18 @@ use Rattle.ipc3_trace.specs.Records.{IsEntry, records_bytes}
 use Rattle.ipc3_trace.specs.WholeTraces.{IsTraceOf}
 use Rattle.ipc3_trace.proofs.WholeLaws.{written-stand}
 use Rattle.sof_script.specs.declared.script.Command.{Command}
-use Rattle.sof_session.specs.Lives.{Life, Bare, Seated, Task, Begin, Fill, Carry, Give, Turn, Turns}
-use Rattle.sof_run.specs.Words.{Form}
-use Rattle.sof_run.specs.Keeping.{LeftBy, TurnLeft, TurnsLeft}
-use Rattle.sof_run.specs.Lines.{no_memory_line}
-use Rattle.sof_run.specs.Todo.{Todo, End, Stop, Ask, Do, Step, Refill, Send, Free, Says, Over, DoneBy}
-use Rattle.sof_run.specs.Calls.{answer_in, heard_in}
-use Rattle.sof_run.specs.Prepared.{prepared}
-use Rattle.sof_run.specs.Play.{prepared_todo, play}
-use Rattle.sof_run.specs.Throughout.{Throughout}
-use Rattle.sof_run.proofs.LoadedBytes.{heard_behind}
-use Rattle.sof_run.proofs.MetRuns.{all_records}
+use Rattle.sof_session.specs.Lives.{Life, Bare, Seated, Turns}
+use Rattle.sof_script.specs.Tasks.{Task, Begin, Fill, Carry, Give, Turn}
+use Rattle.run_words.specs.Words.{Form}
+use Rattle.run_play.specs.Keeping.{LeftBy, TurnLeft, TurnsLeft}
+use Rattle.run_desk.specs.Lines.{no_memory_line}
+use Rattle.run_desk.specs.Todo.{Todo, End, Stop, Ask, Do, Step, Refill, Send, Free, Says, Over, DoneBy}
+use Rattle.run_desk.specs.DeskCalls.{answer_in, heard_in}
+use Rattle.run_desk.specs.Prepared.{prepared}
+use Rattle.run_play.specs.Play.{prepared_todo, play}
+use Rattle.run_desk.specs.Throughout.{Throughout}
+use Rattle.run_desk.proofs.LoadedBytes.{heard_behind}
+use Rattle.run_play.proofs.MetRuns.{all_records}
 use Rattle.sof_run.proofs.Throughout.{prepared_all}
 
 -- ---- a reader takes the records

@@ -1,10 +1,10 @@
 -- What `stress` did, put together from its session and its lines.
-use Rattle.std.proofs.Common.{◌≡◌, ◌⊎◌, inl, inr, ℕ, Bool, true, false, List, [], ◌∷◌, map, Option, Some, refl, sym, ◌∙◌, subst, if◌then◌else◌}
+use Rattle.std.proofs.Common.{◌≡◌, ◌⊎◌, inl, inr, ℕ, Bool, List, [], ◌∷◌, map, Option, Some, refl, sym, ◌∙◌, subst, if◌then◌else◌}
 use Rattle.sof_desk.specs.Desk.{DeskMeaning, DeskCall}
 use Rattle.mbox_link.specs.Calls.{Meaning}
 use Rattle.tplg_plan.specs.Sound.{IsSound}
-use Rattle.sof_session.specs.Written.{Out}
-use Rattle.sof_session.specs.Lives.{Life, Bare, Turn, Turned, Turns, Carry}
+use Rattle.sof_script.specs.Tasks.{Out, Turn, Carry}
+use Rattle.sof_session.specs.Lives.{Life, Bare, Turned, Turns}
 use Rattle.sof_stress.specs.declared.counts.Counts.{Counts}
 use Rattle.sof_stress.specs.Draws.{stream_count}
 use Rattle.sof_stress.specs.StressPorts.{dai_slot}
@@ -13,19 +13,21 @@ use Rattle.sof_stress.specs.CarriedTurns.{tasks_of}
 use Rattle.sof_stress.specs.GraphParts.{stress_plan}
 use Rattle.sof_stress.specs.StressRun.{sent_in, stress_begins, stress_turns}
 use Rattle.sof_stress.specs.DeviceStress.{Stresses}
-use Rattle.sof_run.specs.Words.{Form, trace_named}
-use Rattle.sof_run.specs.Keeping.{KeptRecords}
-use Rattle.sof_run.specs.KeptTurns.{GaveKept}
-use Rattle.sof_run.specs.Lines.{no_memory_line}
-use Rattle.sof_run.specs.Todo.{Todo, End, Stop, Step, DoneBy, RanOn, Played, DeskPhase}
-use Rattle.sof_run.specs.Play.{lines_todo, play}
+use Rattle.run_words.specs.Words.{Form, trace_named}
+use Rattle.run_play.specs.Keeping.{KeptRecords}
+use Rattle.run_play.specs.KeptTurns.{GaveKept}
+use Rattle.run_desk.specs.Lines.{no_memory_line}
+use Rattle.run_desk.specs.Todo.{Todo, End, Stop, Step, DoneBy, RanOn, Played, DeskPhase}
+use Rattle.run_desk.specs.LinesTodo.{lines_todo}
+use Rattle.run_play.specs.Play.{play}
 use Rattle.sof_run.specs.Stressing.{stress_lines}
 use Rattle.sof_run.specs.StressTodo.{counted_todo, told_todo}
-use Rattle.sof_run.specs.ReplayTodo.{replay}
-use Rattle.sof_run.specs.Requests.{Request, Play, Stress, Replay, request_of}
+use Rattle.run_replay.specs.ReplayTodo.{replay}
+use Rattle.run_words.specs.Requests.{Request, Play, Stress, Replay, request_of}
 use Rattle.sof_run.specs.Forms.{todo_for, todo_of, GaveSent, StressGave}
-use Rattle.sof_run.proofs.Steps.{free_off}
-use Rattle.sof_run.proofs.Requests.{stress_asked, replay_meant, play_meant, none_kept, kept_of}
+use Rattle.run_desk.proofs.Steps.{free_off}
+use Rattle.run_words.proofs.Requests.{stress_asked, replay_meant, play_meant, none_kept, kept_of}
+use Rattle.run_desk.proofs.LinePhases.{lines_played}
 
 -- turns of these tasks are made and counted, and then comes what is next
 counted_on : (slot : ℕ) (todo : List CommandTurn) (counts : Counts) (next : Counts → Todo) (turns : List Turn) (calls : List DeskCall) (status : ℕ) → map (λ (turn : Turn). turn.task) turns ≡ tasks_of todo →
@@ -39,11 +41,6 @@ counted_on slot (t ∷ todo) counts next (turn ∷ turns) calls status same goes
     (first, counted_on slot todo (turn_counted slot t turn.out counts) next turns calls status rest goes)
 
 module _ {D P : Type 0} (means : DeskMeaning D) (dsp : Meaning P) where
-  -- the lines, said or cut off
-  pub lines_played : (lines : List (List ℕ)) (done : Bool) (old new : D) → DeskPhase means (lines_todo lines) done old new → Played means (lines_todo lines End) old [] (if done then 0 else 3) new
-  lines_played lines true old new phase = phase End [] 0 new (record { calls = []; led = refl; goes = (refl, refl, refl) })
-  lines_played lines false old new phase = phase End
-
   -- the session, and then the lines
   pub stressed : (seed : ℕ) (old new : D) (p q : P) (counts : Counts) (done : Bool) → Stresses dsp seed p counts q → DeskPhase means (lines_todo (stress_lines counts)) done old new → StressGave means dsp seed old p (if done then 0 else 3) new q
   stressed seed old new p q counts done s phase =
@@ -52,7 +49,7 @@ module _ {D P : Type 0} (means : DeskMeaning D) (dsp : Meaning P) where
       let slot = dai_slot (stream_count seed) in
       let outs : List Out = map (λ (turn : Turn). turn.out) s.turns in
       let said : Played means (told_todo sent (all_counted slot (stress_turns seed) outs no_counts)) old [] status new =
-      subst (λ c. Played means (lines_todo (stress_lines c) End) old [] status new) s.numbers (lines_played (stress_lines counts) done old new phase) in
+      subst (λ c. Played means (lines_todo (stress_lines c) End) old [] status new) s.numbers (lines_played means (stress_lines counts) done old new phase) in
       record {
         sent = sent;
         gave = record {

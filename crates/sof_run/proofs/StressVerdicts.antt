@@ -1,15 +1,16 @@
 -- What `stress` ensures, from what it did.
-use Rattle.std.proofs.Common.{◌≡◌, ◌⊎◌, inl, inr, ℕ, ◌≤◌, true, false, List, [], ◌∷◌, ◌++◌, map, Option, Some, None, sym, ◌∙◌, ap, subst}
+use Rattle.std.proofs.Common.{◌≡◌, ◌⊎◌, inl, inr, ℕ, ◌≤◌, List, [], ◌∷◌, ◌++◌, map, Option, Some, None, sym, ◌∙◌, ap, subst}
 use Rattle.std.specs.List.{concat}
 use Rattle.std.proofs.lemmas.List.{append-nil}
-use Rattle.sof_desk.specs.Desk.{DeskMeaning, Spoken, Slot, DeskCall, Load, Did, Read, DeskLed}
+use Rattle.sof_desk.specs.Desk.{DeskMeaning, Spoken, Slot, DeskCall, DeskLed}
 use Rattle.mbox_link.specs.Calls.{Meaning}
 use Rattle.tplg_plan.specs.Sound.{IsSound}
 use Rattle.stream_law.specs.Past.{Moment}
 use Rattle.host_widgets.specs.declared.kept.Record.{Record}
 use Rattle.sof_session.specs.Commands.{Known}
-use Rattle.sof_session.specs.Written.{Out, Ground, At, first_at, end_of, moments_of, basis_of}
-use Rattle.sof_session.specs.Lives.{Life, Bare, Seated, Turn, Turns}
+use Rattle.sof_script.specs.Tasks.{Out, Turn}
+use Rattle.sof_session.specs.Written.{Ground, At, first_at, end_of, moments_of, basis_of}
+use Rattle.sof_session.specs.Lives.{Life, Bare, Seated, Turns}
 use Rattle.sof_session.specs.Modes.{made_at_load}
 use Rattle.sof_session.specs.RunOver.{EndsAt}
 use Rattle.sof_stress.specs.declared.counts.Counts.{Counts}
@@ -20,22 +21,23 @@ use Rattle.sof_stress.specs.CarriedTurns.{tasks_of}
 use Rattle.sof_stress.specs.GraphParts.{stress_plan}
 use Rattle.sof_stress.specs.StressRun.{sent_in, stress_begins, stress_counts, stress_ground, stress_turns}
 use Rattle.sof_stress.proofs.StressOver.{stress-over}
-use Rattle.sof_run.specs.Lines.{no_memory_line, with_newline}
-use Rattle.sof_run.specs.Todo.{Todo, End, Says, DoneBy}
-use Rattle.sof_run.specs.Play.{lines_todo}
-use Rattle.sof_run.specs.Plays.{Unbegun}
-use Rattle.sof_run.specs.Checks.{IsFront}
-use Rattle.sof_run.specs.Stressing.{stress_of, stress_lines}
+use Rattle.run_desk.specs.Lines.{no_memory_line, with_newline}
+use Rattle.run_desk.specs.Todo.{Todo, Says, DoneBy}
+use Rattle.run_play.specs.Plays.{Unbegun}
+use Rattle.run_desk.specs.SaidText.{IsFront}
+use Rattle.run_words.specs.ToolForms.{stress_of}
+use Rattle.sof_run.specs.Stressing.{stress_lines}
 use Rattle.sof_run.specs.StressTodo.{counted_todo, told_todo, stress}
 use Rattle.sof_run.specs.Stresses.{stress_text, StressRan, StressesWhole}
 use Rattle.ipc3_trace.specs.declared.entry.Entry.{Entry}
-use Rattle.sof_run.specs.Keeping.{recorded_turns, KeptRecords}
-use Rattle.sof_run.specs.Requests.{Stress}
+use Rattle.run_play.specs.Keeping.{recorded_turns, KeptRecords}
+use Rattle.run_words.specs.Requests.{Stress}
 use Rattle.sof_run.specs.Forms.{todo_for, todo_of, GaveSent}
-use Rattle.sof_run.proofs.Requests.{stress_most, stress_asked, none_kept}
-use Rattle.sof_run.proofs.Steps.{no_turns}
-use Rattle.sof_run.proofs.SaidLines.{line_parted}
-use Rattle.sof_run.proofs.CheckVerdicts.{lines_parted}
+use Rattle.run_words.proofs.Requests.{stress_most, stress_asked, none_kept}
+use Rattle.run_desk.proofs.Steps.{no_turns}
+use Rattle.run_desk.proofs.SaidLines.{line_parted}
+use Rattle.run_tools.proofs.CheckVerdicts.{lines_parted}
+use Rattle.run_desk.proofs.LinePhases.{lines_turnless}
 
 -- ---- the words
 
@@ -43,15 +45,6 @@ stress_alone : (room sent : ℕ) (words : List (List ℕ)) (seed : ℕ) → stre
 stress_alone room sent words seed is = ap (todo_for room sent) (stress_asked room words seed is)
 
 -- ---- the turns
-
--- no turn comes with lines
-pub lines_turnless : (lines : List (List ℕ)) (turns : List Turn) (calls : List DeskCall) (status : ℕ) → DoneBy (lines_todo lines End) turns calls status → turns ≡ []
-lines_turnless [] turns calls status goes = goes.0
-lines_turnless (line ∷ lines) turns [] status goes = absurd goes
-lines_turnless (line ∷ lines) turns (Load name limit heard ∷ calls) status goes = absurd goes
-lines_turnless (line ∷ lines) turns (Read n size got ∷ calls) status goes = absurd goes
-lines_turnless (line ∷ lines) turns (Did act true ∷ calls) status goes = lines_turnless lines turns calls status goes.1
-lines_turnless (line ∷ lines) turns (Did act false ∷ calls) status goes = goes.1.0
 
 -- turns were made and counted, and then what is next was done
 counted_off : (slot : ℕ) (todo : List CommandTurn) (counts : Counts) (next : Counts → Todo) (turns : List Turn) (calls : List DeskCall) (status : ℕ) →

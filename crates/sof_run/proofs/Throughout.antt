@@ -12,26 +12,27 @@ use Rattle.tplg_compile.specs.declared.source_fault.SourceFault.TheVariants as s
 use Rattle.tplg_compile.specs.InOrder.{compiled_of}
 use Rattle.sof_script.specs.Commands.{Bound, Read}
 use Rattle.sof_script.specs.declared.script.Numbered.{Numbered}
-use Rattle.sof_session.specs.Written.{Written}
-use Rattle.sof_session.specs.Lives.{Turn}
-use Rattle.sof_run.specs.declared.prepare.Halt.{Halt}
-use Rattle.sof_run.specs.declared.prepare.Halt.TheVariants as halt
-use Rattle.sof_run.specs.Words.{Form}
-use Rattle.sof_run.specs.Bindings.{bound_inputs, bound_slots}
-use Rattle.sof_run.specs.Keeping.{trace_acts}
-use Rattle.sof_run.specs.Rounds.{Round, rounds_of}
-use Rattle.sof_run.specs.Todo.{Todo, End, DoneBy}
-use Rattle.sof_run.specs.Lines.{lines_after, halt_status}
-use Rattle.sof_run.specs.Prepared.{Prepared, Ready, Halted, prepared, checked_rules, checked_file, checked}
-use Rattle.sof_run.specs.Play.{prepared_todo, ready_todo, flush_todo, lines_todo, rounds_todo, session_todo, bindings_todo, acts_todo, traced_todo, play}
-use Rattle.sof_run.specs.Checking.{count_lines}
-use Rattle.sof_run.specs.Picturing.{picture_lines}
-use Rattle.sof_run.specs.CheckTodo.{said_todo, checked_todo, check}
-use Rattle.sof_run.specs.Compiling.{CompileNames, source_status}
-use Rattle.sof_run.specs.CompileTodo.{compiled_todo, compile}
-use Rattle.sof_run.specs.Sourcing.{SourceFiles}
+use Rattle.sof_script.specs.Tasks.{Written, Turn}
+use Rattle.run_desk.specs.declared.preparing.Halt.{Halt}
+use Rattle.run_desk.specs.declared.preparing.Halt.TheVariants as halt
+use Rattle.run_words.specs.Words.{Form}
+use Rattle.run_desk.specs.Bindings.{bound_inputs, bound_slots}
+use Rattle.run_play.specs.Keeping.{trace_acts}
+use Rattle.run_play.specs.Rounds.{Round, rounds_of}
+use Rattle.run_desk.specs.Todo.{Todo, End, DoneBy}
+use Rattle.run_play.specs.Pieces.{lines_after}
+use Rattle.run_desk.specs.Lines.{halt_status}
+use Rattle.run_desk.specs.Prepared.{Prepared, Ready, Halted, prepared, checked_rules, checked_file, checked}
+use Rattle.run_play.specs.Play.{prepared_todo, ready_todo, flush_todo, rounds_todo, session_todo, bindings_todo, acts_todo, traced_todo, play}
+use Rattle.run_desk.specs.LinesTodo.{lines_todo}
+use Rattle.run_tools.specs.Checking.{count_lines}
+use Rattle.run_tools.specs.Picturing.{picture_lines}
+use Rattle.run_tools.specs.CheckTodo.{said_todo, checked_todo, check}
+use Rattle.run_words.specs.ToolForms.{CompileNames, SourceFiles}
+use Rattle.run_tools.specs.Compiling.{source_status}
+use Rattle.run_tools.specs.CompileTodo.{compiled_todo, compile}
 use Rattle.tplg_source.specs.Outcome.{source_for}
-use Rattle.sof_run.specs.SourceTodo.{kept_todo, sourced_todo, make_source}
+use Rattle.run_tools.specs.SourceTodo.{kept_todo, sourced_todo, make_source}
 use Rattle.sof_stress.specs.declared.counts.Counts.{Counts}
 use Rattle.sof_stress.specs.Draws.{stream_count}
 use Rattle.sof_stress.specs.StressPorts.{dai_slot}
@@ -44,14 +45,14 @@ use Rattle.ipc3_trace.specs.declared.entry.Entry.TheVariants as entries
 use Rattle.ipc3_trace.specs.declared.fault.TraceFault.{TraceFault}
 use Rattle.ipc3_trace.specs.EntryLines.{entry_line}
 use Rattle.ipc3_trace.specs.Reading.{trace_in}
-use Rattle.sof_run.specs.DecodeTodo.{fault_todo, decoded_todo, decode}
-use Rattle.sof_run.specs.declared.replay_fault.ReplayFault.{ReplayFault}
-use Rattle.sof_run.specs.Replaying.{next_place, record_fault, end_fault, on_after, tally_of, replay_lines}
-use Rattle.sof_run.specs.ReplayTodo.{without_fault, replied_todo, give_todo, given_todo, replayed_todo, replay}
-use Rattle.sof_run.specs.Requests.{Request, Play, Check, Picture, Compile, Source, Stress, Decode, Replay}
+use Rattle.run_tools.specs.DecodeTodo.{fault_todo, decoded_todo, decode}
+use Rattle.run_replay.specs.declared.replay_fault.ReplayFault.{ReplayFault}
+use Rattle.run_replay.specs.Replaying.{next_place, record_fault, end_fault, on_after, tally_of, replay_lines}
+use Rattle.run_replay.specs.ReplayTodo.{without_fault, replied_todo, give_todo, given_todo, replayed_todo, replay}
+use Rattle.run_words.specs.Requests.{Request, Play, Check, Picture, Compile, Source, Stress, Decode, Replay}
 use Rattle.sof_run.specs.Forms.{todo_for}
-use Rattle.sof_run.specs.Throughout.{Throughout}
-use Rattle.sof_run.proofs.Statuses.{IsLate, OpensNone, TurnsLast, ends}
+use Rattle.run_desk.specs.Throughout.{Throughout}
+use Rattle.run_desk.proofs.Statuses.{IsLate, OpensNone, TurnsLast, ends}
 
 module _ (P : ℕ → Type 0) (A : List ℕ → Type 0) where
   flush_all : (written : List Written) (rest : Todo) → Throughout P A rest → Throughout P A (flush_todo written rest)

@@ -24,18 +24,19 @@ use Rattle.ipc3_trace.specs.Records.{record_bytes, records_bytes}
 use Rattle.sof_script.specs.declared.script.Command.{Command}
 use Rattle.sof_script.specs.Commands.{Bound}
 use Rattle.host_widgets.specs.declared.kept.Record.{Record}
-use Rattle.sof_session.specs.Written.{Written, Out, Ground, At, Leg, IsRun, basis_of, with_bytes, bytes_between, written_between}
-use Rattle.sof_run.specs.TopologyBytes.{IsFile}
-use Rattle.sof_run.specs.Bindings.{bound_outputs, bound_slots, wrong_behind, wrong_binding}
-use Rattle.sof_run.specs.LineParts.{has_widget_name, has_endpoint, slot_of, slot_pieces, line_pieces}
-use Rattle.sof_run.specs.Rounds.{Round}
-use Rattle.sof_run.specs.Lines.{lines_after}
-use Rattle.sof_run.specs.Pieces.{pieces_of, bytes_of_pieces}
-use Rattle.sof_run.specs.Keeping.{trace_slot, fronted, recorded_outs}
-use Rattle.sof_run.proofs.MetRuns.{all_records}
+use Rattle.sof_script.specs.Tasks.{Written, Out}
+use Rattle.sof_session.specs.Written.{Ground, At, Leg, IsRun, basis_of, with_bytes, bytes_between, written_between}
+use Rattle.run_desk.specs.TopologyBytes.{IsFile}
+use Rattle.run_desk.specs.Bindings.{bound_outputs, bound_slots, wrong_behind, wrong_binding}
+use Rattle.run_desk.specs.BindingParts.{has_widget_name, has_endpoint, slot_of}
+use Rattle.run_play.specs.LineParts.{slot_pieces, line_pieces}
+use Rattle.run_play.specs.Rounds.{Round}
+use Rattle.run_play.specs.Pieces.{lines_after, pieces_of, bytes_of_pieces}
+use Rattle.run_play.specs.Keeping.{trace_slot, fronted, recorded_outs}
+use Rattle.run_play.proofs.MetRuns.{all_records}
 use Rattle.sof_run.proofs.OnePlay.{all_pieces}
-use Rattle.sof_run.proofs.Slots.{named_slot, right_first}
-use Rattle.sof_run.proofs.WrittenPieces.{bytes-append}
+use Rattle.run_play.proofs.Slots.{named_slot, right_first}
+use Rattle.run_play.proofs.WrittenPieces.{bytes-append}
 
 -- ---- no output has the slot
 

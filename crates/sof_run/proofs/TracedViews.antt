@@ -10,11 +10,10 @@ use Rattle.ipc3_trace.specs.WholeTraces.{IsTraceOf}
 use Rattle.ipc3_trace.proofs.WholeLaws.{one-trace}
 use Rattle.sof_session.specs.Lives.{Life, device_of}
 use Rattle.sof_session.specs.SessionStep.{Calm}
-use Rattle.sof_run.specs.Calls.{heard_in}
-use Rattle.sof_run.specs.Checks.{saying}
-use Rattle.sof_run.specs.Plays.{ToPlay}
-use Rattle.sof_run.specs.Traces.{met_in, TraceHolds}
-use Rattle.sof_run.specs.Replays.{replayed_lines, ReplayVerdict}
+use Rattle.run_desk.specs.DeskCalls.{heard_in, saying}
+use Rattle.run_play.specs.Plays.{ToPlay}
+use Rattle.run_play.specs.Traces.{met_in, TraceHolds}
+use Rattle.run_replay.specs.Replays.{replayed_lines, ReplayVerdict}
 use Rattle.sof_run.specs.PlayLaws.{ReplaysAlike}
 
 -- ---- a trace and its replay

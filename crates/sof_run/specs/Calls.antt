@@ -2,7 +2,7 @@
 -- turns that were made.
 use Rattle.std.specs.Prelude.{◌≡◌, ◌⊎◌, ℕ, Bool, true, false, List, [], ◌∷◌, ◌++◌, map, Option, Some, None, Result, Ok, Err, codes, if◌then◌else◌}
 use Rattle.sof_desk.specs.declared.calls.LoadFault.TheVariants.{Failed, TooLong, OutOfMemory}
-use Rattle.sof_desk.specs.Desk.{Create, Put, Slot, Spoken, Heard, DeskCall, Load, Did, Read}
+use Rattle.sof_desk.specs.Desk.{Create, Put, Slot, Spoken, Heard, DeskCall, Load, Did}
 use Rattle.tplg_model.specs.declared.block.Topology.{Topology}
 use Rattle.tplg_model.specs.File.{spelling}
 use Rattle.tplg_plan.specs.declared.plans.Plan.{Plan}
@@ -13,30 +13,31 @@ use Rattle.ipc3_trace.specs.declared.fault.TraceFault.{TraceFault}
 use Rattle.tplg_graph.specs.PlanOf.{plan_of}
 use Rattle.tplg_source.specs.Outcome.{source_for}
 use Rattle.sof_script.specs.Commands.{Bound, Read as ReadScript}
-use Rattle.sof_session.specs.Written.{Out}
+use Rattle.sof_script.specs.Tasks.{Out, Task, Begin, Carry, Fill, Give, Turn}
 use Rattle.mbox_link.specs.Calls as device
-use Rattle.sof_session.specs.Lives.{Task, Begin, Carry, Fill, Give, Turn}
-use Rattle.sof_run.specs.declared.prepare.Halt.{Halt}
-use Rattle.sof_run.specs.declared.replay_fault.ReplayFault.{ReplayFault}
-use Rattle.sof_run.specs.Words.{Form}
-use Rattle.sof_run.specs.Keeping.{trace_acts}
-use Rattle.sof_run.specs.Bindings.{binding_act, bound_inputs, bound_slots}
-use Rattle.sof_run.specs.Rounds.{Round, rounds_of}
-use Rattle.sof_run.specs.Lines.{no_memory_line, halt_line, halt_status, with_newline}
-use Rattle.sof_run.specs.Pieces.{Piece, pieces_of}
-use Rattle.sof_run.specs.Checking.{count_lines}
-use Rattle.sof_run.specs.Picturing.{picture_lines}
+use Rattle.run_desk.specs.declared.preparing.Halt.{Halt}
+use Rattle.run_replay.specs.declared.replay_fault.ReplayFault.{ReplayFault}
+use Rattle.run_words.specs.Words.{Form}
+use Rattle.run_play.specs.Keeping.{trace_acts}
+use Rattle.run_desk.specs.Bindings.{binding_act, bound_inputs, bound_slots}
+use Rattle.run_play.specs.Rounds.{Round, rounds_of}
+use Rattle.run_desk.specs.Lines.{no_memory_line, halt_line, halt_status, with_newline}
+use Rattle.run_play.specs.Pieces.{Piece, pieces_of}
+use Rattle.run_tools.specs.Checking.{count_lines}
+use Rattle.run_tools.specs.Picturing.{picture_lines}
 use Rattle.sof_stress.specs.declared.counts.Counts.{Counts}
 use Rattle.sof_stress.specs.Draws.{stream_count}
 use Rattle.sof_stress.specs.StressPorts.{dai_slot}
 use Rattle.sof_stress.specs.CommandTurns.{CommandTurn, turn_counted, no_counts}
 use Rattle.sof_stress.specs.StressRun.{stress_begins, stress_turns}
-use Rattle.sof_run.specs.Compiling.{source_line, source_status, wrote_line}
-use Rattle.sof_run.specs.Sourcing.{no_source_line}
+use Rattle.run_tools.specs.Compiling.{source_line, source_status, wrote_line}
+use Rattle.run_tools.specs.Sourcing.{no_source_line}
 use Rattle.sof_run.specs.Stressing.{stress_lines}
-use Rattle.sof_run.specs.TraceLines.{trace_lines, trace_status, replay_fault_line}
-use Rattle.sof_run.specs.Replaying.{next_place, record_fault, end_fault, on_after, tally_of, replay_lines, device_line}
-use Rattle.sof_run.specs.Requests.{Request, Play, Check, Picture, Compile, Source, Stress, Decode, Replay}
+use Rattle.run_tools.specs.TraceLines.{trace_lines, trace_status}
+use Rattle.run_replay.specs.ReplayLines.{replay_fault_line}
+use Rattle.run_replay.specs.Replaying.{next_place, record_fault, end_fault, on_after, tally_of, replay_lines, device_line}
+use Rattle.run_words.specs.Requests.{Request, Play, Check, Picture, Compile, Source, Stress, Decode, Replay}
+use Rattle.run_desk.specs.DeskCalls.{reading, answer_in}
 
 -- ---- what the loaded bytes come to
 
@@ -82,17 +83,6 @@ load_course name limit line _ next = record { items = Calls (Load name limit (Er
 abbrev pub turning : Task → List Turn → (Out → List Turn → Course) → Course
 turning task [] next = record { items = Turns task ∷ []; status = 0 }
 turning task (turn ∷ turns) next = before_course (Turns task ∷ []) (next turn.out turns)
-
--- the calls of these reads, and the one that failed, if any did
-abbrev pub reading : List (ℕ × List ℕ) → Option ℕ → List DeskCall
-reading [] None = []
-reading [] (Some slot) = Read slot 65536 None ∷ []
-reading ((slot, bytes) ∷ reads) failed = Read slot 65536 (Some bytes) ∷ reading reads failed
-
--- what a message was answered, where a turn gave one
-abbrev pub answer_in : Task → Option (List ℕ)
-answer_in (Give (device.Exchange request answer)) = answer
-answer_in task = None
 
 -- a message is given, and what comes next by its reply and by the turns behind it
 abbrev pub sending : List ℕ → List Turn → (Option (List ℕ) → List Turn → Course) → Course
@@ -237,12 +227,6 @@ course room sent (Some (Replay name)) found heard turns =
 course room sent None found heard turns = last_line (codes "words\n") 1
 
 -- ---- what was made of it
-
--- what the loads among calls answered
-abbrev pub heard_in : List DeskCall → List Heard
-heard_in [] = []
-heard_in (Load name limit heard ∷ calls) = heard ∷ heard_in calls
-heard_in (_ ∷ calls) = heard_in calls
 
 -- memory is wanting: the line is said, and no more is done
 abbrev pub Wants : List Turn → List DeskCall → ℕ → Type 0

@@ -5,19 +5,14 @@ use Rattle.tplg_compile.specs.declared.source_fault.SourceFault.{SourceFault}
 use Rattle.tplg_compile.specs.Compiled.{IsCompiled, IsCompileFault}
 use Rattle.sof_desk.specs.Desk.{DeskCall}
 use Rattle.sof_script.specs.Commands.{Read}
-use Rattle.sof_session.specs.Lives.{Turn}
-use Rattle.sof_run.specs.declared.prepare.Halt.{Halt}
-use Rattle.sof_run.specs.Verdicts.{MakeRun, IsHalt}
+use Rattle.sof_script.specs.Tasks.{Turn}
+use Rattle.run_desk.specs.declared.preparing.Halt.{Halt}
+use Rattle.run_desk.specs.Verdicts.{MakeRun, IsHalt}
 use Rattle.sof_run.specs.Calls.{Course, Made}
-use Rattle.sof_run.specs.Checks.{IsRight, IsWrong}
 
 -- what a topology and a script come to
 abbrev pub FilesComeTo : List ℕ → List ℕ → Result (Topology × Read) Halt → Type 0
 FilesComeTo topology script r = MatchResult r (λ run. MakeRun topology script run.0 run.1) (IsHalt topology script)
-
--- what a topology alone comes to
-abbrev pub TopologyComesTo : List ℕ → Result Topology Halt → Type 0
-TopologyComesTo bytes r = MatchResult r (IsRight bytes) (IsWrong bytes)
 
 -- what a source comes to
 abbrev pub SourceComesTo : List ℕ → Result Topology SourceFault → Type 0

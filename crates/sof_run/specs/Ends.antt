@@ -1,21 +1,10 @@
 -- How a run ends, whatever its words.
 use Rattle.std.specs.Prelude.{◌≡◌, ◌⊎◌, ℕ, List, None}
-use Rattle.sof_desk.specs.Desk.{Put, DeskCall, Did, Read}
-use Rattle.sof_run.specs.Words.{play_of}
-use Rattle.sof_run.specs.Checking.{check_of}
-use Rattle.sof_run.specs.Picturing.{graph_file_of}
-use Rattle.sof_run.specs.Compiling.{compile_of}
-use Rattle.sof_run.specs.Sourcing.{source_files_of}
-use Rattle.sof_run.specs.Stressing.{stress_of}
-use Rattle.sof_run.specs.TraceForms.{decode_of, replay_of}
+use Rattle.run_words.specs.Words.{play_of}
+use Rattle.run_words.specs.ToolForms.{check_of, graph_file_of, compile_of, source_files_of, stress_of}
+use Rattle.run_words.specs.TraceForms.{decode_of, replay_of}
 
--- ---- the calls
-
--- a call is a load, or creates or opens a file
-abbrev pub IsOpening : DeskCall → Type 0
-IsOpening (Did (Put place piece) done) = ⊥
-IsOpening (Read slot size got) = ⊥
-IsOpening _ = Unit {0}
+-- ---- the status
 
 -- a status that comes before any command: not 0, and not that of a desk or a device that failed
 abbrev pub IsEarly : ℕ → Type 0

@@ -3,11 +3,12 @@ use Rattle.std.specs.Prelude.{◌≡◌, ℕ, List, [], ◌∷◌, Ok, MatchResu
 use Rattle.sof_desk.specs.Desk.{Heard, DeskCall}
 use Rattle.tplg_compile.specs.Compiled.{IsCompiled, IsCompileFault}
 use Rattle.ipc3_trace.specs.WholeTraces.{IsTraceOf}
-use Rattle.sof_session.specs.Lives.{Turn}
-use Rattle.sof_run.specs.Verdicts.{MakeRun, IsHalt}
-use Rattle.sof_run.specs.Checks.{IsRight, IsWrong}
-use Rattle.sof_run.specs.Requests.{request_of}
-use Rattle.sof_run.specs.Calls.{Findings, course, heard_in, Made}
+use Rattle.sof_script.specs.Tasks.{Turn}
+use Rattle.run_desk.specs.Verdicts.{MakeRun, IsHalt}
+use Rattle.run_tools.specs.Checks.{IsRight, IsWrong}
+use Rattle.run_words.specs.Requests.{request_of}
+use Rattle.sof_run.specs.Calls.{Findings, course, Made}
+use Rattle.run_desk.specs.DeskCalls.{heard_in}
 
 -- Each of the four determines its value: a script is read in one way; bytes are the file of one topology at most, or have one first
 -- fault; a topology keeps all rules, or breaks one first, with one least item; a text is the source of one topology at most, or has one

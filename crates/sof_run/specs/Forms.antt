@@ -4,24 +4,26 @@ use Rattle.sof_desk.specs.Desk.{DeskMeaning}
 use Rattle.mbox_link.specs.Calls.{Meaning}
 use Rattle.tplg_plan.specs.Sound.{IsSound}
 use Rattle.ipc3_trace.specs.declared.entry.Entry.{Entry}
-use Rattle.sof_session.specs.Lives.{Life, Bare, Turn, Turns, device_of, Exit}
+use Rattle.sof_session.specs.Lives.{Life, Bare, Turns, device_of, Exit}
+use Rattle.sof_script.specs.Tasks.{Turn}
 use Rattle.sof_stress.specs.GraphParts.{stress_plan}
 use Rattle.sof_stress.specs.StressRun.{sent_in}
-use Rattle.sof_run.specs.Todo.{Todo, Stop, Gave, Played}
-use Rattle.sof_run.specs.Words.{trace_named}
-use Rattle.sof_run.specs.TraceForms.{replay_of}
-use Rattle.sof_run.specs.Keeping.{recorded_turns, KeptRecords}
-use Rattle.sof_run.specs.Play.{play}
-use Rattle.sof_run.specs.Checking.{count_lines}
-use Rattle.sof_run.specs.Picturing.{picture_lines}
-use Rattle.sof_run.specs.CheckTodo.{check}
-use Rattle.sof_run.specs.CompileTodo.{compile}
-use Rattle.sof_run.specs.SourceTodo.{make_source}
-use Rattle.sof_run.specs.Stressing.{stress_of}
+use Rattle.run_desk.specs.Todo.{Todo, Stop, Played}
+use Rattle.run_play.specs.HandedBack.{Gave}
+use Rattle.run_words.specs.Words.{trace_named}
+use Rattle.run_words.specs.TraceForms.{replay_of}
+use Rattle.run_play.specs.Keeping.{recorded_turns, KeptRecords}
+use Rattle.run_play.specs.Play.{play}
+use Rattle.run_tools.specs.Checking.{count_lines}
+use Rattle.run_tools.specs.Picturing.{picture_lines}
+use Rattle.run_tools.specs.CheckTodo.{check}
+use Rattle.run_tools.specs.CompileTodo.{compile}
+use Rattle.run_tools.specs.SourceTodo.{make_source}
+use Rattle.run_words.specs.ToolForms.{stress_of}
 use Rattle.sof_run.specs.StressTodo.{stress}
-use Rattle.sof_run.specs.DecodeTodo.{decode}
-use Rattle.sof_run.specs.ReplayTodo.{replay}
-use Rattle.sof_run.specs.Requests.{Request, Play, Check, Picture, Compile, Source, Stress, Decode, Replay, request_of}
+use Rattle.run_tools.specs.DecodeTodo.{decode}
+use Rattle.run_replay.specs.ReplayTodo.{replay}
+use Rattle.run_words.specs.Requests.{Request, Play, Check, Picture, Compile, Source, Stress, Decode, Replay, request_of}
 
 -- what is to do where this is asked for, or nothing is, over a device of this room; a stress has sent so many messages at its end
 abbrev pub todo_for : ℕ → ℕ → Option Request → Todo

@@ -4,9 +4,9 @@ use Rattle.sof_desk.specs.Desk.{DeskMeaning, DeskPlace, Slot}
 use Rattle.stream_law.specs.State.{view_of}
 use Rattle.mbox_link.specs.Calls.{Meaning}
 use Rattle.sof_session.specs.SessionStep.{Calm}
-use Rattle.sof_run.specs.Keeping.{trace_slot}
-use Rattle.sof_run.specs.TraceForms.{replay_of}
-use Rattle.sof_run.specs.Plays.{ToPlay, AreFilesTold}
+use Rattle.run_play.specs.Keeping.{trace_slot}
+use Rattle.run_words.specs.TraceForms.{replay_of}
+use Rattle.run_play.specs.Plays.{ToPlay, AreFilesTold}
 use Rattle.sof_run.specs.Run.{Whole}
 
 -- What `Whole` says of a play determines what is written: two plays of the same words over the same desk and device, which did

@@ -4,27 +4,30 @@ use Rattle.std.specs.List.{AllByRecursion}
 use Rattle.sof_desk.specs.Desk.{DeskMeaning, DeskCall, DeskLed, CountRose}
 use Rattle.mbox_link.specs.Calls.{Meaning}
 use Rattle.ipc3_trace.specs.declared.entry.Entry.{Entry}
-use Rattle.sof_session.specs.Lives.{Life, Bare, Turn, Turns, device_of, Exit}
+use Rattle.sof_session.specs.Lives.{Life, Bare, Turns, device_of, Exit}
+use Rattle.sof_script.specs.Tasks.{Turn}
 use Rattle.sof_stress.specs.StressRun.{sent_in}
-use Rattle.sof_run.specs.TopologyBytes.{BringsBytes}
-use Rattle.sof_run.specs.Words.{trace_named}
-use Rattle.sof_run.specs.Keeping.{recorded_turns, KeptRecords}
-use Rattle.sof_run.specs.TraceForms.{replay_of}
-use Rattle.sof_run.specs.Calls.{heard_in}
+use Rattle.run_desk.specs.TopologyBytes.{BringsBytes}
+use Rattle.run_words.specs.Words.{trace_named}
+use Rattle.run_play.specs.Keeping.{recorded_turns, KeptRecords}
+use Rattle.run_words.specs.TraceForms.{replay_of}
+use Rattle.run_desk.specs.DeskCalls.{heard_in}
 use Rattle.sof_run.specs.Findings.{FollowsCourse}
-use Rattle.sof_run.specs.Ends.{IsOpening, IsEarly, Worded}
-use Rattle.sof_run.specs.Verdicts.{Judged}
-use Rattle.sof_run.specs.Plays.{PlaysWhole}
-use Rattle.sof_run.specs.HeardRuns.{PlaysWhatIsHeard}
-use Rattle.sof_run.specs.Checking.{check_of, count_lines}
-use Rattle.sof_run.specs.Picturing.{graph_file_of, picture_lines}
-use Rattle.sof_run.specs.Checks.{Checks}
-use Rattle.sof_run.specs.Compiles.{Compiles}
-use Rattle.sof_run.specs.Sources.{Sources}
+use Rattle.run_desk.specs.OpeningCalls.{IsOpening}
+use Rattle.sof_run.specs.Ends.{IsEarly, Worded}
+use Rattle.sof_run.specs.PlayVerdict.{Judged}
+use Rattle.run_play.specs.Plays.{PlaysWhole}
+use Rattle.run_play.specs.HeardRuns.{PlaysWhatIsHeard}
+use Rattle.run_words.specs.ToolForms.{check_of, graph_file_of}
+use Rattle.run_tools.specs.Checking.{count_lines}
+use Rattle.run_tools.specs.Picturing.{picture_lines}
+use Rattle.run_tools.specs.Checks.{Checks}
+use Rattle.run_tools.specs.Compiles.{Compiles}
+use Rattle.run_tools.specs.Sources.{Sources}
 use Rattle.sof_run.specs.Stresses.{StressesWhole}
-use Rattle.sof_run.specs.Decodes.{Decodes}
-use Rattle.sof_run.specs.Traces.{TracesWhole}
-use Rattle.sof_run.specs.Replays.{Replays}
+use Rattle.run_tools.specs.Decodes.{Decodes}
+use Rattle.run_play.specs.Traces.{TracesWhole}
+use Rattle.run_replay.specs.Replays.{Replays}
 
 -- The turns on the device, each a session's step or a call, and the calls on the desk: those that the words ask for, in their order and
 -- no others. Where a trace is kept, the records of each command's calls on the device stand before all else that it writes. What a load

@@ -1,13 +1,13 @@
 -- What `stress` has to do, by the number of its words.
 use Rattle.std.specs.Prelude.{ℕ, List, [], ◌∷◌}
-use Rattle.sof_session.specs.Lives.{Carry}
+use Rattle.sof_script.specs.Tasks.{Carry}
 use Rattle.sof_stress.specs.declared.counts.Counts.{Counts}
 use Rattle.sof_stress.specs.Draws.{stream_count}
 use Rattle.sof_stress.specs.StressPorts.{dai_slot}
 use Rattle.sof_stress.specs.CommandTurns.{CommandTurn, turn_counted, no_counts}
 use Rattle.sof_stress.specs.StressRun.{stress_begins, stress_turns}
-use Rattle.sof_run.specs.Todo.{Todo, End, Step, Free}
-use Rattle.sof_run.specs.Play.{lines_todo}
+use Rattle.run_desk.specs.Todo.{Todo, End, Step, Free}
+use Rattle.run_desk.specs.LinesTodo.{lines_todo}
 use Rattle.sof_run.specs.Stressing.{stress_lines}
 
 -- each turn is made and counted, and what comes next has the counts

@@ -5,15 +5,17 @@ use Rattle.sof_desk.specs.Desk.{DeskMeaning}
 use Rattle.mbox_link.specs.Calls.{Meaning}
 use Rattle.host_widgets.specs.declared.kept.Record.{Record}
 use Rattle.sof_session.specs.Written.{Ground, Leg, first_at, end_of, basis_of}
-use Rattle.sof_session.specs.Lives.{Life, Turn}
+use Rattle.sof_session.specs.Lives.{Life}
+use Rattle.sof_script.specs.Tasks.{Turn}
 use Rattle.sof_session.specs.Modes.{made_at_load}
 use Rattle.sof_session.specs.RunOver.{RunOver}
 use Rattle.sof_stress.specs.CommandTurns.{CommandTurn}
 use Rattle.sof_stress.specs.StressRun.{stress_counts, stress_ground, stress_turns}
-use Rattle.sof_run.specs.Lines.{with_newline}
-use Rattle.sof_run.specs.Checks.{Spoke, IsFront}
-use Rattle.sof_run.specs.Plays.{Unbegun}
-use Rattle.sof_run.specs.Stressing.{stress_of, stress_lines}
+use Rattle.run_desk.specs.Lines.{with_newline}
+use Rattle.run_desk.specs.SaidText.{Spoke, IsFront}
+use Rattle.run_play.specs.Plays.{Unbegun}
+use Rattle.run_words.specs.ToolForms.{stress_of}
+use Rattle.sof_run.specs.Stressing.{stress_lines}
 
 -- what is said of a run: its five numbers
 abbrev pub stress_text : ℕ → Ground → List (Leg Record) → List ℕ

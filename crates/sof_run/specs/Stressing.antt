@@ -1,19 +1,7 @@
--- The words of `stress`, and the numbers that it says.
-use Rattle.std.specs.Prelude.{ℕ, List, [], ◌∷◌, Option, None, codes, if◌then◌else◌}
-use Rattle.std.specs.Result.{result_ok}
-use Rattle.std.specs.Str.{bytes_eq}
+-- The numbers that `stress` says.
+use Rattle.std.specs.Prelude.{ℕ, List, [], ◌∷◌, codes}
 use Rattle.sof_stress.specs.declared.counts.Counts.{Counts}
-use Rattle.sof_script.specs.ValueForms.{number_value}
-use Rattle.sof_run.specs.Checking.{count_line}
-
--- ---- the words
-
--- `stress N`, of a number from 1 to 1000
-abbrev pub stress_of : List (List ℕ) → Option ℕ
-stress_of (verb ∷ number ∷ []) = if bytes_eq verb (codes "stress") then result_ok (number_value 1 1000 number) else None
-stress_of _ = None
-
--- ---- what is said
+use Rattle.run_desk.specs.Lines.{count_line}
 
 -- the five numbers
 abbrev pub stress_lines : Counts → List (List ℕ)

@@ -1,28 +1,12 @@
-//! The top call: from the words of a command line to a whole run over a desk and a device. It loads the files, carries out
-//! the commands one by one, says the lines, and ends with a status.
+//! The top call: from the words of a command line to a whole run over a desk and a device. It finds what the words ask for, has that
+//! carried out, and ends with a status.
 #![tactic(auto)]
 
-mod bindings;
-mod carry;
-mod check;
-mod compile;
-mod decode;
-mod files;
-mod graph;
-mod keeping;
 mod laws;
-mod lines;
-mod opening;
-mod play;
-mod prepare;
-mod replay;
-mod replay_fault;
-mod source;
 mod stress;
-mod windows;
-mod words;
+mod top;
 
 pub use laws::{one_play, one_view};
-pub use play::{Ended, run};
-pub use replay::record_at_fault;
-pub use replay_fault::ReplayFault;
+pub use run_desk::Ended;
+pub use run_replay::{ReplayFault, record_at_fault};
+pub use top::run;

@@ -1,15 +1,12 @@
 // All of `stress`.
 ghost use Rattle.std.specs.Prelude.{◌≡◌, ◌≤◌, None, is_ok};
-ghost use Rattle.sof_run.specs.Todo.{DeskPhase};
-ghost use Rattle.sof_run.specs.Play.{lines_todo};
+ghost use Rattle.run_desk.specs.Todo.{DeskPhase};
+ghost use Rattle.run_desk.specs.LinesTodo.{lines_todo};
 ghost use Rattle.sof_run.specs.Forms.{StressGave};
 ghost use Rattle.sof_run.specs.Stressing.{stress_lines};
 
-use crate::check::say_count;
-use crate::files::{status_of, stop_for};
-use crate::play::Ended;
-use crate::prepare::Halt;
 use mbox_link::Dsp;
+use run_desk::{Ended, Halt, say_count, status_of, stop_for};
 use sof_desk::{Desk, DeskFailed};
 use sof_stress::{Counts, stress};
 use std::alloc::Global;

@@ -9,3 +9,5 @@ pub mod ScriptRead
 pub mod Faults
 pub mod Ticks
 pub mod Text
+pub mod KindWords
+pub mod Tasks

@@ -23,12 +23,13 @@ use Rattle.sof_script.specs.declared.script.Command.{Command}
 use Rattle.sof_session.specs.Commands.{Known, Came}
 use Rattle.sof_session.specs.Fills.{AreWhole, FilledBy, bytes_read, next_read, after_read, may_grow}
 use Rattle.sof_session.specs.NewInputs.{AreNew}
-use Rattle.sof_session.specs.Lives.{Life, Bare, Seated, Turn, Task, Begin, Fill, Carry, Carries, Turned, Turns, device_of, inputs_of, reads_by, reads_in, with_out, carried_outs}
+use Rattle.sof_session.specs.Lives.{Life, Bare, Seated, Carries, Turned, Turns, device_of, inputs_of, reads_by, reads_in, with_out, carried_outs}
+use Rattle.sof_script.specs.Tasks.{Turn, Task, Begin, Fill, Carry, Out}
 use Rattle.sof_session.specs.RunOver.{IsAt, EndsAt, TurnedBy, TurnsBy, RunOver}
 use Rattle.sof_session.specs.Modes.{Mode, basis_in}
 use Rattle.sof_session.specs.Seat.{Seat, seat_in}
 use Rattle.sof_session.specs.SessionStep.{Calm, known_of}
-use Rattle.sof_session.specs.Written.{Out, Ground, At, Leg, IsLeg, IsRun, first_at, end_of, moments_of, boots_in, raised}
+use Rattle.sof_session.specs.Written.{Ground, At, Leg, IsLeg, IsRun, first_at, end_of, moments_of, boots_in, raised}
 use Rattle.sof_session.proofs.FilledInputs.{is-read, IsNext, next-there, none-wanting, bound-slots, bound-grows}
 use Rattle.sof_session.proofs.InputMoves.{IsInRange, empty-in-range, leads-moves}
 use Rattle.sof_session.proofs.LinkFates.{Steady-none}

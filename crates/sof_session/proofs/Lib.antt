@@ -96,3 +96,4 @@ pub mod UpEdges
 pub mod UpRanks
 pub mod UpOneRun
 pub mod UpPlainRows
+pub mod SteadyLives

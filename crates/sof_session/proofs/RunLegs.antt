@@ -15,9 +15,10 @@ use Rattle.sof_script.specs.declared.script.Command.{Command}
 use Rattle.sof_session.specs.Modes.{Mode, CommandDoneIn, basis_in}
 use Rattle.sof_session.specs.Seat.{Seat, seat_in}
 use Rattle.sof_session.specs.Commands.{Known, Came, is_plan, next}
-use Rattle.sof_session.specs.Written.{Basis, Out, Ground, At, Leg, IsLeg, IsRun, came_at, first_at, end_of, moments_of, boots_in, raised, empty_outputs, written_in, written_between}
+use Rattle.sof_session.specs.Written.{Basis, Ground, At, Leg, IsLeg, IsRun, came_at, first_at, end_of, moments_of, boots_in, raised, empty_outputs, written_in, written_between}
+use Rattle.sof_script.specs.Tasks.{Out, Turn, Task, Begin, Carry}
 use Rattle.sof_session.specs.SessionStep.{Calm, StandsAt, CallsBy, known_of}
-use Rattle.sof_session.specs.Lives.{Life, Bare, Seated, Turn, Task, Begin, Carry, Carries, Turned, Turns, device_of, with_out, carried_outs}
+use Rattle.sof_session.specs.Lives.{Life, Bare, Seated, Carries, Turned, Turns, device_of, with_out, carried_outs}
 use Rattle.sof_session.specs.RunOver.{IsAt, EndsAt, TurnedBy, TurnsBy, RunOver}
 use Rattle.sof_session.proofs.LinkFates.{Steady-none}
 use Rattle.sof_session.proofs.RunBoots.{boots-append}

@@ -1,15 +1,15 @@
 -- A device before a session and in it, and the turns of a program over it.
-use Rattle.std.specs.Prelude.{◌≡◌, ℕ, Bool, List, [], ◌∷◌, Option}
+use Rattle.std.specs.Prelude.{◌≡◌, ℕ, List, [], ◌∷◌}
 use Rattle.std.specs.List.{flat_map}
 use Rattle.sof_base.specs.Ports.{InputView, OutputView}
-use Rattle.mbox_link.specs.Calls.{Meaning, Call, Did, world}
-use Rattle.tplg_plan.specs.declared.plans.Plan.{Plan}
+use Rattle.mbox_link.specs.Calls.{Meaning, Did, world}
 use Rattle.sof_script.specs.declared.script.Command.{Command}
 use Rattle.sof_session.specs.Agreement.{AreAgreed}
 use Rattle.sof_session.specs.Fills.{FilledBy, next_read, input_ends}
 use Rattle.sof_session.specs.Seat.{Seat, seat_in}
 use Rattle.sof_session.specs.Modes.{SteppedBy, shown_in}
-use Rattle.sof_session.specs.Written.{Out, empty_outputs, written_in}
+use Rattle.sof_script.specs.Tasks.{Out, Task, Begin, Fill, Carry, Give, Turn, AreTurns}
+use Rattle.sof_session.specs.Written.{empty_outputs, written_in}
 
 -- a device before a session, and in it with the inputs and the slots of the outputs
 pub data Life (P : Type 0) : Type 0 where
@@ -27,19 +27,6 @@ inputs_of (Bare dsp) = []
 inputs_of (Seated seat inputs slots) = inputs
 
 -- ---- turns
-
--- A session is begun, in one of its modes, its inputs are filled by reads, each a slot with the bytes that came, after which that slot would be read next
--- if any, or it carries out a command. Or a device outside a session is given a call.
-pub data Task : Type 0 where
-  Begin : (on_use : Bool) (plan : Plan) (heap : ℕ) (inputs : List InputView) (slots : List ℕ) → Task
-  Fill : (reads : List (ℕ × List ℕ)) (next : Option ℕ) → Task
-  Carry : (command : Command) → Task
-  Give : (call : Call) → Task
-
--- a task with what it answered
-pub record Turn : Type 0 where
-  pub task : Task
-  pub out : Out
 
 -- a session carries out a command: its step, from outputs to which nothing was written, over the same plan, heap and inputs
 pub record Carries {P : Type 0} (means : Meaning P) (command : Command) (out : Out) (old new : Seat P) (inputs inputs' : List InputView) (slots : List ℕ) : Type 0 where
@@ -62,15 +49,6 @@ Turned means (Carry command) out (Seated seat inputs slots) (Seated seat' inputs
     (slots' ≡ slots) × Carries means command out seat seat' inputs inputs' slots
 Turned means (Give call) out (Bare dsp) (Bare dsp') = Did means call (world dsp [] []) (world dsp' [] [])
 Turned means _ out old new = ⊥
-
--- what a turn may be, by its task and what it answered, from one life to the next
-abbrev pub Turning : Type 0 → Type 1
-Turning L = Task → Out → L → L → Type 0
-
--- turns, one after another, each of which is so
-abbrev pub AreTurns : {L : Type 0} → Turning L → L → List Turn → L → Type 0
-AreTurns by p [] q = q ≡ p
-AreTurns {L} by p (turn ∷ turns) q = (m : L) × by turn.task turn.out p m × AreTurns by m turns q
 
 -- of sessions
 abbrev pub Turns : {P : Type 0} → Meaning P → Life P → List Turn → Life P → Type 0

@@ -9,9 +9,10 @@ use Rattle.mbox_link.specs.Meetings.{Doing}
 use Rattle.sof_script.specs.declared.script.Command.{Command}
 use Rattle.sof_session.specs.Seat.{Seat}
 use Rattle.sof_session.specs.Modes.{Mode, IsInMode, basis_in}
-use Rattle.sof_session.specs.Lives.{Life, Bare, Seated, Task, Carry, Turn, Carries, Turned, device_of, carried_outs}
+use Rattle.sof_session.specs.Lives.{Life, Bare, Seated, Carries, Turned, device_of, carried_outs}
+use Rattle.sof_script.specs.Tasks.{Task, Carry, Turn, Out}
 use Rattle.sof_session.specs.SessionStep.{Calm, known_of}
-use Rattle.sof_session.specs.Written.{Out, Ground, At, Leg, IsRun, first_at, end_of, moments_of, boots_in, raised}
+use Rattle.sof_session.specs.Written.{Ground, At, Leg, IsRun, first_at, end_of, moments_of, boots_in, raised}
 
 -- A session of a mode is where a run is: it is over the run's plan, heap and slots, its host and link know what is known there, and its
 -- device and the inputs stand where the moments so far lead.

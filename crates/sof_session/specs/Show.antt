@@ -1,11 +1,7 @@
 -- The lines that say how everything stands.
-use Rattle.std.specs.Prelude.{ℕ, List, [], ◌∷◌, ◌++◌, map, get_or, codes, decimal, Option, Some, None}
+use Rattle.std.specs.Prelude.{ℕ, List, [], ◌∷◌, ◌++◌, map, codes, decimal, Option, Some, None}
 use Rattle.std.specs.List.{zip}
-use Rattle.sof_base.specs.declared.format.Format.{Format}
-use Rattle.sof_base.specs.declared.format.Format.TheVariants.{S16, S24, S32}
 use Rattle.sof_base.specs.declared.format.Params.{Params}
-use Rattle.stream_law.specs.declared.graph.Kind.{Kind}
-use Rattle.stream_law.specs.declared.graph.Kind.TheVariants.{HostPlay, HostCapture, DaiPlay, DaiCapture, Volume, Mixer, Mux, Eq, Demux}
 use Rattle.stream_law.specs.declared.graph.Comp.{Comp}
 use Rattle.stream_law.specs.declared.graph.Edge.{Edge}
 use Rattle.stream_law.specs.declared.graph.Pipe.{Pipe}
@@ -26,6 +22,7 @@ use Rattle.host_widgets.specs.Acts.{widget_ids, pipe_by_id}
 use Rattle.sof_script.specs.declared.script.Command.{Command}
 use Rattle.sof_script.specs.declared.script.Command.TheVariants as commands
 use Rattle.sof_script.specs.Text.{values_words, bytes_word, found_word}
+use Rattle.sof_script.specs.KindWords.{format_words, kind_words, name_of, end_words}
 
 -- ---- words
 
@@ -35,29 +32,7 @@ power_words Unloaded = codes "power unloaded"
 power_words On = codes "power on"
 power_words Off = codes "power off"
 
--- a format, as scripts write it
-abbrev pub format_words : Format → List ℕ
-format_words S16 = codes "s16"
-format_words S24 = codes "s24"
-format_words S32 = codes "s32"
-
--- a DAI's kind is followed by its format
-abbrev pub kind_words : Kind → List ℕ
-kind_words HostPlay = codes "host-play"
-kind_words HostCapture = codes "host-capture"
-kind_words (DaiPlay format) = codes "dai-play " ++ format_words format
-kind_words (DaiCapture format) = codes "dai-capture " ++ format_words format
-kind_words Volume = codes "volume"
-kind_words Mixer = codes "mixer"
-kind_words Mux = codes "mux"
-kind_words Eq = codes "eq"
-kind_words Demux = codes "demux"
-
 -- ---- widgets, by id
-
--- the name of the widget of an id, and no bytes where there is none
-abbrev pub name_of : Plan → ℕ → List ℕ
-name_of plan id = get_or plan.names id []
 
 -- An id names a component: its kind and the index of its pipeline; or else a buffer: its size in bytes and that index; or else a pipeline:
 -- its index and its period in µs. Its name comes last. An id that names nothing, which no plan has, has an empty line.
@@ -72,11 +47,6 @@ abbrev pub widget_line : Plan → ℕ → List ℕ
 widget_line plan id = named_line (comp_of plan.graph id) (edge_of plan.graph id) (pipe_by_id plan id) id (name_of plan id)
 
 -- ---- edges and streams
-
--- the component at an end of an edge; an open end, which no plan has, is a dash
-abbrev pub end_words : Option ℕ → List ℕ
-end_words None = codes "-"
-end_words (Some id) = decimal id
 
 -- an edge: the component that it comes from, its buffer, and the component that it goes to, by their ids
 abbrev pub edge_line : Edge → List ℕ

@@ -7,7 +7,8 @@ use Rattle.stream_law.specs.declared.graph.Pipe.{Pipe}
 use Rattle.tplg_plan.specs.declared.plans.Plan.{Plan}
 use Rattle.host_widgets.specs.declared.kept.Record.{Record}
 use Rattle.host_widgets.specs.Kept.{controls_of}
-use Rattle.sof_session.specs.Show.{kind_words, edge_line, stream_line, control_line}
+use Rattle.sof_script.specs.KindWords.{kind_words}
+use Rattle.sof_session.specs.Show.{edge_line, stream_line, control_line}
 
 -- the streams, in the order of the plan
 abbrev pub stream_lines : Plan → Record → List (List ℕ)

@@ -8,24 +8,14 @@ use Rattle.stream_law.specs.Past.{Moment, Boot, Past, Leads, start}
 use Rattle.mbox_link.specs.Exchange.{more}
 use Rattle.mbox_link.specs.Meetings.{Doing}
 use Rattle.tplg_plan.specs.declared.plans.Plan.{Plan}
-use Rattle.host_widgets.specs.declared.answers.Answer.{Answer}
 use Rattle.sof_script.specs.declared.script.Command.{Command}
 use Rattle.host_widgets.specs.declared.kept.Record.{Record}
 use Rattle.host_widgets.specs.HostActs.{Act}
 use Rattle.sof_session.specs.CommandRules.{CommandRules}
 use Rattle.sof_session.specs.Commands.{Known, Came, first_known, next, command_rules}
+use Rattle.sof_script.specs.Tasks.{Written, Out}
 
 -- ---- what comes out
-
--- what is written to a slot
-abbrev pub Written : Type 0
-Written = ℕ × List ℕ
-
--- what a command answers, the lines that follow where it shows, and the bytes that it writes, by slot
-pub record Out : Type 0 where
-  pub answer : Answer
-  pub shown : List (List ℕ)
-  pub written : List Written
 
 -- no bytes are not written
 abbrev pub with_bytes : ℕ → List ℕ → List Written → List Written

@@ -11,4 +11,3 @@ mod words;
 pub use dyn_session::DynSession;
 pub use laws::{fault_rows, mix_rows, one_run, up_shown};
 pub use session::Session;
-pub use words::kind_words;

@@ -7,20 +7,21 @@ ghost use Rattle.tplg_plan.specs.Sound.{IsSound};
 ghost use Rattle.host_widgets.specs.Acts.{pipe_by_id};
 ghost use Rattle.host_dynamic.specs.There.{shown_ids};
 ghost use Rattle.sof_session.specs.Show as show;
+ghost use Rattle.sof_script.specs.KindWords as kinds;
 ghost use Rattle.sof_session.specs.StateLines as state_lines;
 ghost use Rattle.sof_session.specs.ShownLines as shown_lines;
 ghost use Rattle.sof_session.specs.UpCommands as up_commands;
 
-use crate::words::{kind_words, say_end, say_found, say_params, write_power};
+use crate::words::{say_end, say_found, say_params, write_power};
 use host_dynamic::{has, widget_index};
 use host_widgets::{ControlRec, Power, Record, StreamRec};
-use sof_script::{Line, say_bytes, say_values};
+use sof_script::{Line, kind_words, say_bytes, say_values};
 use stream_law::{Comp, Edge, Pipe};
 use tplg_plan::{ControlKind, ControlPlan, Plan, StreamPlan};
 
 // The name of a widget; empty where there is none of this id.
 fn name_of(plan: &Plan, id: u32) -> &[u8]
-    ensures value { result.now ≡ show.name_of plan.now id }
+    ensures value { result.now ≡ kinds.name_of plan.now id }
     ensures short { length result.now < 44 }
 {
     match plan.names.items().get(id as usize) {

@@ -1,11 +1,11 @@
 // The words of a shown line.
 ghost use Rattle.std.specs.Prelude.{◌≡◌, ◌+◌, ◌≤◌, ◌++◌, length};
 ghost use Rattle.sof_session.specs.Show as show;
+ghost use Rattle.sof_script.specs.KindWords as kinds;
 
 use host_widgets::{Found, Power};
-use sof_base::{Format, Params};
-use sof_script::Line;
-use stream_law::Kind;
+use sof_base::Params;
+use sof_script::{Line, format_words};
 
 // Whether the device is on, alone on the line.
 pub fn write_power(power: Power, line: &mut Line)
@@ -20,44 +20,10 @@ pub fn write_power(power: Power, line: &mut Line)
     }
 }
 
-/// A format, as scripts write it.
-pub fn format_words(format: Format) -> &'static [u8]
-    ensures words { result.now ≡ show.format_words format }
-    ensures short { length result.now ≤ 3 }
-{
-    match format {
-        Format::S16 => b"s16",
-        Format::S24 => b"s24",
-        Format::S32 => b"s32",
-    }
-}
-
-/// A component's kind, with the format of a DAI.
-pub fn kind_words(kind: Kind) -> &'static [u8]
-    ensures words { result.now ≡ show.kind_words kind }
-    ensures short { length result.now ≤ 15 }
-{
-    match kind {
-        Kind::HostPlay => b"host-play",
-        Kind::HostCapture => b"host-capture",
-        Kind::DaiPlay(Format::S16) => b"dai-play s16",
-        Kind::DaiPlay(Format::S24) => b"dai-play s24",
-        Kind::DaiPlay(Format::S32) => b"dai-play s32",
-        Kind::DaiCapture(Format::S16) => b"dai-capture s16",
-        Kind::DaiCapture(Format::S24) => b"dai-capture s24",
-        Kind::DaiCapture(Format::S32) => b"dai-capture s32",
-        Kind::Volume => b"volume",
-        Kind::Mixer => b"mixer",
-        Kind::Mux => b"mux",
-        Kind::Eq => b"eq",
-        Kind::Demux => b"demux",
-    }
-}
-
 // The component at an end of an edge.
 pub fn say_end(end: Option<u32>, line: &mut Line)
     requires { length line.old + 10 ≤ 2304 }
-    ensures said { line.new ≡ line.old ++ show.end_words end }
+    ensures said { line.new ≡ line.old ++ kinds.end_words end }
     ensures longer { length line.new ≤ length line.old + 10 }
 {
     match end {

@@ -12,14 +12,13 @@ use Rattle.sof_session.specs.Agreement.{AreAgreed}
 use Rattle.sof_session.specs.Fills.{input_ends}
 use Rattle.sof_session.specs.Seat.{Seat}
 use Rattle.sof_session.specs.Modes.{SteppedBy, shown_in}
-use Rattle.sof_session.specs.Written.{Out, with_bytes, written_in}
-use Rattle.sof_session.specs.Lives.{Life, Seated, Turn, Turned, Carry}
+use Rattle.sof_script.specs.Tasks.{Out, Turn, Carry}
+use Rattle.sof_session.specs.Written.{with_bytes, written_in}
+use Rattle.sof_session.specs.Lives.{Life, Seated, Turned}
 use Rattle.sof_session.proofs.Writings.{empty-outputs}
 use Rattle.sof_stress.specs.declared.counts.Counts.{Counts}
 use Rattle.sof_stress.specs.CommandTurns.{CommandTurn, bytes_to, command_turns, turns_of, no_counts, turn_counted, all_counted}
-use Rattle.sof_stress.specs.CarriedTurns.{turns_after}
-use Rattle.sof_stress.specs.CarriedTurns.{CarriedOut, AreCountsOf}
-use Rattle.sof_stress.specs.CarriedTurns.{CarriesOn, CarriedFirst, CommandsCarried, IsUnderWay}
+use Rattle.sof_stress.specs.CarriedTurns.{turns_after, CarriedOut, AreCountsOf, CarriesOn, CarriedFirst, CommandsCarried, IsUnderWay}
 
 -- a session's step is a turn
 pub carries-on : {P : Type 0} (means : Meaning P) (command : Command) (seat seat' : Seat P) (inputs inputs' : List InputView) (outputs outputs' : List OutputView) (answer : Answer) →

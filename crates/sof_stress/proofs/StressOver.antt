@@ -11,7 +11,8 @@ use Rattle.tplg_plan.specs.Sound.{IsSound}
 use Rattle.host_widgets.specs.declared.kept.Record.{Record}
 use Rattle.sof_script.specs.declared.script.Command.{Command}
 use Rattle.sof_session.specs.Written.{Ground, Leg}
-use Rattle.sof_session.specs.Lives.{Life, Bare, Turn, Turns, Carry}
+use Rattle.sof_session.specs.Lives.{Life, Bare, Turns}
+use Rattle.sof_script.specs.Tasks.{Turn, Carry}
 use Rattle.sof_session.specs.RunOver.{RunOver}
 use Rattle.sof_session.specs.Modes.{made_at_load}
 use Rattle.sof_session.proofs.LoadMode.{load-laws}
@@ -20,11 +21,9 @@ use Rattle.sof_stress.specs.Draws.{stream_count, stress_commands}
 use Rattle.sof_stress.specs.StressPorts.{stream_input, stress_inputs}
 use Rattle.sof_stress.specs.CommandTurns.{CommandTurn, turns_of}
 use Rattle.sof_script.specs.Ticks.{earlier as earlier_turns}
-use Rattle.sof_stress.specs.CarriedTurns.{turns_after}
-use Rattle.sof_stress.specs.CarriedTurns.{IsDue, tasks_of}
+use Rattle.sof_stress.specs.CarriedTurns.{turns_after, IsDue, tasks_of, commands_of}
 use Rattle.sof_stress.specs.GraphParts.{stress_plan}
 use Rattle.sof_stress.specs.StressRun.{stress_begins, stress_ground, stress_turns}
-use Rattle.sof_stress.specs.CarriedTurns.{commands_of}
 use Rattle.sof_stress.proofs.DueCommands.{earlier-few, all-due, few-commands}
 
 -- ---- the inputs, of which nothing was read

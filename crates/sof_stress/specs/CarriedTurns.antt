@@ -9,7 +9,8 @@ use Rattle.sof_io.specs.Bound.{output_slots}
 use Rattle.mbox_link.specs.Calls.{Meaning}
 use Rattle.sof_script.specs.declared.script.Command.{Command}
 use Rattle.sof_session.specs.Seat.{Seat}
-use Rattle.sof_session.specs.Lives.{Life, Seated, Turn, Turns, Task, Carry}
+use Rattle.sof_session.specs.Lives.{Life, Seated, Turns}
+use Rattle.sof_script.specs.Tasks.{Turn, Task, Carry}
 use Rattle.sof_stress.specs.declared.counts.Counts.{Counts}
 use Rattle.sof_stress.specs.Draws.{stream_count, drawn, command_by, opening}
 use Rattle.sof_stress.specs.CommandTurns.{CommandTurn, turns_of, one_where, is_done, all_counted}

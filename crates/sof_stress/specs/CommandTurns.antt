@@ -6,7 +6,7 @@ use Rattle.host_widgets.specs.declared.answers.Answer.TheVariants as answers
 use Rattle.sof_script.specs.declared.script.Command.{Command}
 use Rattle.sof_script.specs.Ticks.{earlier, rounds_with}
 use Rattle.sof_session.specs.Commands.{is_tick}
-use Rattle.sof_session.specs.Written.{Written, Out}
+use Rattle.sof_script.specs.Tasks.{Written, Out}
 use Rattle.sof_stress.specs.declared.counts.Counts.{Counts}
 
 -- ---- turns

@@ -2,8 +2,8 @@
 use Rattle.std.specs.Prelude.{◌≡◌, ℕ, List, ◌∷◌, map}
 use Rattle.mbox_link.specs.Calls.{Meaning}
 use Rattle.tplg_plan.specs.Sound.{IsSound}
-use Rattle.sof_session.specs.Written.{Out}
-use Rattle.sof_session.specs.Lives.{Life, Bare, Turn, Turns, device_of, Exit}
+use Rattle.sof_script.specs.Tasks.{Out, Turn}
+use Rattle.sof_session.specs.Lives.{Life, Bare, Turns, device_of, Exit}
 use Rattle.sof_stress.specs.declared.counts.Counts.{Counts}
 use Rattle.sof_stress.specs.CarriedTurns.{tasks_of}
 use Rattle.sof_stress.specs.GraphParts.{stress_plan}

@@ -3,8 +3,9 @@ use Rattle.std.specs.Prelude.{ℕ, min, false, List, [], ◌∷◌, map}
 use Rattle.sof_base.specs.Ports.{InputView}
 use Rattle.tplg_graph.specs.PlanOf.{plan_of}
 use Rattle.tplg_graph.specs.TopologyNeed.{need_of}
-use Rattle.sof_session.specs.Written.{Out, Ground}
-use Rattle.sof_session.specs.Lives.{Life, Bare, Seated, Task, Begin}
+use Rattle.sof_script.specs.Tasks.{Out, Task, Begin}
+use Rattle.sof_session.specs.Written.{Ground}
+use Rattle.sof_session.specs.Lives.{Life, Bare, Seated}
 use Rattle.sof_stress.specs.declared.counts.Counts.{Counts}
 use Rattle.sof_stress.specs.Draws.{stream_count, stress_commands}
 use Rattle.sof_stress.specs.StressGraph.{stress_topology}

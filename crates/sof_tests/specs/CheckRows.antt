@@ -3,8 +3,8 @@ use Rattle.std.specs.Prelude.{ℕ, List, [], ◌∷◌, codes, map}
 use Rattle.std.specs.List.{concat}
 use Rattle.tplg_model.specs.declared.block.Body.TheVariants.{Widgets, Routes}
 use Rattle.tplg_model.specs.declared.block.Topology.{Topology}
-use Rattle.sof_run.specs.Lines.{with_newline}
-use Rattle.sof_run.specs.Checking.{counts_of}
+use Rattle.run_desk.specs.Lines.{with_newline}
+use Rattle.run_tools.specs.Checking.{counts_of}
 use Rattle.sof_tests.specs.Rows.{number, widget, block, route}
 
 -- no blocks

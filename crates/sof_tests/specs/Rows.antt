@@ -23,8 +23,8 @@ use Rattle.host_widgets.specs.declared.kept.Record.{Record}
 use Rattle.sof_session.specs.Commands.{Known, first_known, next, command_rules}
 use Rattle.sof_session.specs.Show.{shown_by}
 use Rattle.sof_session.specs.Written.{boots_in}
-use Rattle.sof_run.specs.Lines.{with_newline}
-use Rattle.sof_run.specs.LineParts.{spoken}
+use Rattle.run_desk.specs.Lines.{with_newline}
+use Rattle.run_play.specs.LineParts.{spoken}
 
 -- one number
 abbrev pub number : ℕ → ℕ → TokenArray

@@ -6,9 +6,9 @@ use Rattle.ipc3_trace.specs.declared.entry.Entry.{Entry}
 use Rattle.ipc3_trace.specs.EntryLines.{entry_line}
 use Rattle.ipc3_trace.specs.Reading.{trace_in}
 use Rattle.ipc3_trace.specs.Records.{records_bytes}
-use Rattle.sof_run.specs.declared.replay_fault.ReplayFault.{ReplayFault}
-use Rattle.sof_run.specs.Met.{met}
-use Rattle.sof_run.specs.Replays.{replay_fault, replayed_lines}
+use Rattle.run_replay.specs.declared.replay_fault.ReplayFault.{ReplayFault}
+use Rattle.run_play.specs.Met.{met}
+use Rattle.run_replay.specs.Replays.{replay_fault, replayed_lines}
 use Rattle.sof_tests.specs.Rows.{thin_topology}
 
 -- with a heap of 992 bytes

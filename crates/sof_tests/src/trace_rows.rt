@@ -2,7 +2,7 @@
 ghost use Rattle.std.specs.Prelude.{◌≡◌, ◌∷◌, [], length, take, codes, None, Some, set, slice_get};
 ghost use Rattle.ipc3_trace.specs.declared.fault.TraceFault.TheVariants.{Short};
 ghost use Rattle.sof_tests.specs.TraceRows.{load_bytes, load_lines, replay_told, replay_said, fated_bytes, refused_bytes};
-ghost use Rattle.sof_run.specs.declared.replay_fault.ReplayFault.TheVariants.{Broken, Replied};
+ghost use Rattle.run_replay.specs.declared.replay_fault.ReplayFault.TheVariants.{Broken, Replied};
 
 /// A load of the thin graph with a heap of 992 bytes.
 pub fn load_rows()

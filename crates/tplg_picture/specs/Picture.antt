@@ -11,7 +11,7 @@ use Rattle.tplg_plan.specs.declared.plans.ControlPlan.{ControlPlan}
 use Rattle.tplg_plan.specs.declared.plans.ControlKind.{ControlKind}
 use Rattle.tplg_plan.specs.declared.plans.ControlKind.TheVariants as control
 use Rattle.host_widgets.specs.Controls.{control_of}
-use Rattle.sof_session.specs.Show.{name_of, kind_words, end_words}
+use Rattle.sof_script.specs.KindWords.{name_of, kind_words, end_words}
 
 -- ---- labels
 

@@ -2,19 +2,19 @@
 ghost use Rattle.std.specs.Prelude.{◌≡◌, ◌++◌, ◌==◌, OnOk, find};
 ghost use Rattle.std.specs.Option.{option_copied};
 ghost use Rattle.host_widgets.specs.Controls as controls;
-ghost use Rattle.sof_session.specs.Show as show;
+ghost use Rattle.sof_script.specs.KindWords as kinds;
 ghost use Rattle.tplg_picture.specs.Labels as parts;
 ghost use Rattle.tplg_picture.specs.Picture as law;
 
 use crate::words::{say, say_escaped, say_number};
 use sof_base::NoMemory;
-use sof_session::kind_words;
+use sof_script::kind_words;
 use stream_law::Comp;
 use tplg_plan::{ControlKind, ControlPlan, Plan};
 
 // The name of a widget; empty where there is none of this id.
 fn name_of(plan: &Plan, id: u32) -> &[u8]
-    ensures { result.now ≡ show.name_of plan.now id }
+    ensures { result.now ≡ kinds.name_of plan.now id }
 {
     match plan.names.items().get(id as usize) {
         Some(name) => name.as_bytes(),

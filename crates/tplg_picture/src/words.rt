@@ -1,7 +1,7 @@
 // What stands on a line.
 ghost use Rattle.std.specs.Prelude.{◌≡◌, ◌++◌, decimal, OnOk};
 ghost use Rattle.std.specs.List.{flat_map};
-ghost use Rattle.sof_session.specs.Show as show;
+ghost use Rattle.sof_script.specs.KindWords as kinds;
 ghost use Rattle.tplg_picture.specs.Picture as law;
 
 use itoa::Buffer;
@@ -25,7 +25,7 @@ pub fn say_number(line: &mut Vec<u8>, number: u32) -> Result<(), NoMemory>
 
 /// The component at an end of a buffer, as the line of an edge has it.
 pub fn say_end(line: &mut Vec<u8>, end: Option<u32>) -> Result<(), NoMemory>
-    ensures { OnOk result (line.new.items ≡ line.old.items ++ show.end_words end) }
+    ensures { OnOk result (line.new.items ≡ line.old.items ++ kinds.end_words end) }
 {
     match end {
         Some(id) => say_number(line, id),

@@ -1,8 +1,8 @@
 use Rattle.std.proofs.Common.{true, false, [], ◌∷◌, codes, is_ok}
-use Rattle.sof_run.specs.Todo.{DeskPhase}
-use Rattle.sof_run.specs.Play.{lines_todo}
-use Rattle.sof_run.specs.Checking.{count_line}
-use Rattle.sof_run.proofs.CheckPhases.{was_err, then_lines, no_lines}
+use Rattle.run_desk.specs.Todo.{DeskPhase}
+use Rattle.run_desk.specs.LinesTodo.{lines_todo}
+use Rattle.run_desk.specs.Lines.{count_line}
+use Rattle.run_desk.proofs.LinePhases.{was_err, then_lines, no_lines}
 use Rattle.sof_run.proofs.stress.say_numbers.Goals as goal
 
 pub returns-in_err-say_count : goal.returns-in_err-say_count

@@ -3,10 +3,10 @@ use Rattle.sof_io.specs.Bound.{output_slots}
 use Rattle.sof_io.proofs.OutputLaws.{slots-drained, drained-drained}
 use Rattle.sof_session.specs.Lives.{Seated}
 use Rattle.sof_session.specs.Modes.{shown_in}
-use Rattle.sof_session.specs.Written.{Out, written_in}
+use Rattle.sof_script.specs.Tasks.{Out}
+use Rattle.sof_session.specs.Written.{written_in}
 use Rattle.sof_stress.specs.CommandTurns.{CommandTurn}
-use Rattle.sof_stress.specs.CarriedTurns.{counted_by}
-use Rattle.sof_stress.specs.CarriedTurns.{CarriedFirst}
+use Rattle.sof_stress.specs.CarriedTurns.{counted_by, CarriedFirst}
 use Rattle.sof_stress.proofs.CarrySteps.{carries-on, one-first}
 use Rattle.sof_stress.proofs.carry.carry_turn.Goals as goal
 

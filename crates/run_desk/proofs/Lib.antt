@@ -1,0 +1,7 @@
+pub mod Steps
+pub mod BrokenFiles
+pub mod Statuses
+pub mod BindingLaws
+pub mod SaidLines
+pub mod LoadedBytes
+pub mod LinePhases

@@ -1,0 +1,14 @@
+pub mod TopologyBytes
+pub mod Bindings
+pub mod Lines
+pub mod Verdicts
+pub mod DeskCalls
+pub mod Todo
+pub mod Prepared
+pub mod Halts
+pub mod Throughout
+pub mod BindingParts
+pub mod LinesTodo
+pub mod OpeningCalls
+pub mod SaidText
+pub mod TraceFaults

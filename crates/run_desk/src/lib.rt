@@ -1,0 +1,16 @@
+//! What every run does with a desk: it loads files and finds what they come to, says lines and counts, and ends with a status.
+#![tactic(auto)]
+
+mod bindings;
+mod counts;
+mod ending;
+mod files;
+mod lines;
+mod preparing;
+
+pub use bindings::slot_of;
+pub use counts::say_count;
+pub use ending::{Ended, end_wanting};
+pub use files::{LIMIT, TRACE_LIMIT, fetch, status_of, stop, stop_for};
+pub use lines::{say_at, say_trace_fault, write_rule};
+pub use preparing::{Halt, Ready, prepare, ruled_plan, topology_in};

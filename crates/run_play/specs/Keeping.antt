@@ -1,0 +1,96 @@
+-- A play of which a trace is kept: the slot of its file, and the records in front of what each unit writes.
+use Rattle.std.specs.Prelude.{◌≡◌, ℕ, List, [], ◌∷◌, Option, Some, None}
+use Rattle.std.specs.List.{AllByRecursion}
+use Rattle.sof_base.specs.Ports.{Io}
+use Rattle.stream_law.specs.State.{FwState}
+use Rattle.sof_desk.specs.Desk.{DeskAct, Create}
+use Rattle.mbox_link.specs.Calls.{Meaning, Call, Led}
+use Rattle.ipc3_trace.specs.declared.entry.Entry.{Entry}
+use Rattle.ipc3_trace.specs.Records.{IsEntry, records_bytes}
+use Rattle.ipc3_trace.specs.CallRecords.{entries_along}
+use Rattle.sof_script.specs.Tasks.{Out, Task, Carry, Turn}
+use Rattle.sof_session.specs.Written.{with_bytes}
+use Rattle.ipc3_trace.specs.Steps.{AreAlike, recorded, steps_from}
+use Rattle.sof_script.specs.declared.script.Command.{Command}
+use Rattle.sof_session.specs.Seat.{Seat}
+use Rattle.sof_session.specs.SessionStep.{Calm, known_of}
+use Rattle.sof_session.specs.Lives.{Life, Seated, Turns}
+use Rattle.run_play.specs.Met.{command_deeds}
+
+-- ---- the file
+
+-- the slot of a trace's file, which no output has
+abbrev pub trace_slot : ℕ
+trace_slot = 4294967295
+
+-- the file of a trace that is kept is created
+abbrev pub trace_acts : Option (List ℕ) → List DeskAct
+trace_acts None = []
+trace_acts (Some name) = Create trace_slot name ∷ []
+
+abbrev pub trace_slots : Option (List ℕ) → List ℕ
+trace_slots None = []
+trace_slots (Some name) = trace_slot ∷ []
+
+-- ---- what is written in front
+
+-- bytes stand before what a unit writes
+abbrev pub fronted : List ℕ → Out → Out
+fronted bytes out = record { answer = out.answer; shown = out.shown; written = with_bytes trace_slot bytes out.written }
+
+-- of a turn that carried out a command
+abbrev pub fronted_at : Task → List ℕ → Out → Out
+fronted_at (Carry command) bytes out = fronted bytes out
+fronted_at task bytes out = out
+
+-- one list of records for each turn that carries out a command is used up by it
+abbrev pub records_behind : Task → List (List Entry) → List (List Entry)
+records_behind (Carry command) (es ∷ records) = records
+records_behind task records = records
+
+-- these records, one list for each turn that carried out a command, stand before what it wrote
+abbrev pub recorded_turns : List (List Entry) → List Turn → List Turn
+recorded_turns [] turns = turns
+recorded_turns (es ∷ records) [] = []
+recorded_turns (es ∷ records) (turn ∷ turns) =
+    record { task = turn.task; out = fronted_at turn.task (records_bytes es) turn.out } ∷ recorded_turns (records_behind turn.task (es ∷ records)) turns
+
+-- and before what each unit of a run writes
+abbrev pub recorded_outs : List (List Entry) → List Out → List Out
+recorded_outs [] outs = outs
+recorded_outs (es ∷ records) [] = []
+recorded_outs (es ∷ records) (out ∷ outs) = fronted (records_bytes es) out ∷ recorded_outs records outs
+
+-- ---- over a device
+
+-- A command left these records: they are those of calls that led the device behind the link from where it was to where it is, and a reader
+-- takes each of them. Where no count of the device rose, they are those of the command's deeds, and lead to where it is.
+pub record LeftRecords {P : Type 0} (means : Meaning P) (command : Command) (old new : Seat P) (es : List Entry) : Type 0 where
+  pub before : Io
+  pub after : Io
+  pub calls : List Call
+  pub led : Led means (record { device = old.link.device; io = before }) calls (record { device = new.link.device; io = after })
+  pub are : es ≡ entries_along means (record { device = old.link.device; io = before }) calls (record { device = new.link.device; io = after }) led
+  pub each : AllByRecursion IsEntry es
+  pub met : Calm means old.link.device new.link.device → (s : Option FwState) → AreAlike (means.on old.link.device) s
+      → (es ≡ recorded s (command_deeds old.plan old.heap (known_of old.link old.kept) command)) × AreAlike (means.on new.link.device) (steps_from s es)
+
+abbrev pub LeftBy : {P : Type 0} → Meaning P → Command → Life P → Life P → List Entry → Type 0
+LeftBy means command (Seated seat inputs slots) (Seated seat' inputs' slots') es = LeftRecords means command seat seat' es
+LeftBy means command old new es = ⊥
+
+-- each turn that carried out a command left these records, one list for each
+abbrev pub TurnLeft : {P : Type 0} → Meaning P → Task → Life P → Life P → List (List Entry) → (List (List Entry) → Type 0) → Type 0
+TurnLeft means (Carry command) old new [] rest = ⊥
+TurnLeft means (Carry command) old new (es ∷ records) rest = LeftBy means command old new es × rest records
+TurnLeft means task old new records rest = rest records
+
+abbrev pub TurnsLeft : {P : Type 0} (means : Meaning P) (p : Life P) (turns : List Turn) (q : Life P) → Turns means p turns q → List (List Entry) → Type 0
+TurnsLeft means p [] q turned records = records ≡ []
+TurnsLeft means p (turn ∷ turns) q turned records =
+    TurnLeft means turn.task p turned.0 records (λ rest. TurnsLeft means turned.0 turns q turned.2 rest)
+
+-- the records of a play: none where no trace is kept
+abbrev pub KeptRecords : {P : Type 0} (means : Meaning P) → Option (List ℕ) → (p : Life P) (turns : List Turn) (q : Life P) → Turns means p turns q → List (List Entry) → Type 0
+KeptRecords means None p turns q turned records = records ≡ []
+KeptRecords means (Some name) p turns q turned records = TurnsLeft means p turns q turned records

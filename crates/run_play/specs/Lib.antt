@@ -1,0 +1,14 @@
+pub mod Met
+pub mod Keeping
+pub mod Rounds
+pub mod Pieces
+pub mod Plays
+pub mod HeardRuns
+pub mod Traces
+pub mod LineParts
+pub mod Play
+pub mod KeptTurns
+pub mod Opening
+pub mod Refills
+pub mod HandedBack
+pub mod Ranges

@@ -1,0 +1,5 @@
+pub mod ReplayPhases
+pub mod ReplayTurns
+pub mod ReplayWalks
+pub mod ReplayCounts
+pub mod ReplayVerdicts

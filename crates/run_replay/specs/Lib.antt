@@ -1,0 +1,5 @@
+pub mod Replaying
+pub mod ReplayLines
+pub mod Replays
+pub mod ReplayTodo
+pub mod GivenRecords

@@ -1,0 +1,9 @@
+pub mod CheckPhases
+pub mod CheckedFiles
+pub mod CheckVerdicts
+pub mod DecodePhases
+pub mod DecodeVerdicts
+pub mod CompilePhases
+pub mod SourcePhases
+pub mod CompileVerdicts
+pub mod SourceVerdicts

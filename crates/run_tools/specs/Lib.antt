@@ -1,0 +1,13 @@
+pub mod Checking
+pub mod Compiling
+pub mod TraceLines
+pub mod Picturing
+pub mod Sourcing
+pub mod Checks
+pub mod Compiles
+pub mod Sources
+pub mod Decodes
+pub mod CheckTodo
+pub mod CompileTodo
+pub mod SourceTodo
+pub mod DecodeTodo

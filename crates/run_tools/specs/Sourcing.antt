@@ -1,0 +1,6 @@
+-- The line of a topology that has no source.
+use Rattle.std.specs.Prelude.{ℕ, List, codes}
+
+-- the line of a topology whose plan no source carries
+abbrev pub no_source_line : List ℕ
+no_source_line = codes "topology no source\n"

@@ -1,9 +1,0 @@
-use Rattle.std.proofs.Common.{refl}
-use Rattle.sof_run.proofs.Kept.{untraced_gave}
-use Rattle.sof_run.proofs.play.do_untraced.Goals as goal
-
-pub do_session-ended-requires-clause-keeps : goal.do_session-ended-requires-clause-keeps
-do_session-ended-requires-clause-keeps g c = λ none k. refl
-
-pub returns : goal.returns
-returns g c = rw c.into_dsp.ensures (untraced_gave g.P.Dsp.means g.D.Desk.means _ _ _ _ _ _ (rw (c.new.ensures, c.requires.none) at c.do_session-ended.ensures))

@@ -1,5 +1,0 @@
-use Rattle.sof_run.proofs.Steps.{free_off}
-use Rattle.sof_run.proofs.play.end_wanting.Goals as goal
-
-pub returns-clause-said : goal.returns-clause-said
-returns-clause-said g c = λ next. free_off g.D.Desk.means next _ _ _ c.stop_for.ensures

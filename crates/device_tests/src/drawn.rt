@@ -83,7 +83,7 @@ fn message_of(alloc: Global, number: u32) -> Result<Vec<u8>, Fail> {
     Ok(Vec::from_slice(alloc, front)?)
 }
 
-// The number that is drawn behind another.
+// The number that is drawn after another.
 fn next(number: u32) -> u32 {
     number.wrapping_mul(1103515245).wrapping_add(12345) % 2147483648
 }
@@ -128,7 +128,7 @@ fn count(counts: &mut [u32; 5], error: Option<i32>) {
     }
 }
 
-// The replies of a device to the 40 messages of a list, one behind the other. Each is a reply, and its error is counted.
+// The replies of a device to the 40 messages of a list, one after the other. Each is a reply, and its error is counted.
 fn replies(
     rt: &impl Abort,
     alloc: Global,

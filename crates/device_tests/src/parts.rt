@@ -7,7 +7,7 @@ use ipc3_codec::{CompWords, Message};
 use sof_base::{Bounded, Part};
 use std::test::Fail;
 
-// The words of a blob of one channel and one section. The bytes behind them, by which it has three parts, mean nothing.
+// The words of a blob of one channel and one section. The bytes after them, by which it has three parts, mean nothing.
 const WORDS: [u32; 29] = [
     0x0046_4F53,
     0,
@@ -77,7 +77,7 @@ fn empty(index: u32) -> Part
     part
 }
 
-// The same with so many more bytes behind it.
+// The same with so many more bytes after it.
 fn longer(index: u32, more: u32) -> Part
     requires { index ≤ 2 }
 {

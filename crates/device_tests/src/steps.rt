@@ -38,7 +38,7 @@ pub(crate) enum Step {
     Told(Message, [u8; 12]),
     /// The reply to these bytes begins so.
     Bytes([u8; 20], [u8; 12]),
-    /// The volume of this id has these gains, each behind its channel, as a reply carries those of two channels.
+    /// The volume of this id has these gains, each after its channel, as a reply carries those of two channels.
     Gains(u32, [u8; 16]),
     /// The equaliser of this id gives this part of its blob, by the part's number.
     Part(u32, Part),

@@ -13,7 +13,7 @@ pub shr-is : (z : ℤ) (m : ℕ) → shr_z z m ≡ int_div_euclid z (pos m)
 shr-is (pos a) m = refl
 shr-is (negsuc a) m = refl
 
--- what a shift leaves behind
+-- what a shift leaves after
 pub shr-low : (z : ℤ) (m : ℕ) → 0 < m → (r : ℕ) × ((r < m) × (z ≡ (shr_z z m *ℤ pos m) +ℤ pos r))
 shr-low (pos a) m some =
     let all : m * (a / m) + a % m ≡ a = div-add-mod a m in

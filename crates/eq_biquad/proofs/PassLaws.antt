@@ -35,7 +35,7 @@ pub numbers-none : (xs : List ℤ) → numbers_passed [] [] xs ≡ []
 numbers-none [] = refl
 numbers-none (x ∷ xs) = numbers-none xs
 
--- ---- numbers behind those of the sections do not count
+-- ---- numbers after those of the sections do not count
 
 pub length-numbers : (ss : List Section) (ns : List ℤ) (x : ℤ) → length (passed_sections ss ns x).numbers ≡ 2 * length ss
 length-numbers [] ns x = refl

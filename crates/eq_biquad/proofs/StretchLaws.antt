@@ -240,7 +240,7 @@ pair-more b p q base c k f words0 samples0 words samples words' samples' s t m n
     narrower a s m i (inl low) = inl low
     narrower a s m i (inr high) = inr (omega (arith, high))
 
--- ---- one channel, and then the one behind it
+-- ---- one channel, and then the one after it
 
 module _ (c k f : ℕ) (low : k + 1 < c) (words0 samples0 words samples words' samples' : List ℤ) where
   -- the first one stays as it is

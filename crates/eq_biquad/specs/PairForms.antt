@@ -95,7 +95,7 @@ pub record GoesThrough (ss : List law.Section) (ns : List ℤ) (x : ℤ) (ns' : 
   pub sample : y ≡ (passed_sections ss ns x).sample
   pub numbers : ns' ≡ (passed_sections ss ns x).numbers
 
--- all samples of a channel go through two sections, and those of the channel behind it through two others
+-- all samples of a channel go through two sections, and those of the channel after it through two others
 pub record BothGo (l r : Series) (before after : NearSeries) (at : Lane) (samples samples' : List ℤ) : Type 0 where
   pub left : lane at.channels at.channel at.frames samples' ≡ passed_samples (series_of l) (left_series before) (lane at.channels at.channel at.frames samples)
   pub right : lane at.channels (at.channel + 1) at.frames samples' ≡ passed_samples (series_of r) (right_series before) (lane at.channels (at.channel + 1) at.frames samples)

@@ -1,4 +1,4 @@
--- Two numbers side by side, the left one of a channel and the right one of the channel behind it.
+-- Two numbers side by side, the left one of a channel and the right one of the channel after it.
 use Rattle.std.specs.Prelude.{◌≡◌, ◌+◌, ◌-◌, ◌*◌, ◌^◌, ◌<◌, List, length, get_or, ℤ, pos, nat_abs}
 use Rattle.std.specs.Int.{int_div_euclid}
 use Rattle.sof_base.specs.Samples.{sat}

@@ -26,7 +26,7 @@ StretchGoes blob t k at words samples words' samples' = LaneGoes (sections_at bl
 abbrev pub IsElsewhere : ℕ → ℕ → ℕ → Type 0
 IsElsewhere slot count i = (i < 8 * slot) ⊎ (8 * slot + 8 * count ≤ i)
 
--- no samples but those of a channel, or of it and the one behind it, are others than they were
+-- no samples but those of a channel, or of it and the one after it, are others than they were
 abbrev pub OnlyChannel : ℕ → ℕ → List ℤ → List ℤ → Type 0
 OnlyChannel channels channel samples samples' = (j k : ℕ) → k < channels → k ≢ channel → sample_of samples' (j * channels + k) ≡ sample_of samples (j * channels + k)
 

@@ -78,7 +78,7 @@ impl Eq {
         self.len = blob.len() as u32;
     }
 
-    /// Writes the blob in force to the front of `out`, and no byte behind it. Its length comes back, 0 where there is none.
+    /// Writes the blob in force to the front of `out`, and no byte after it. Its length comes back, 0 where there is none.
     pub fn blob(&self, out: &mut [u8; 1024]) -> u32
         ensures length { result ≡ length self.now.blob }
         ensures bytes { out.new ≡ self.now.blob ++ drop result out.old }

@@ -1,4 +1,4 @@
-// Two numbers side by side, one of a channel and one of the channel behind it. Each operation is one for both.
+// Two numbers side by side, one of a channel and one of the channel after it. Each operation is one for both.
 ghost use Rattle.std.specs.Prelude.{◌≡◌, [], ◌∷◌, ◌+◌, ◌*◌, ◌<◌, ◌≤◌, ◌^◌, ◌+ℤ◌, ◌*ℤ◌, pos, length, nat_abs, FitsSigned};
 ghost use Rattle.std.specs.Int.{w32, w64};
 ghost use Rattle.eq_biquad.specs.Pairs.{left_number, right_number, BothAre, BothMeet, inner_of_sum, HasRoomToRound};

@@ -16,7 +16,7 @@ use crate::side_by_side::{NearSeries, Series};
 use crate::stages::NearPair;
 
 /// The parts of the numbers of two sections of each of two channels, where 64 bits hold all that comes of them. Those of the left
-/// channel stand from a slot on, those of the right one eight slots behind.
+/// channel stand from a slot on, those of the right one eight slots after.
 pub fn near_series(left: &Series, right: &Series, words: &[i32], slot: usize) -> Option<NearSeries>
     requires there { (slot + 10 ≤ 64) × (length words.now ≡ 512) }
     requires numbers { AreNumbers words.now }
@@ -74,7 +74,7 @@ fn ahead_of(first: i128) -> i64
     first as i64 + 536870912
 }
 
-/// Writes the numbers of two sections of each of two channels from a slot on, and eight slots behind.
+/// Writes the numbers of two sections of each of two channels from a slot on, and eight slots after.
 pub fn put_series(words: &mut [i32], slot: usize, near: NearSeries)
     requires there { (slot + 10 ≤ 64) × (length words.old ≡ 512) }
     requires numbers { AreNumbers words.old }

@@ -54,7 +54,7 @@ pub fn pass_channels(
     }
 }
 
-/// Passes a channel and the one behind it through their sections, two of each in one pass.
+/// Passes a channel and the one after it through their sections, two of each in one pass.
 fn pass_pair(blob: &[i32], len: usize, numbers: &mut [i32], samples: &mut [Sample], at: Lane)
     requires words { (length blob.now ≡ 256) × (len ≤ 1024) × (length numbers.old ≡ 512) }
     requires blob { 0 < len → blob_parts.IsBlob (take len (bytes_of_words blob.now)) }
@@ -120,7 +120,7 @@ fn two_of(found: Found, slot: usize, s: usize) -> Stretch
     }
 }
 
-/// Passes a channel through a stretch of its sections, and the channel behind it through another.
+/// Passes a channel through a stretch of its sections, and the channel after it through another.
 fn pass_two(
     blob: &[i32],
     len: usize,

@@ -42,7 +42,7 @@ pub fn series_at(blob: &[i32], len: usize, place: usize) -> Series
     }
 }
 
-/// Passes a channel through two sections, and the channel behind it through two others. The parts of their numbers after the last
+/// Passes a channel through two sections, and the channel after it through two others. The parts of their numbers after the last
 /// frame come back.
 pub fn pass_both(
     left: &Series,
@@ -150,7 +150,7 @@ fn pass_frames(
     near
 }
 
-/// Passes the samples at a place and behind it.
+/// Passes the samples at a place and after it.
 #[inline(always)]
 fn pass_frame(
     left: Series,
@@ -187,7 +187,7 @@ fn pass_frame(
     }
 }
 
-/// The samples at a place and behind it.
+/// The samples at a place and after it.
 #[inline(always)]
 fn samples_at(samples: &[Sample], place: usize) -> i32x2
     requires { place + 1 < length samples.now }
@@ -197,7 +197,7 @@ fn samples_at(samples: &[Sample], place: usize) -> i32x2
     both(samples[place], samples[place + 1])
 }
 
-/// Writes two samples at a place and behind it.
+/// Writes two samples at a place and after it.
 #[inline(always)]
 fn put_samples(samples: &mut [Sample], place: usize, y: i32x2)
     requires there { place + 1 < length samples.old }

@@ -14,7 +14,7 @@ use crate::section::Section;
 use std::simd::prelude::*;
 
 /// The parts of two sections' numbers in 64 bits, as `Near` has those of one: the left ones are of a channel, the right ones of
-/// the channel behind it.
+/// the channel after it.
 #[derive(Clone, Copy)]
 pub struct NearPair {
     pub fed: i64x2,

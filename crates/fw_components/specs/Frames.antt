@@ -39,7 +39,7 @@ buffer_out_of t id = option_map_or (λ c. c.id) (find (comes_from id) t.buffers)
 abbrev pub in_of : Tables → ℕ → ℕ
 in_of t id = option_map_or (λ c. c.id) (find (goes_to id) t.buffers) 0
 
--- the tables once a buffer lost its first frames, or got more behind its own, with the words of its piece after that
+-- the tables once a buffer lost its first frames, or got more after its own, with the words of its piece after that
 abbrev pub with_taken : ℕ → ℕ → Tables → Tables
 with_taken id n t = record { comps = t.comps; buffers = map (taken_at id n) t.buffers; pipes = t.pipes; joins = t.joins }
 

@@ -94,7 +94,7 @@ abbrev pub IsStreamOf : Bool → Option Params → Type 0
 IsStreamOf idle None = idle ≡ true
 IsStreamOf idle (Some p) = (idle ≡ false) × ((1 ≤ p.channels) × (p.channels ≤ 8)) × (is_rate p.rate ≡ true)
 
--- the stream of a host is; what is staged at an equaliser, and what remains of its blob, are at most 992 bytes behind the header
+-- the stream of a host is; what is staged at an equaliser, and what remains of its blob, are at most 992 bytes after the header
 abbrev pub IsStreaming : units.Unit → Type 0
 IsStreaming (Host capture phase params piece) = IsStreamOf (is_idle_phase phase) params
 IsStreaming (Eq eq next remaining) = 260 * next + remaining ≤ 992

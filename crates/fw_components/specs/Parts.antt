@@ -38,7 +38,7 @@ abbrev pub staging_one : ℕ → units.Unit → Option Staging
 staging_one id (Eq eq next remaining) = staging_in id (staged_of eq) next remaining
 staging_one id unit = None
 
--- the bytes that are staged, with this part behind them
+-- the bytes that are staged, with this part after them
 abbrev pub joined_bytes : ℕ → units.Unit → Part → List ℕ
 joined_bytes id unit part = staged_bytes (staging_one id unit) part
 
@@ -47,7 +47,7 @@ abbrev pub takes_part : ℕ → units.Unit → Part → Bool
 takes_part id (Eq eq next remaining) part = fits_behind (staging_in id (staged_of eq) next remaining) part
 takes_part id unit part = false
 
--- the last part puts the blob in force, and then nothing is staged; any other is staged, and the one behind it is next
+-- the last part puts the blob in force, and then nothing is staged; any other is staged, and the one after it is next
 abbrev pub parted_unit : ℕ → Part → List ℤ → units.Unit → units.Unit
 parted_unit id part words (Eq eq next remaining) =
     Eq (record { blob = if part.remaining == 0 then staged_bytes (staging_in id (staged_of eq) next remaining) part else eq.blob; piece = piece_with_words words eq.piece })

@@ -55,7 +55,7 @@ numbers_made_at t id looked n = option_map_or (λ c. made_numbers c.unit c.chann
 
 -- ---- what is left
 
--- The tables once each buffer that is looked at has lost n frames, and each that is fed has frames behind its own, with the words of its
+-- The tables once each buffer that is looked at has lost n frames, and each that is fed has frames after its own, with the words of its
 -- piece and of the component's after that.
 abbrev pub processed : (id : ℕ) → List ℕ → (n : ℕ) → List ℕ → (ℕ → List Frame) → (fed_words : ℕ → List ℤ) → (words : List ℤ) → Tables → Tables
 processed id looked n fed frames fed_words words t = record {
@@ -71,7 +71,7 @@ processed id looked n fed frames fed_words words t = record {
 abbrev pub drained_ring : List ℕ → ℕ → RingView → RingView
 drained_ring looked n r = if is_among looked r.buffer then record { buffer = r.buffer; frames = drop n r.frames } else r
 
--- a ring that is fed with frames behind its own
+-- a ring that is fed with frames after its own
 abbrev pub fed_ring : List ℕ → (ℕ → List Frame) → RingView → RingView
 fed_ring fed frames r = if is_among fed r.buffer then record { buffer = r.buffer; frames = r.frames ++ frames r.buffer } else r
 

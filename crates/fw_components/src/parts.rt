@@ -24,7 +24,7 @@ fn part_of(component: &Component, index: u32) -> Option<Part>
     }
 }
 
-// The staged bytes with a part behind them, if an equaliser takes it.
+// The staged bytes with a part after them, if an equaliser takes it.
 fn with_part(component: &Component, part: &Part) -> Option<Bounded<u8, 1024>>
     requires { IsStreaming component.now.unit }
     ensures bytes { result ≡ (if takes_part component.now.id component.now.unit part.now then Some (joined_bytes component.now.id component.now.unit part.now) else None) }
@@ -84,7 +84,7 @@ impl Registry {
         }
     }
 
-    /// Stages a part of an equaliser's blob behind those before it; the last one puts the blob in force, and an epoch begins. -19 where
+    /// Stages a part of an equaliser's blob after those before it; the last one puts the blob in force, and an epoch begins. -19 where
     /// the id names nothing; -22 where it names no equaliser, the part is not the next one, or it is the last and the bytes are no
     /// blob. Then nothing changes.
     pub fn set_part(&mut self, id: u32, part: &Part) -> Result<(), Errno>

@@ -347,7 +347,7 @@ impl Registry {
     }
 }
 
-// Puts a join behind the others.
+// Puts a join after the others.
 fn put_join(joins: &mut Vec<Join>, join: Join)
     requires room { vec_len joins.old < vec_capacity joins.old }
     ensures items { joins.new.items ≡ joins.old.items ++ join ∷ [] }

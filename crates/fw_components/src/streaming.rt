@@ -34,7 +34,7 @@ impl Registry {
         }
     }
 
-    /// Puts the `n` frames whose bytes these are in a format behind those of this buffer, which has room for them. This takes no
+    /// Puts the `n` frames whose bytes these are in a format after those of this buffer, which has room for them. This takes no
     /// memory.
     pub fn push_bytes(&mut self, buffer: u32, format: Format, n: u32, bytes: &[u8])
         requires there { has_id self.old.buffers buffer ≡ true }
@@ -67,7 +67,7 @@ impl Registry {
         self.buffers[at].take(n);
     }
 
-    /// Puts the frames of these samples behind those of the buffer that comes from this component, which has room for them: `samples`
+    /// Puts the frames of these samples after those of the buffer that comes from this component, which has room for them: `samples`
     /// has a sample of each channel for each frame. This takes no memory.
     pub fn feed(&mut self, id: u32, samples: &[Sample])
         requires there { list_any (comes_from id) self.old.buffers ≡ true }

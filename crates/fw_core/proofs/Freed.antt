@@ -79,7 +79,7 @@ module _ {X : Type 0} (key : X → ℕ) (x : X) where
 
 -- ---- pieces without one id
 
--- those behind the first
+-- those after the first
 behind-distinct : (c : Component) (cs : List Component) → HasDistinct (λ (p : PieceView). p.id) (pieces_by (c ∷ cs)) → HasDistinct (λ (p : PieceView). p.id) (pieces_by cs)
 behind-distinct c cs distinct = subst (HasDistinct (λ (p : PieceView). p.id)) (placed-others (λ (p : PieceView). p.id) (piece_by c) (pieces_by cs) (placed-apart (λ (p : PieceView). p.id) (piece_by c) (pieces_by cs) distinct)) (distinct-filter (λ (p : PieceView). p.id) (λ p. not (p.id == c.id)) (pieces_by (c ∷ cs)) distinct)
 

@@ -53,7 +53,7 @@ use Rattle.fw_core.proofs.BothPlaced.{placed-both, in-placed}
 
 -- ---- a piece more
 
--- pieces on those that come behind
+-- pieces on those that come after
 abbrev gather : List Component → List PieceView → List PieceView
 gather [] base = base
 gather (c ∷ cs) base = placed (λ p. p.id) (piece_by c) (gather cs base)

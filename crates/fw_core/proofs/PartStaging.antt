@@ -138,7 +138,7 @@ staging-parted id part words (d ∷ cs) c all at = ap (λ (ss : List Staging). p
     stays None under far = refl
     stays (Some s) under far = ap (λ h. cond (not h) (s ∷ unstaged id (staging_by cs)) (unstaged id (staging_by cs))) (ap (λ n. n == id) under ∙ far)
 
-    -- and what is put behind it
+    -- and what is put after it
     behind : (q p : Option Staging) (ss : List Staging) → IsUnder id q → IsUnder d.id p → d.id < id → put q (in_front p ss) ≡ in_front p (put q ss)
     behind None p ss under own less = refl
     behind (Some s) None ss under own less = refl

@@ -58,7 +58,7 @@ pub(crate) fn comp_new(
     Ok(())
 }
 
-/// A buffer of so many bytes, in the pipeline of this index, joined to nothing. Its ring lies behind the first 32 bytes of its
+/// A buffer of so many bytes, in the pipeline of this index, joined to nothing. Its ring lies after the first 32 bytes of its
 /// piece. Refused with -16 where the id is used or the pipeline is complete, and -12 where there are 128 buffers or no hole holds it.
 pub(crate) fn buffer_new(
     registry: &mut Registry,

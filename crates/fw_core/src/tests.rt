@@ -87,7 +87,7 @@ fn frames(alloc: Global, firmware: &mut Firmware) -> Result<usize, Fail> {
     Ok(out.bytes(2).len() / 8)
 }
 
-// How many each of twelve ticks gives it, which come behind this clock.
+// How many each of twelve ticks gives it, which come after this clock.
 fn frames_behind(alloc: Global, period: u32, rate: u32, clock: u32) -> Result<[usize; 12], Fail> {
     let mut firmware = Firmware::new(alloc, 4096)?;
     firmware.boot(4096);

@@ -16,7 +16,7 @@ use Rattle.sof_base.proofs.SampleLaws.{map-range_same}
 use Rattle.fw_gain.proofs.KernelLaws.{map-range-split, map-range-shifted, channel-after}
 use Rattle.fw_demux.specs.Splits.{all_kept, keep_of, eight_keeps, IsKeep, kept_by}
 
--- whole frames, and what is behind them
+-- whole frames, and what is after them
 pub kept-append : (channels mask : ℕ) (xs ys : List ℤ) → 1 ≤ channels → length xs % channels ≡ 0 → all_kept channels mask (xs ++ ys) ≡ all_kept channels mask xs ++ all_kept channels mask ys
 kept-append channels mask xs ys some whole =
     let made = λ (l : List ℤ) (i : ℕ). kept_sample mask (i % channels) (sample_of l i) in

@@ -109,7 +109,7 @@ next-told id staged next remaining part turn header left turn_is header_is left_
 
 -- ---- bytes that are joined
 
--- the bytes before a part, with its own behind them
+-- the bytes before a part, with its own after them
 pub join-is : (old mid new header own tail : List ℕ) (index at end : ℕ) → mid ≡ cond (index == 0) (header ++ drop 32 old) old → at ≡ 32 + 260 * index → end ≡ at + length own → at ≤ length mid → length old ≡ 1024 → length mid ≡ 1024 → new ≡ take at mid ++ (own ++ tail)
     → take end new ≡ cond (index == 0) header (take (32 + 260 * index) old) ++ own
 join-is old mid new header own tail index at end mid_is at_is end_is within old_long mid_long is =
@@ -212,7 +212,7 @@ some-own false xs own e = absurd (cc e)
 pub some-whole : (o : Option (List ℕ)) (xs : List ℕ) (most : ℕ) → length xs ≤ most → o ≡ cond (nat_le (length xs) most) (Some xs) None → o ≡ Some xs
 some-whole o xs most few is = is ∙ ap (λ h. cond {A = Option (List ℕ)} h (Some xs) None) (le-leb (length xs) most few)
 
--- a part is cut out of the bytes behind the header
+-- a part is cut out of the bytes after the header
 pub cut-told : (blob header behind rest bytes : List ℕ) (index len n : ℕ) → n ≡ (length blob - 32 + 259) / 260 → index < n → header ≡ take 32 blob → behind ≡ drop 32 blob → rest ≡ take (length behind - 260 * index) (drop (260 * index) behind) → len ≡ min (length rest) 260 → bytes ≡ take len rest
     → Some (record { header = header; remaining = length rest - len; index = index; bytes = bytes }) ≡ cond (nat_lt index (parts blob)) (Some (blob_part blob index)) None
 cut-told blob header behind rest bytes index len n n_is before header_is behind_is rest_is len_is bytes_are =

@@ -5,7 +5,7 @@ ghost use Rattle.mbox_link.specs.BlobParts.{parts, blob_part};
 use eq_biquad::Eq;
 use sof_base::{Bounded, Part};
 
-// How many parts a blob of so many bytes has: all but the last carry 260 of those behind the header.
+// How many parts a blob of so many bytes has: all but the last carry 260 of those after the header.
 fn count_of(len: usize) -> u32
     requires { len ≤ 1024 }
     ensures { result ≡ (len - 32 + 259) / 260 }

@@ -1,5 +1,5 @@
 //! The parts in which an equaliser's blob comes and goes, after the binary controls of the firmware's IPC3: all but the last carry 260
-//! bytes behind the header of 32. Parts that come are staged in the equaliser's piece, and the last one puts the blob in force.
+//! bytes after the header of 32. Parts that come are staged in the equaliser's piece, and the last one puts the blob in force.
 #![tactic(auto)]
 
 mod cutting;

@@ -12,7 +12,7 @@ ghost use Rattle.fw_parts.specs.Staged.{staging_in, fits_behind, CanBeStaged};
 use eq_biquad::{Eq, check};
 use sof_base::{Bounded, Part};
 
-// How many bytes come with a part and behind it.
+// How many bytes come with a part and after it.
 fn left_of(part: &Part) -> u64
     ensures { result ≡ bytes_left part.now }
 {
@@ -103,7 +103,7 @@ fn begin(part: &Part, bytes: &mut [u8; 1024])
     }
 }
 
-// Puts a part behind the staged bytes before it, part 0 behind its header. The place behind it comes back.
+// Puts a part after the staged bytes before it, part 0 after its header. The place after it comes back.
 fn join(part: &Part, bytes: &mut [u8; 1024]) -> usize
     requires { 32 + 260 * part.now.index + length part.now.bytes ≤ 1024 }
     ensures end { result ≡ 32 + 260 * part.now.index + length part.now.bytes }
@@ -116,7 +116,7 @@ fn join(part: &Part, bytes: &mut [u8; 1024]) -> usize
     end
 }
 
-/// The staged bytes with a part behind them; none where it is not the next one, or where it is the last and they are no blob. So many
+/// The staged bytes with a part after them; none where it is not the next one, or where it is the last and they are no blob. So many
 /// parts came before it, and so many bytes of the blob are still to come.
 pub fn joined(eq: &Eq, next: u32, remaining: u32, part: &Part) -> Option<Bounded<u8, 1024>>
     requires { 260 * next + remaining ≤ 992 }

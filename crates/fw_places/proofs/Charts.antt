@@ -138,7 +138,7 @@ pub places-within : (ids : List ℕ) (n : ℕ) → length ids < n → (joins : L
 places-within ids n few [] = tt
 places-within ids n few (j ∷ joins) = ((omega (arith, few, place-most ids j.source), omega (arith, few, place-most ids j.sink)), places-within ids n few joins)
 
--- no walk leads to the place behind the last
+-- no walk leads to the place after the last
 pub none-past : (back : Bool) (ids : List ℕ) (joins : List Join) → AllByRecursion (IsListed ids) joins → (old new : List Bool)
     → ((q : ℕ → Bool) → IsClosed back (map (by_places ids) joins) q → ((k : ℕ) → get_or old k false ≡ true → q k ≡ true) → (k : ℕ) → get_or new k false ≡ true → q k ≡ true)
     → get_or old (length ids) false ≡ false → get_or new (length ids) false ≡ false

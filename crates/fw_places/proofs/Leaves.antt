@@ -33,7 +33,7 @@ module _ (back : Bool) (joins : List Join) (x : ℕ) where
       by true same is rest = absurd (omega (arith, is))
       by false other is rest = below_more (λ m. near_of back (at m) ≢ x) n (rest is) (λ same. true≢false (sym (eq-eqb (near_of back (at n)) x same) ∙ other))
 
-  -- the last one does, and none behind it
+  -- the last one does, and none after it
   pub last-one : (n k : ℕ) → last_from back joins n x ≡ suc k → (k < n) × ((near_of back (at k) ≡ x) × ((m : ℕ) → m < n → k < m → near_of back (at m) ≢ x))
   last-one zero k is = absurd (omega (arith, is))
   last-one (suc n) k is = by (near_of back (at n) == x) refl is (last-one n k)

@@ -22,7 +22,7 @@ pub record AreFound (marks : List Bool) (found : List ℕ) : Type 0 where
   pub marked : (j : ℕ) → j < length found → slice_index_or marks (slice_index_or found j 0) false ≡ true
   pub all : (k : ℕ) → slice_index_or marks k false ≡ true → is_among found k ≡ true
 
--- what was marked stays so, and more may be found behind what was found
+-- what was marked stays so, and more may be found after what was found
 pub record GoOn (marks marks' : List Bool) (found found' : List ℕ) : Type 0 where
   pub size : length marks' ≡ length marks
   pub kept : (k : ℕ) → slice_index_or marks k false ≡ true → slice_index_or marks' k false ≡ true

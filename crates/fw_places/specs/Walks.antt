@@ -34,7 +34,7 @@ abbrev pub leads_by : Bool → List Join → ℕ → ℕ → Bool
 leads_by true joins a b = leads joins (length joins) b a
 leads_by false joins a b = leads joins (length joins) a b
 
--- the place of an id in a list; where it is not there, the place behind the last
+-- the place of an id in a list; where it is not there, the place after the last
 abbrev pub place_in : List ℕ → ℕ → ℕ
 place_in ids x = position_or_len (λ y. y == x) ids
 

@@ -53,7 +53,7 @@ impl Places {
         self.ids.as_slice()
     }
 
-    /// The place of an id; where it is not listed, the place behind the last.
+    /// The place of an id; where it is not listed, the place after the last.
     pub fn place(&self, id: u32) -> usize
         ensures place { result ≡ place_in self.now.ids id }
         ensures within { result ≤ 256 }
@@ -211,7 +211,7 @@ fn lower(firsts: &mut [u16], byte: usize, place: u16)
     }
 }
 
-// The place of an id, first looked for where its last byte is noted; where it is not there, the place behind the last.
+// The place of an id, first looked for where its last byte is noted; where it is not there, the place after the last.
 fn place_by(ids: &[u32], firsts: &[u16], id: u32) -> usize
     requires size { length firsts.now ≡ 256 }
     requires noted { (k : ℕ) → k < length ids.now → slice_index_or firsts.now (slice_index_or ids.now k 0 % 256) 0 ≤ k }
@@ -225,7 +225,7 @@ fn place_by(ids: &[u32], firsts: &[u16], id: u32) -> usize
     place_of(ids, id)
 }
 
-// The place of an id; where it is not there, the place behind the last.
+// The place of an id; where it is not there, the place after the last.
 fn place_of(ids: &[u32], id: u32) -> usize
     ensures place { result ≡ place_in ids.now id }
     ensures within { result ≤ length ids.now }

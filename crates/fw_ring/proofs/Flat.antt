@@ -4,7 +4,7 @@ use Rattle.std.proofs.lemmas.List.{take-take, take_at, drop_at, drop-take, take-
 use Rattle.sof_base.specs.Samples.{Frame}
 use Rattle.sof_base.specs.FrameLists.{AreFrames, frames_of, samples_of}
 
--- the samples of frames, and of those behind them
+-- the samples of frames, and of those after them
 pub samples-append : (xs ys : List Frame) → samples_of (xs ++ ys) ≡ samples_of xs ++ samples_of ys
 samples-append [] ys = refl
 samples-append (x ∷ xs) ys = ap (λ (t : List ℤ). x ++ t) (samples-append xs ys) ∙ sym (append_assoc x (samples_of xs) (samples_of ys))

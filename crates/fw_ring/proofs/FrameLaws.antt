@@ -11,7 +11,7 @@ pub length-frames : (c n : ℕ) (ws : List ℤ) → length (frames_of c n ws) �
 length-frames c zero ws = refl
 length-frames c (suc n) ws = ap suc (length-frames c n (drop c ws))
 
--- frames and those behind them
+-- frames and those after them
 pub frames-more : (c a b : ℕ) (ws : List ℤ) → frames_of c (a + b) ws ≡ frames_of c a ws ++ frames_of c b (drop (a * c) ws)
 frames-more c zero b ws =
     let n : 0 + b ≡ b = omega arith in let p : 0 * c ≡ 0 = omega arith in
@@ -31,14 +31,14 @@ frames-take c (suc n) ws =
     ∙ ap (λ (t : List ℤ). take c ws ∷ frames_of c n t) (ap (λ k. drop c (take k ws)) p ∙ drop-take c (n * c) ws)
     ∙ ap (λ (t : List Frame). take c ws ∷ t) (frames-take c n (drop c ws))
 
--- frames of words and of those behind them
+-- frames of words and of those after them
 pub frames-append : (c a b : ℕ) (xs ys : List ℤ) → length xs ≡ a * c → frames_of c (a + b) (xs ++ ys) ≡ frames_of c a xs ++ frames_of c b ys
 frames-append c a b xs ys long =
     frames-more c a b (xs ++ ys)
     ∙ ap (λ (t : List ℤ). frames_of c a (xs ++ ys) ++ frames_of c b t) (drop_at xs ys (a * c) long)
     ∙ ap (λ (t : List Frame). t ++ frames_of c b ys) (sym (frames-take c a (xs ++ ys)) ∙ ap (frames_of c a) (take_at xs ys (a * c) long))
 
--- frames of the first words, and of those behind them
+-- frames of the first words, and of those after them
 pub frames-front : (c a b : ℕ) (ws : List ℤ) → frames_of c a (take (a * c) ws) ++ frames_of c b (drop (a * c) ws) ≡ frames_of c (a + b) ws
 frames-front c a b ws = ap (λ (t : List Frame). t ++ frames_of c b (drop (a * c) ws)) (frames-take c a ws) ∙ sym (frames-more c a b ws)
 
@@ -86,7 +86,7 @@ frames-whole c (suc n) ws long =
     let p : suc n * c ≡ c + n * c = omega arith in
     (omega (arith, p, length-take c ws), frames-whole c n (drop c ws) (omega (arith, p, length-drop c ws)))
 
--- the bytes of the frames behind the first ones
+-- the bytes of the frames after the first ones
 pub rest-whole : (a n m : ℕ) → a ≤ n → n * m - a * m ≡ (n - a) * m
 rest-whole a n m le = let all : n ≡ a + (n - a) = omega arith in let e : n * m ≡ a * m + (n - a) * m = ap (λ k. k * m) all ∙ omega arith in omega (arith, e)
 

@@ -25,7 +25,7 @@ frames-read format c n bytes =
     ∙ get_or-map-range_with_len (λ k. sample_in_of format bytes (0 + k * w)) 0 (n * c) (j * c + k) (j * c + k) (pos 0) under (omega arith)
     ∙ ap (sample_in_of format bytes) (let e : 0 + (j * c + k) * w ≡ 0 + j * (c * w) + k * w = omega arith in e)))
 
--- frames of the first bytes, and of those behind them
+-- frames of the first bytes, and of those after them
 pub frames_in-more : (format : Format) (c a b : ℕ) (bytes : List ℕ) → length bytes ≡ (a + b) * (c * width format) → frames_in format c (take (a * (c * width format)) bytes) 0 a ++ frames_in format c (drop (a * (c * width format)) bytes) 0 b ≡ frames_in format c bytes 0 (a + b)
 frames_in-more format c a b bytes long =
     let m : ℕ = c * width format in let front = take (a * m) bytes in let back = drop (a * m) bytes in

@@ -27,7 +27,7 @@ pub length-window : (w : Window) (words : List ℤ) → IsWindow w → length (w
 unfolding window_frames
 length-window w words is = length-round w.start w.held (frames_of w.channels w.capacity words) (omega (arith, length-frames w.channels w.capacity words, is.start)) (omega (arith, length-frames w.channels w.capacity words, is.held))
 
--- what is put into the words behind the last frame
+-- what is put into the words after the last frame
 pub window-put : (w : Window) (words : List ℤ) (count at : ℕ) (xs : List ℤ) → IsWindow w → length words ≡ w.words → w.held + count ≤ w.capacity → at ≡ wrapped w.capacity w.start w.held → at + count ≤ w.capacity → length xs ≡ count * w.channels → window_frames (fuller w count) (put_mid (at * w.channels) (count * w.channels) words xs) ≡ window_frames w words ++ frames_of w.channels count xs
 unfolding window_frames
 window-put w words count at xs is long fit here near size =

@@ -4,7 +4,7 @@ use Rattle.fw_ring.specs.declared.ring.Ring.TheInside.{Inside}
 use Rattle.fw_ring.specs.RingState.{RingState}
 use Rattle.fw_ring.specs.RingWords.{IsWindow, window_frames}
 
--- the words for samples: those behind the first 32 bytes
+-- the words for samples: those after the first 32 bytes
 unfoldable pub own_words : ℕ → List ℤ → List ℤ
 own_words n words = take n (drop 8 words)
 

@@ -4,7 +4,7 @@ use Rattle.sof_base.specs.Samples.{Frame}
 use Rattle.sof_base.specs.FrameLists.{AreFrames}
 use Rattle.fw_heap.specs.Pieces.{PieceState}
 
--- its frames, the oldest first; how many words there are for samples, behind the first 32 bytes of the piece; the samples of a
+-- its frames, the oldest first; how many words there are for samples, after the first 32 bytes of the piece; the samples of a
 -- frame; and the word of these at which the first frame begins
 pub record RingState : Type 0 where
   pub frames : List Frame

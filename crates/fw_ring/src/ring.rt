@@ -12,7 +12,7 @@ use fw_heap::Piece;
 use sof_base::{Format, Sample};
 use std::marker::Model;
 
-/// Frames in the words of a piece behind its first 32 bytes.
+/// Frames in the words of a piece after its first 32 bytes.
 pub struct Ring {
     piece: Piece,
     window: Window,
@@ -164,7 +164,7 @@ impl Ring {
     }
 }
 
-/// Appends the frames of these samples to those of a window of the words behind the first eight.
+/// Appends the frames of these samples to those of a window of the words after the first eight.
 fn extend(words: &mut [Sample], window: Window, samples: &[Sample]) -> Window
     requires window { IsWindow window }
     requires words { 8 + window.words ≤ length words.old }
@@ -177,7 +177,7 @@ fn extend(words: &mut [Sample], window: Window, samples: &[Sample]) -> Window
     window.extended(&mut words[8..8 + window.words], count, samples)
 }
 
-/// Appends the frames of these samples times gains to those of a window of the words behind the first eight.
+/// Appends the frames of these samples times gains to those of a window of the words after the first eight.
 fn extend_amplified(
     words: &mut [Sample],
     window: Window,
@@ -203,7 +203,7 @@ fn extend_amplified(
     )
 }
 
-/// Appends the frames of these bytes to those of a window of the words behind the first eight.
+/// Appends the frames of these bytes to those of a window of the words after the first eight.
 fn extend_by(words: &mut [Sample], window: Window, format: Format, n: u32, bytes: &[u8]) -> Window
     requires window { IsWindow window }
     requires words { 8 + window.words ≤ length words.old }

@@ -13,7 +13,7 @@ use Rattle.stream_law.specs.declared.stream.Phase.{Phase}
 use Rattle.stream_law.specs.declared.stream.StreamView.{StreamView}
 use Rattle.stream_law.specs.State.{View}
 use Rattle.stream_law.specs.Ways.{comp_of, pipe_of, components}
-use Rattle.stream_law.specs.Moves.{is_choosy, chooses, period}
+use Rattle.stream_law.specs.Moves.{skips_idle_inputs, chooses, period}
 use Rattle.stream_law.specs.Endpoints.{is_input, format_by, format_of}
 use Rattle.fw_heap.specs.Pieces.{PieceState}
 use Rattle.fw_units.specs.declared.component.Unit as units
@@ -37,9 +37,9 @@ kind-passes passes (Some x) k e = let same : x.kind ≡ k = cc e in ap passes sa
 pub same-kind : (o : Option Comp) (x : Comp) (k : Kind) → o ≡ Some x → option_map (λ x. x.kind) o ≡ Some k → k ≡ x.kind
 same-kind o x k is e = let both : Some x.kind ≡ Some k = ap (option_map (λ (x : Comp). x.kind)) (sym is) ∙ e in cc
 
-pub chooses-by : (v : View) (c : ℕ) (k : Kind) → option_map (λ x. x.kind) (comp_of v.graph c) ≡ Some k → chooses v c ≡ is_choosy k
+pub chooses-by : (v : View) (c : ℕ) (k : Kind) → option_map (λ x. x.kind) (comp_of v.graph c) ≡ Some k → chooses v c ≡ skips_idle_inputs k
 unfolding chooses
-chooses-by v c k e = kind-passes (λ k. is_choosy k) (comp_of v.graph c) k e
+chooses-by v c k e = kind-passes (λ k. skips_idle_inputs k) (comp_of v.graph c) k e
 
 -- ---- formats
 
@@ -99,7 +99,7 @@ module _ (t : Tables) (kept : IsKept t) (at : ℕ) (low : at < length t.comps) (
   pub kind-at : option_map (λ x. x.kind) (comp_of (graph_of t) d.id) ≡ Some (kind_by d.unit)
   kind-at = ap (option_map (λ (x : Comp). x.kind)) comp-at
 
-  pub chooses-at : is_choosy (kind_by d.unit) ≡ chooses (view_by t) d.id
+  pub chooses-at : skips_idle_inputs (kind_by d.unit) ≡ chooses (view_by t) d.id
   chooses-at = sym (chooses-by (view_by t) d.id (kind_by d.unit) kind-at)
 
   pub format-at : (is_input (kind_by d.unit) || is_output_kind (kind_by d.unit)) ≡ true → unit_format d.unit ≡ format_of (view_by t) d.id

@@ -13,7 +13,7 @@ use Rattle.stream_law.specs.declared.graph.Comp.{Comp}
 use Rattle.stream_law.specs.declared.graph.Setting.{Setting}
 use Rattle.stream_law.specs.State.{View}
 use Rattle.stream_law.specs.Ways.{comp_of, channels_of, outputs, splits}
-use Rattle.stream_law.specs.Moves.{is_choosy, chooses}
+use Rattle.stream_law.specs.Moves.{skips_idle_inputs, chooses}
 use Rattle.stream_law.specs.Joins.{fits_kind}
 use Rattle.stream_law.specs.Made.{Passing, frames_by, frames_made, frames_at_output, frames_for}
 use Rattle.stream_law.specs.Endpoints.{format_by, format_of, is_input, reads, bytes_by, bytes_written}
@@ -25,9 +25,9 @@ all-for kind setting v c at frames whole = refl
 -- ---- a component by its kind
 
 module _ (v : View) (c : ℕ) (x : Comp) (is : comp_of v.graph c ≡ Some x) (k : Kind) (kind : x.kind ≡ k) where
-  pub chooses-of : chooses v c ≡ is_choosy k
+  pub chooses-of : chooses v c ≡ skips_idle_inputs k
   unfolding chooses
-  chooses-of = ap (λ o. option_map_or (λ y. is_choosy y.kind) o false) is ∙ ap is_choosy kind
+  chooses-of = ap (λ o. option_map_or (λ y. skips_idle_inputs y.kind) o false) is ∙ ap skips_idle_inputs kind
 
   pub made-of : (n : ℕ) (read : List Frame) (slices : List (ℕ × List Frame)) (equalise amplify : Passing) → frames_made v c n read slices equalise amplify ≡ frames_by k x.setting v c n read slices equalise amplify
   unfolding frames_made
@@ -58,7 +58,7 @@ pub record IsSource (k : Kind) : Type 0 where
   pub made : (setting : Setting) (v : View) (c n : ℕ) (read : List Frame) (slices : List (ℕ × List Frame)) (equalise amplify : Passing) → frames_by k setting v c n read slices equalise amplify ≡ read
   pub silent : (v : View) (c n most : ℕ) (frames : List Frame) → bytes_by k v c n most frames ≡ []
   pub reads : is_input k ≡ true
-  pub picks : is_choosy k ≡ false
+  pub picks : skips_idle_inputs k ≡ false
   pub whole : splits k ≡ false
   pub fits : (m n : ℕ) → fits_kind k m n ≡ true → (m ≡ 0) × (n ≡ 1)
 
@@ -91,7 +91,7 @@ pub record IsSink (k : Kind) (more : ℕ → ℕ → ℕ) : Type 0 where
   pub made : (setting : Setting) (v : View) (c n : ℕ) (read : List Frame) (slices : List (ℕ × List Frame)) (equalise amplify : Passing) → frames_by k setting v c n read slices equalise amplify ≡ []
   pub written : (v : View) (c n most : ℕ) (frames : List Frame) → format_of v c ≡ format_by v c k → bytes_by k v c n most frames ≡ frames_out (format_of v c) frames ++ replicate (more most n * (channels_of v c * width (format_of v c))) 0
   pub reads : is_input k ≡ false
-  pub picks : is_choosy k ≡ false
+  pub picks : skips_idle_inputs k ≡ false
   pub fits : (m n : ℕ) → fits_kind k m n ≡ true → (m ≡ 1) × (n ≡ 0)
 
 pub host-capture : IsSink HostCapture (λ most n. 0)

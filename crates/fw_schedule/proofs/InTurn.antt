@@ -50,7 +50,7 @@ room-kept c d (o ∷ old) (n ∷ new) apart grew room = by_slot (o.slot == d) re
     by_slot true here same low rest = subst (λ h. 61440 ≤ cond h (1048576 - length n.bytes) (room_at d new)) (sym (same ∙ here)) (let few = short here in omega (arith, low, few))
     by_slot false here same low rest = subst (λ h. 61440 ≤ cond h (1048576 - length n.bytes) (room_at d new)) (sym (same ∙ here)) (rest low)
 
--- those behind one have their room after it
+-- those after one have their room after it
 room-behind : (c : ℕ) (ids : List ℕ) (old new : List OutputView) → Grew (c ∷ []) old new → AllByRecursion (λ d. (c == d) ≡ false) ids → AllByRecursion (λ c. 61440 ≤ room_at c old) ids → AllByRecursion (λ c. 61440 ≤ room_at c new) ids
 room-behind c [] old new grew apart room = tt
 room-behind c (d ∷ ids) old new grew apart room = (room-kept c d old new apart.0 grew room.0, room-behind c ids old new grew apart.1 room.1)

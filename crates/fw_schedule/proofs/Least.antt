@@ -26,7 +26,7 @@ pub least-last : (n m : ℕ) (ms : List ℕ) → least n (ms ++ m ∷ []) ≡ le
 least-last n m [] = refl
 least-last n m (k ∷ ms) = ap (min k) (least-last n m ms)
 
--- those of a list before those behind it
+-- those of a list before those after it
 pub least-append : (n : ℕ) (xs ys : List ℕ) → least n (xs ++ ys) ≡ least (least n ys) xs
 least-append n [] ys = refl
 least-append n (x ∷ xs) ys = ap (min x) (least-append n xs ys)

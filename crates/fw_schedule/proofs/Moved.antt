@@ -64,7 +64,7 @@ frames-looked v t held free c looked fed run look feed one some =
 -- ---- endpoints
 
 module _ (v : View) (blobs : ℕ → List ℕ) (t c : ℕ) (io : Io) (a : Audio) where
-  -- bytes are taken of its slot's input, and put behind its slot's output
+  -- bytes are taken of its slot's input, and put after its slot's output
   pub io-moved : HasDistinct (λ x. x.slot) io.inputs → HasDistinct (λ x. x.slot) io.outputs → io_after io (after_move v blobs t c a) ≡ record { inputs = taken c (bytes_moved v blobs t c a) (io_after io a).inputs; outputs = with_piece c (bytes_now v blobs t c a) (io_after io a).outputs }
   io-moved inputs outputs = λ i. record {
     inputs = shown-taken c (bytes_moved v blobs t c a) (λ x. number_of a.positions x) (λ x. list_of a.left x) io.inputs inputs i;
@@ -113,7 +113,7 @@ module _ (v : View) (blobs : ℕ → List ℕ) (t c : ℕ) (io : Io) (a : Audio)
   pub writes-idle : runs v t c ≡ false → bytes_now v blobs t c a ≡ []
   writes-idle off = ap (λ h. cond h (bytes_written v c (frames_moved v blobs t c a) (quota v t c) (only_slice (fronts v blobs t c a))) []) off
 
-  -- one that feeds one edge and takes from none puts its frames behind those of the edge
+  -- one that feeds one edge and takes from none puts its frames after those of the edge
   pub rings-fed : (b : ℕ) → looked_now v blobs t c a ≡ [] → fed_by v c ≡ b ∷ [] → (x : ℕ) → list_of (after_move v blobs t c a).rings x ≡ cond (b == x) (list_of a.rings b ++ frames_for v c b (made_now v blobs t c a)) (list_of a.rings x)
   rings-fed b look feed x =
       λ i. list_of (updated (feed i) (λ b. list_of a.rings b ++ frames_for v c b (made_now v blobs t c a)) (updated (look i) (λ b. drop (frames_moved v blobs t c a) (list_of a.rings b)) a.rings)) x
@@ -123,7 +123,7 @@ module _ (v : View) (blobs : ℕ → List ℕ) (t c : ℕ) (io : Io) (a : Audio)
   rings-drained b look feed x =
       λ i. list_of (updated (feed i) (λ b. list_of a.rings b ++ frames_for v c b (made_now v blobs t c a)) (updated (look i) (λ b. drop (frames_moved v blobs t c a) (list_of a.rings b)) a.rings)) x
 
-  -- one that takes from some edges and feeds some drops its frames of each, and puts what each that it feeds gets behind those of it
+  -- one that takes from some edges and feeds some drops its frames of each, and puts what each that it feeds gets after those of it
   pub rings-made : (ids fed : List ℕ) → looked_now v blobs t c a ≡ ids → fed_by v c ≡ fed → (x : ℕ)
       → list_of (after_move v blobs t c a).rings x ≡ cond (is_among fed x) (list_of a.rings x ++ frames_for v c x (made_now v blobs t c a)) (cond (is_among ids x) (drop (frames_moved v blobs t c a) (list_of a.rings x)) (list_of a.rings x))
   rings-made ids fed look feed x =

@@ -90,7 +90,7 @@ found-id b (x ∷ cs) c e = by (x.id == b) (eqb-true x.id b) e (found-id b cs c)
     by true same e rest = ap (λ (y : Component). y.id) (sym (ap or e)) ∙ same refl
     by false same e rest = rest e
 
--- ---- frames behind those of a buffer
+-- ---- frames after those of a buffer
 
 module _ (b : ℕ) (fs : List Frame) (w : List ℤ) (t : Tables) where
   pub has-pushed : (x : ℕ) → has_id (pushed b fs w t).buffers x ≡ has_id t.buffers x

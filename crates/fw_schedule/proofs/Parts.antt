@@ -78,7 +78,7 @@ module _ (id b channels : ℕ) (format : Format) (a k : ℕ) (t t1 : Tables) (io
 
 -- ---- outputs
 
--- room for a piece, and for more behind it
+-- room for a piece, and for more after it
 pub room-left : (id n k : ℕ) (piece : List ℕ) (out : List OutputView) → length piece ≡ n → n + k ≤ room_at id out → k ≤ room_at id (with_piece id piece out)
 room-left id n k piece out size room = by (has_slot id (output_slots out)) refl
   where

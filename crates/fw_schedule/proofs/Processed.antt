@@ -16,7 +16,7 @@ use Rattle.stream_law.specs.State.{View, RingView, History}
 use Rattle.stream_law.specs.Table.{table, list_of}
 use Rattle.stream_law.specs.Ways.{ins, outs, buffers, comp_of, is_of, source_of, sink_of, is_end, active, active_end, live, rate_of, channels_of, splits}
 use Rattle.stream_law.specs.Joins.{fits_kind}
-use Rattle.stream_law.specs.Moves.{runs, quota, chooses, is_choosy, looks, looked_at, fed as edge_fed, fed_by, is_empty, least}
+use Rattle.stream_law.specs.Moves.{runs, quota, chooses, skips_idle_inputs, looks, looked_at, fed as edge_fed, fed_by, is_empty, least}
 use Rattle.stream_law.specs.Order.{is_among}
 use Rattle.stream_law.specs.Made.{only_slice, frames_made, frames_for}
 use Rattle.stream_law.specs.Seen.{is_equaliser, is_volume, keeps_numbers, remembers, blob_in, gains_in, ramp_length}
@@ -62,7 +62,7 @@ pub record IsMaker (k : Kind) : Type 0 where
   pub reads : is_input k ≡ false
   pub some : (m n : ℕ) → fits_kind k m n ≡ true → 1 ≤ n
   pub single : (m n : ℕ) → fits_kind k m n ≡ true → splits k ≡ false → n ≡ 1
-  pub alone : (m n : ℕ) → fits_kind k m n ≡ true → is_choosy k ≡ false → m ≡ 1
+  pub alone : (m n : ℕ) → fits_kind k m n ≡ true → skips_idle_inputs k ≡ false → m ≡ 1
   pub few : (m n : ℕ) → fits_kind k m n ≡ true → m ≤ 8
 
 two-numbers : (m n a b : ℕ) → ((m == a) && (n == b)) ≡ true → (m ≡ a) × (n ≡ b)
@@ -110,7 +110,7 @@ keeps-equaliser g c keeps other = by (comp_of g c) keeps other
     by (Some x) keeps other = kind x.kind keeps other
 
 -- a unit of such a kind moves so many
-unit-moves : (u : units.Unit) (inlets : ℕ) → is_plain u ≡ true → (not (is_input (kind_by u)) && not (is_output_kind (kind_by u))) ≡ true → (is_choosy (kind_by u) ≡ false → inlets ≡ 1) → moves_of u inlets ≡ true
+unit-moves : (u : units.Unit) (inlets : ℕ) → is_plain u ≡ true → (not (is_input (kind_by u)) && not (is_output_kind (kind_by u))) ≡ true → (skips_idle_inputs (kind_by u) ≡ false → inlets ≡ 1) → moves_of u inlets ≡ true
 unit-moves (Volume gains ramp from done frames piece) inlets plain is one = eq-eqb inlets 1 (one refl)
 unit-moves (Mixer piece) inlets plain is one = refl
 unit-moves (Mux choice piece) inlets plain is one = refl
@@ -316,7 +316,7 @@ module _ (t : Tables) (kept : IsKept t) (can : CanTick t) (id : ℕ) (there : Is
       ap (λ (o : Option Component). option_map_or (λ c. moves_of c.unit inlets) o false) own.1
       ∙ unit-moves own.0.unit inlets (in-all (λ (c : Component). is_plain c.unit ≡ true) t.comps own.0 kept.plain own-in.0)
       (ap (λ (x : Comp). is_maker x.kind) own.2 ∙ there.kind)
-      (λ plain. one (chooses-of v id there.comp there.is there.comp.kind refl ∙ ap (λ (x : Comp). is_choosy x.kind) (sym own.2) ∙ plain))
+      (λ plain. one (chooses-of v id there.comp there.is there.comp.kind refl ∙ ap (λ (x : Comp). skips_idle_inputs x.kind) (sym own.2) ∙ plain))
 
   -- and feeds so many
   pub feeds : (fed : List ℕ) → fed ≡ fed_by v id → 1 ≤ length fed → feeds_at t id (length fed) ≡ true

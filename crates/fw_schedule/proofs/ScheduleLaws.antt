@@ -11,7 +11,7 @@ use Rattle.stream_law.specs.declared.graph.Comp.{Comp}
 use Rattle.stream_law.specs.declared.graph.Edge.{Edge}
 use Rattle.stream_law.specs.State.{View}
 use Rattle.stream_law.specs.Ways.{comp_of, pipe_of, components, buffers, source_of, sink_of, is_end, on_way, is_live_phase, is_running_phase, live, active, live_params, rate_of, channels_of}
-use Rattle.stream_law.specs.Moves.{period, fed, fed_by, chooses, is_choosy}
+use Rattle.stream_law.specs.Moves.{period, fed, fed_by, chooses, skips_idle_inputs}
 use Rattle.stream_law.specs.Endpoints.{format_by, format_of}
 use Rattle.stream_law.specs.Order.{is_among, is_ready, least_of, without, placed_from, order}
 use Rattle.stream_law.specs.Stays.{SameWays}
@@ -111,7 +111,7 @@ module _ (v w : View) (keeps : KeepsSteps v w) where
 
   chooses-same : (c : ℕ) → chooses v c ≡ chooses w c
   unfolding chooses
-  chooses-same c = by-kind (λ k. is_choosy k) false (comp_of v.graph c) (comp_of w.graph c) (keeps.ways.kinds c)
+  chooses-same c = by-kind (λ k. skips_idle_inputs k) false (comp_of v.graph c) (comp_of w.graph c) (keeps.ways.kinds c)
 
   inlets-same : (c : ℕ) → inlets_of v c ≡ inlets_of w c
   inlets-same c = λ i. filter (λ b. not (chooses-same c i) || option_map_or (λ x. active-same x i) (source-same b i) false) (filter (λ b. is_end (sink-same b i) c) (buffers-same i))

@@ -77,7 +77,7 @@ shown-left c position left (x ∷ inputs) none = by_case (x.slot == c) refl (sho
 
 -- ---- outputs
 
--- outputs with these bytes behind their own
+-- outputs with these bytes after their own
 abbrev pub shown_outputs : (ℕ → List ℕ) → List OutputView → List OutputView
 shown_outputs written outputs = map (λ x. record { slot = x.slot; bytes = x.bytes ++ written x.slot }) outputs
 
@@ -86,7 +86,7 @@ outputs-apart c bytes written [] apart = refl
 outputs-apart c bytes written (x ∷ outputs) apart =
     λ i. record { slot = x.slot; bytes = x.bytes ++ cond (apart.0 i) bytes (written x.slot) } ∷ outputs-apart c bytes written outputs apart.1 i
 
--- a piece is put behind one slot's bytes
+-- a piece is put after one slot's bytes
 pub shown-put : (c : ℕ) (piece : List ℕ) (written : ℕ → List ℕ) (outputs : List OutputView) → HasDistinct (λ x. x.slot) outputs → shown_outputs (λ x. cond (c == x) (written c ++ piece) (written x)) outputs ≡ with_piece c piece (shown_outputs written outputs)
 unfolding IsDistinct
 shown-put c piece written [] distinct = refl

@@ -1,4 +1,4 @@
--- What a step says stays so as ids come behind those that are there.
+-- What a step says stays so as ids come after those that are there.
 use Rattle.std.proofs.Common.{◌≡◌, refl, sym, ap, ◌∙◌, ℕ, zero, suc, ◌-◌, ◌≤◌, List, [], ◌∷◌, ◌++◌, length, length-append, take, drop, length-drop, arith}
 use Rattle.std.proofs.lemmas.List.{drop-append-le, take-append-le, take_all}
 use Rattle.std.proofs.Math.Seq.{drop-append_seam}
@@ -15,7 +15,7 @@ front-more ids more a b some low =
     ap (take (b - a)) (drop-append-le a ids more (omega (arith, some, low)))
     ∙ take-append-le (b - a) (drop a ids) more (omega (arith, some, low, length-drop a ids))
 
--- those behind the others
+-- those after the others
 pub behind : (ids more : List ℕ) (a b : ℕ) → a ≡ length ids → b ≡ length (ids ++ more) → take (b - a) (drop a (ids ++ more)) ≡ more
 behind ids more a b first past =
     ap (λ n. take (b - a) (drop n (ids ++ more))) first

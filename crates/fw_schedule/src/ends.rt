@@ -10,7 +10,7 @@ use arrayvec::ArrayVec;
 use fw_components::{Component, Registry};
 use fw_walks::{active as is_active, live as is_live, sink_in, source_in};
 
-/// The buffers that a component feeds come behind the ids that are there.
+/// The buffers that a component feeds come after the ids that are there.
 pub(crate) fn add_outlets(registry: &Registry, id: u32, ends: &mut ArrayVec<u32, 256>)
     requires room { length ends.old.items + length (fed_by (view_by registry.now) id) ≤ 256 }
     ensures { ends.new.items ≡ ends.old.items ++ fed_by (view_by registry.now) id }
@@ -32,7 +32,7 @@ fn is_fed(registry: &Registry, buffer: &Component, id: u32) -> bool
         && is_active_end(registry, sink_in(&buffer.unit))
 }
 
-/// The buffers that a component may look at come behind the ids that are there: all into it, or where it chooses those whose source
+/// The buffers that a component may look at come after the ids that are there: all into it, or where it chooses those whose source
 /// is Active.
 pub(crate) fn add_inlets(registry: &Registry, id: u32, chooses: bool, ends: &mut ArrayVec<u32, 256>)
     requires chooses { chooses ≡ is_choosing (view_by registry.now) id }

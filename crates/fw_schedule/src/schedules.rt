@@ -41,7 +41,7 @@ impl Schedule {
     }
 }
 
-// The step of the component at a place, whose inlets and then the buffers that it feeds come behind the ids that are there.
+// The step of the component at a place, whose inlets and then the buffers that it feeds come after the ids that are there.
 fn step_at(registry: &Registry, at: usize, ends: &mut ArrayVec<u32, 256>) -> Step
     requires there { at < length registry.now.comps }
     requires room { length ends.old.items + length (step_edges (view_by registry.now) (slice_index (components (graph_of registry.now)) at)) ≤ 256 }

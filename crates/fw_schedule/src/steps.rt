@@ -10,7 +10,7 @@ use stream_law::Kind;
 /// A component that moves: its id and kind, the format of its samples where it is an endpoint, whether it is Active, how many
 /// channels it moves, the period of its pipeline in ticks, its frames a second, how many frames a period has, and what is over, in
 /// thousandths of one, the first buffer that it feeds, and where the ids of its inlets begin and end among those of all; those of the
-/// buffers that it feeds come behind them, up to `end`.
+/// buffers that it feeds come after them, up to `end`.
 #[derive(Clone, Copy)]
 pub(crate) struct Step {
     pub(crate) id: u32,

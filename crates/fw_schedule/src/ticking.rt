@@ -184,7 +184,7 @@ fn drain(registry: &mut Registry, out: &mut Outputs, step: &Step, most: u32, end
     }
 }
 
-// It writes as many frames as its buffer holds, at most so many, and zeros behind them where its kind writes its quota.
+// It writes as many frames as its buffer holds, at most so many, and zeros after them where its kind writes its quota.
 fn drain_from(registry: &mut Registry, out: &mut Outputs, step: &Step, most: u32, buffer: u32)
     requires there { has_id registry.old.buffers buffer ≡ true }
     requires channels { (1 ≤ step.now.channels) × (step.now.channels ≤ 8) }

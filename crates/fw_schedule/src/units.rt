@@ -1,7 +1,7 @@
 // What is read off the units of a registry.
 ghost use Rattle.std.specs.Prelude.{◌≡◌, ◌/◌, find, ◌==◌, option_copied};
 ghost use Rattle.std.specs.Option.{option_map_or};
-ghost use Rattle.stream_law.specs.Moves.{is_choosy};
+ghost use Rattle.stream_law.specs.Moves.{skips_idle_inputs};
 ghost use Rattle.fw_units.specs.Units.{period_by};
 ghost use Rattle.stream_law.specs.Endpoints.{is_input};
 ghost use Rattle.fw_schedule.specs.Outputs.{is_output_kind, least_by};
@@ -37,7 +37,7 @@ pub(crate) fn format_in(unit: &Unit) -> Format
 
 /// Whether a kind looks only at some of its inputs.
 pub(crate) fn chooses(kind: Kind) -> bool
-    ensures { result ≡ is_choosy kind }
+    ensures { result ≡ skips_idle_inputs kind }
 {
     matches!(kind, Kind::Mixer | Kind::Mux)
 }

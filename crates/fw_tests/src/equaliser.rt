@@ -39,7 +39,7 @@ fn halves_and_feeds_back(eq: &mut Eq) -> bool
     right && eq.piece().words()[528] == 0
 }
 
-// The blob in force and the staged bytes come back, and no byte behind them is written.
+// The blob in force and the staged bytes come back, and no byte after them is written.
 fn keeps_its_bytes(eq: &mut Eq) -> bool
     ensures home { eq.new.piece.home ≡ eq.old.piece.home }
     ensures place { eq.new.piece.place ≡ eq.old.piece.place }

@@ -20,7 +20,7 @@ fn mixer(id: u32, piece: Piece) -> Component
     }
 }
 
-// Adds mixers, of this id and of those behind it, until there are 128, and then one more. It tells whether that one came back with its
+// Adds mixers, of this id and of those after it, until there are 128, and then one more. It tells whether that one came back with its
 // id and its piece. All are removed again, and their pieces given back.
 fn is_filled(registry: &mut Registry, region: &mut Region, id: u32) -> bool
     requires registry { IsFilled id registry.old }

@@ -11,7 +11,7 @@ use fw_heap::Region;
 use sof_base::{Bounded, Errno, NoMemory, Part};
 use std::alloc::Global;
 
-// The part of this number of a blob: 668 bytes are behind the header, and 260 of them come with each part but the last.
+// The part of this number of a blob: 668 bytes are after the header, and 260 of them come with each part but the last.
 fn cut(blob: &[u8; 700], index: u32) -> Option<Part> {
     let mut header = [0; 32];
     header.copy_from_slice(&blob[..32]);

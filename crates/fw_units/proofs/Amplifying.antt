@@ -124,7 +124,7 @@ places-apart cs a b from to apart first second low =
     let ids : a ≡ b = sym here ∙ ap (λ k. (get_or cs k d).id) same ∙ there in
     true≢false (sym (eq-eqb a b ids) ∙ apart))
 
--- frames that came behind those of what stands at a place
+-- frames that came after those of what stands at a place
 pub placed-over : (cs new : List Component) (b to : ℕ) (fs : List Frame) (d : Component) → Ascends (λ c. c.id) cs → Some to ≡ position (λ c. c.id == b) cs → to < length cs
     → new ≡ set cs to (get_or new to d) → get_or new to d ≡ pushed_by fs (kept_words (get_or new to d)) (get_or cs to d)
     → new ≡ map (pushed_at b fs (words_by (find (λ x. x.id == b) new))) cs

@@ -21,7 +21,7 @@ use Rattle.fw_units.specs.declared.component.Unit.TheVariants.{Host, Dai, Volume
 use Rattle.fw_units.specs.Units.{numbers_by}
 use Rattle.fw_units.specs.Processed.{made_frames, made_numbers, done_after, run_unit}
 
--- values by place, those of the first places and those behind them
+-- values by place, those of the first places and those after them
 range-more : {X : Type 0} (d : X) (f g behind : ℕ → X) (a m : ℕ) → ((j : ℕ) → j < a → g j ≡ f j) → ((j : ℕ) → j < m → behind j ≡ f (a + j)) → map g (range_with_len 0 a) ++ map behind (range_with_len 0 m) ≡ map f (range_with_len 0 (a + m))
 range-more {X} d f g behind a m front back =
     let xs = map g (range_with_len 0 a) in
@@ -71,7 +71,7 @@ frames-after : (from : List ℕ) (over done n : ℕ) (to : List ℕ) (channels :
 frames-after from over done zero to channels fs = ap (λ k. ramped_frames from over k to channels fs) (let e : done ≡ done + 0 = omega arith in e)
 frames-after from over done (suc n) to channels fs = frames-held from over (done + suc n) to channels fs
 
--- the first a + m frames of each, the first a, and the m behind them
+-- the first a + m frames of each, the first a, and the m after them
 module _ (F : ℕ → List Frame) (a m : ℕ) where
   abbrev all : List ℕ → List (ℕ × List Frame)
   all looked = table looked (λ b. take (a + m) (F b))

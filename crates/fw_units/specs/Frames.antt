@@ -99,7 +99,7 @@ taken_by n c = with_unit (taken_unit n) c
 abbrev pub taken_at : ℕ → ℕ → Component → Component
 taken_at id n c = unit_at (taken_unit n) id c
 
--- a ring with more frames behind its own, and with these words of its piece
+-- a ring with more frames after its own, and with these words of its piece
 abbrev pub pushed_ring : List Frame → List ℤ → RingState → RingState
 pushed_ring frames words r = record { frames = r.frames ++ frames; words = r.words; channels = r.channels; start = r.start; piece = piece_with_words words r.piece }
 

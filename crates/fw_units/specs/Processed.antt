@@ -98,7 +98,7 @@ abbrev pub output_frames : units.Unit → (channels number : ℕ) → List Frame
 output_frames (Demux masks piece) channels number frames = map (kept_of channels (get_or masks number 0)) frames
 output_frames unit channels number frames = frames
 
--- each buffer that is fed has frames behind its own, with the words of its piece after that
+-- each buffer that is fed has frames after its own, with the words of its piece after that
 abbrev pub fed_at : List ℕ → (ℕ → List Frame) → (ℕ → List ℤ) → Component → Component
 fed_at fed frames words c = if is_among fed c.id then pushed_by (frames c.id) (words c.id) c else c
 

@@ -55,7 +55,7 @@ impl Component {
         }
     }
 
-    /// The ring of a buffer has the frames of these samples behind its own.
+    /// The ring of a buffer has the frames of these samples after its own.
     pub fn push(&mut self, samples: &[Sample])
         requires whole { length samples.now % channels_by self.old.unit ≡ 0 }
         requires fit { length (unit_frames self.old.unit) + length samples.now / channels_by self.old.unit ≤ capacity_by self.old.unit }
@@ -66,7 +66,7 @@ impl Component {
         }
     }
 
-    /// The ring of a buffer has the frames of these samples behind its own, each times the gain of its channel.
+    /// The ring of a buffer has the frames of these samples after its own, each times the gain of its channel.
     fn push_amplified(&mut self, samples: &[Sample], channels: u8, gains: &[u32])
         requires channels { channels_by self.old.unit ≡ channels }
         requires whole { length samples.now % channels_by self.old.unit ≡ 0 }
@@ -78,7 +78,7 @@ impl Component {
         }
     }
 
-    /// The ring of a buffer has the first `n` frames of another behind its own, each sample times the gain of its channel.
+    /// The ring of a buffer has the first `n` frames of another after its own, each sample times the gain of its channel.
     pub(crate) fn amplify_from(&mut self, from: &Component, n: u32, channels: u8, gains: &[u32])
         requires shape { channels_by from.now.unit ≡ channels }
         requires own { channels_by self.old.unit ≡ channels }
@@ -97,7 +97,7 @@ impl Component {
         }
     }
 
-    /// The ring of a buffer has the frames of these bytes behind its own.
+    /// The ring of a buffer has the frames of these bytes after its own.
     pub fn push_bytes(&mut self, format: Format, n: u32, bytes: &[u8])
         requires whole { length bytes.now ≡ n * (channels_by self.old.unit * width format) }
         requires fit { length (unit_frames self.old.unit) + n ≤ capacity_by self.old.unit }
@@ -179,7 +179,7 @@ fn is_end(end: Option<u32>, id: u32) -> bool
     }
 }
 
-/// Writes samples and those behind them.
+/// Writes samples and those after them.
 pub(crate) fn copy_both(front: &[Sample], back: &[Sample], samples: &mut [Sample])
     requires { length front.now + length back.now ≡ length samples.old }
     ensures { samples.new ≡ front.now ++ back.now }

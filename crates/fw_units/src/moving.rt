@@ -244,7 +244,7 @@ fn width_of(hints: &Hints, buffers: &[Component], id: u32) -> usize
     buffers[at].frame_samples()
 }
 
-// A buffer has the first `n` frames of another behind its own, each sample times the gain of its channel.
+// A buffer has the first `n` frames of another after its own, each sample times the gain of its channel.
 fn amplify_over(
     buffers: &mut Vec<Component>,
     _inlet: u32,

@@ -6,7 +6,7 @@ use std::marker::Model;
 /// The most samples that are moved in one go: a tick's 192 frames of 8 samples fit.
 pub(crate) const MOST: usize = 2048;
 
-/// Room for the samples of a move and for their sums, and behind the samples for what a demux keeps of them for one of its outputs.
+/// Room for the samples of a move and for their sums, and after the samples for what a demux keeps of them for one of its outputs.
 #[derive(Drop)]
 pub struct Workspace {
     pub(crate) sums: Vec<i64>,

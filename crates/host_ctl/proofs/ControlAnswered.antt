@@ -44,7 +44,7 @@ use Rattle.host_ctl.proofs.ControlsThere.{blob-changed, place-changed}
 
 -- ---- parts that are asked for, one after another
 
--- of n parts the first ones were asked for: what comes behind them decides what all come to
+-- of n parts the first ones were asked for: what comes after them decides what all come to
 pub record AskedAhead {D : Type 0} (means : Meaning D) (plan : Plan) (heap comp n : ℕ) (kept : Record) (w m : World D) (j : ℕ) : Type 0 where
   pub all : (kept' : Record) (v : World D) (result : Outcome) → Passing means plan heap (asks_from comp j (n - j)) kept kept' m v result → Passing means plan heap (asks_from comp 0 n) kept kept' w v result
 

@@ -106,7 +106,7 @@ few-initial (b ∷ blob) is = (few-parts (b ∷ blob) is).1
 abbrev pub asks_from : ℕ → ℕ → ℕ → List Act
 asks_from comp a n = map (Ask comp) (range_with_len a n)
 
--- Of n parts the first ones were asked for, and the device still shows the record: what is to come behind them decides what all come to.
+-- Of n parts the first ones were asked for, and the device still shows the record: what is to come after them decides what all come to.
 pub record Ahead {D : Type 0} (means : Meaning D) (plan : Plan) (heap comp n : ℕ) (kept : Record) (w m : World D) (j : ℕ) : Type 0 where
   pub whole : (kept' : Record) (v : World D) (result : Outcome) → CarriedBy means plan heap (asks_from comp j (n - j)) (λ now. now) kept kept' m v result → CarriedBy means plan heap (asks_from comp 0 n) (λ now. now) kept kept' w v result
   pub agrees : Agrees means plan kept m.device

@@ -1,4 +1,4 @@
--- A device that has the component of a control as the record sets it: right before a message, and behind one that leaves it.
+-- A device that has the component of a control as the record sets it: right before a message, and after one that leaves it.
 use Rattle.std.proofs.Common.{◌≡◌, refl, sym, ap, ◌∙◌, ℕ, ◌<◌, ◌-◌, List, length, true, Option, Some, None}
 use Rattle.std.specs.Prelude.{is_some}
 use Rattle.std.specs.Option.{option_map}

@@ -1,4 +1,4 @@
--- The bytes of a blob's parts, one behind another, make the blob.
+-- The bytes of a blob's parts, one after another, make the blob.
 use Rattle.std.proofs.Common.{◌≡◌, refl, sym, ap, ◌∙◌, ℕ, zero, suc, ◌+◌, ◌*◌, ◌<◌, ◌≤◌, true, List, [], ◌∷◌, ◌++◌, length, take, arith}
 use Rattle.std.proofs.lemmas.List.{length-append, length-take}
 use Rattle.sof_base.specs.declared.part.Part.{Part}

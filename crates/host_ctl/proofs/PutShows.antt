@@ -32,7 +32,7 @@ use Rattle.host_widgets.specs.ViewOf.{record_view, set_comp, record_setting}
 
 -- ---- controls, by component
 
--- what is looked up behind a change
+-- what is looked up after a change
 module _ (comp : ℕ) (g : ControlRec → ControlRec) where
   abbrev Pair : Type 0
   Pair = ControlPlan × ControlRec

@@ -38,7 +38,7 @@ abbrev pub carried_by : Body → Answer
 carried_by (bodies.Values values) = answers.Values values
 carried_by body = answers.Done
 
--- the bytes of the parts so far with those of one more behind them; the first brings the header
+-- the bytes of the parts so far with those of one more after them; the first brings the header
 abbrev pub with_part : List ℕ → Part → List ℕ
 with_part [] part = part.header ++ part.bytes
 with_part (b ∷ bytes) part = (b ∷ bytes) ++ part.bytes

@@ -245,7 +245,7 @@ fn parts_of(blob: &[u8]) -> u32
     part_count(blob)
 }
 
-// Puts bytes behind those so far.
+// Puts bytes after those so far.
 fn append(told: &mut ArrayVec<u8, 1024>, bytes: &[u8])
     ensures { length told.old.items + length bytes.now ≤ 1024 → told.new.items ≡ told.old.items ++ bytes.now }
 {
@@ -255,7 +255,7 @@ fn append(told: &mut ArrayVec<u8, 1024>, bytes: &[u8])
     }
 }
 
-// Puts the bytes of a part behind those of the parts before it. The first brings the header.
+// Puts the bytes of a part after those of the parts before it. The first brings the header.
 fn append_part(told: &mut ArrayVec<u8, 1024>, part: &Part)
     ensures { length (control_answers.with_part told.old.items part.now) ≤ 1024 → told.new.items ≡ control_answers.with_part told.old.items part.now }
 {

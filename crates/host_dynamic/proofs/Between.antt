@@ -283,7 +283,7 @@ module _ (plan : Plan) (sound : IsSound plan) (up : List ℕ) where
         leaves-stays : splits c.kind ≡ true → leaves_split k a ≡ leaves_split g a
         leaves-stays is = λ i. kind-stays splits a here-up i && by-some-stays is_play a (before-up brought a c found there is) i && some-stays is_dai_play a (behind-up brought a c found there is) i
 
-        -- behind one that does not split no edge is an echo edge
+        -- after one that does not split no edge is an echo edge
         leaves-none : splits c.kind ≡ false → (leaves_split k a ≡ false) × (leaves_split g a ≡ false)
         leaves-none is = (
           ap (λ (b : Bool). b && reached_by_some k is_play a && reaches_some k is_dai_play a) (kind-stays splits a here-up ∙ no-split is),

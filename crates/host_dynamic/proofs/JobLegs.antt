@@ -90,7 +90,7 @@ module _ {D S A : Type 0} (means : Meaning D) (rules : ActRules S A) where
     same-then : then now.kept now.outcome ≡ then left outcome
     same-then i = then (sym gone.left_is i) (sym gone.came i)
 
-    -- finished behind them
+    -- finished after them
     pub once-done : (end : S) (moments : List Moment) → then left outcome ≡ Finished end moments → Led means mid (calls_of heap moments) v → JobDone means rules heap job end w v outcome
     once-done end moments ends led =
         let s = one-leg (not_begun job.from (gone.meetings ++ [])) acts goes_on then gone.meetings [] begun mid refl gone.did (Finished end moments) (same-then ∙ ends) in
@@ -104,7 +104,7 @@ module _ {D S A : Type 0} (means : Meaning D) (rules : ActRules S A) where
           left = sym s.kept ∙ ap (λ (r : Routine S A). (walk_on rules next_of (not_begun job.from (gone.meetings ++ [])) r).kept) (sym sends);
         }
 
-    -- others were sent behind them
+    -- others were sent after them
     module _ (more : List A) (goes_on' : Bool) (last : S → Outcome → Routine S A) (again : then left outcome ≡ Sending more goes_on' last) (mid' : World D) (left' : S) (outcome' : Outcome) (gone' : HasGone left more goes_on' mid mid' left' outcome') where
       -- from what the first walk kept
       moved : HasGone now.kept more goes_on' mid mid' left' outcome'

@@ -83,7 +83,7 @@ module _ (plan : Plan) (sound : IsSound plan) (host : ℕ) (p : ℕ → Bool) (e
     out-way : (y : ℕ) → ways_to g host y ≡ true → on_way g host y ≡ true
     out-way y is = on-by g host y ∙ ap (λ (b : Bool). cond b (ways_to g y host || echoes_to g host y) (ways_to g host y)) play ∙ is
 
-    -- on the way, or behind a component that splits
+    -- on the way, or after a component that splits
     abbrev IsOut : ℕ → Type 0
     IsOut y = (ways_to g host y ≡ true) ⊎ ((s : ℕ) × IsSplit s × Walks g.joins s y)
 

@@ -18,7 +18,7 @@ use Rattle.mbox_link.specs.Step.{row, busy, no_device, no_memory, invalid, has_c
 use Rattle.host_dynamic.specs.There.{there_in, silent_state}
 use Rattle.host_dynamic.proofs.RowsTold.{told}
 
--- behind a test that both pass or both fail
+-- after a test that both pass or both fail
 behind : (b : Bool) (e : ℤ) (r s : Result FwState ℤ) → told r ≡ told s → told (cond b (Err e) r) ≡ told (cond b (Err e) s)
 behind true e r s same = refl
 behind false e r s same = same

@@ -265,7 +265,7 @@ module _ (plan : Plan) (sound : IsSound plan) (s : UpState) (Mid : There → Typ
 
     -- ---- what the firmware answers
 
-    -- it answers a message as the rules say, and so those behind it
+    -- it answers a message as the rules say, and so those after it
     one-asked : (q : ControlKind) → IsMessage (act_message plan (Put id r.values)) → IsNoPart (act_message plan (Put id r.values)) → after plan (Put id r.values) s.kept ≡ s.kept → told (row (silent_state (first q)) (act_message plan (Put id r.values))) ≡ Ok last →
         (behind : List Act) → ((f : FwState) → StagedFirst (map Ordinary behind) f) → AreAnswered plan (with_there plan s last) (map Ordinary behind) → AreAnswered plan (with_there plan s (first q)) (map Ordinary ((Put id r.values ∷ []) ++ behind))
     one-asked q fits no_part leaves said behind loose then = (

@@ -195,7 +195,7 @@ once-flat {X} {Y} f (x ∷ xs) once each apart = once-append (f x) (flat_map f x
     no : (y : Y) → IsIn y (f x) → IsIn y (flat_map f xs) → ⊥
     no y a b = let r = flat-in f xs y b in once.0 (subst (λ (z : X). IsIn z xs) (sym (apart x r.0 y a r.2)) r.1)
 
--- what stands behind others is not among them
+-- what stands after others is not among them
 pub once-split : {X : Type 0} (xs : List X) (x : X) (ys : List X) → AreOnce (xs ++ x ∷ ys) → IsIn x xs → ⊥
 once-split [] x ys once there = there
 once-split {X} (z ∷ zs) x ys once there = by there (once-split zs x ys once.1)

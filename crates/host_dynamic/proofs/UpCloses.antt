@@ -105,7 +105,7 @@ module _ {D : Type 0} (means : Meaning D) (plan : Plan) (sound : IsSound plan) (
   abbrev acts : List DynamicAct
   acts = map Ordinary (close_by host p.1.found)
 
-  -- what is kept behind a call that came to this at its first part
+  -- what is kept after a call that came to this at its first part
   pub record HasClosed (up' : List ℕ) (kept' : Record) (w v : World D) (result : Outcome) : Type 0 where
     pub done : JobDone means (up_act_rules plan) heap (closing_job plan s host p.1.found) (record { kept = kept'; up = up'; there = there_on (means.on v.device) }) w v result
     pub switched : IsSwitched kept'.power (means.on v.device)

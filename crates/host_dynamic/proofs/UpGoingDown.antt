@@ -57,7 +57,7 @@ use Rattle.host_dynamic.proofs.UpTriggers.{triggered-state}
 use Rattle.host_dynamic.proofs.UpWalks.{passed-free}
 
 module _ (plan : Plan) where
-  -- Each is a message; a firmware in which what is kept is there answers it as the rules say; and so are those behind it, whether it passed
+  -- Each is a message; a firmware in which what is kept is there answers it as the rules say; and so are those after it, whether it passed
   -- or not.
   abbrev pub AreAnsweredOn : UpState → List DynamicAct → Type 0
   AreAnsweredOn u [] = Unit {0}

@@ -180,7 +180,7 @@ module _ (plan : Plan) where
   MakesOf n (Finish id) = Unit {0}
   MakesOf n act = ⊥
 
-  -- what an act makes is there behind it
+  -- what an act makes is there after it
   abbrev IsAdded : UpState → Act → There → Type 0
   IsAdded u act t = (x : ℕ) → is_among (ids_there t) x ≡ (is_among (filter_map widget_made (Ordinary act ∷ [])) x || is_among (ids_there u.there) x)
 

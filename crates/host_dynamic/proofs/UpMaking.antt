@@ -269,7 +269,7 @@ module _ (plan : Plan) (sound : IsSound plan) (s : UpState) (up n : List ℕ) (s
           (at_stage plan kept (with_id id st) (heap_with_piece id (stated_bytes plan id) t.heap)) (widget-told id st t r takes is e)
       by false e = own-refused plan (with_there plan s t) (Ordinary (Make id)) (make-whole plan sound id r.0) refl f same no_memory (ap (λ (b : Bool). cond b None (Some (errno no_memory))) e) (widget-refused id st t r takes is e)
 
-  -- the firmware answers each of these as the rules say, and so those behind them
+  -- the firmware answers each of these as the rules say, and so those after them
   makes-asked : (ids : List ℕ) (st : Stage) (t : There) (behind : List Act) → AreOnce ids → AreNew ids st → TakesWidget st → IsStage plan kept st t → ((f : FwState) → StagedFirst (map Ordinary behind) f) →
       ((x : There) → IsStage plan kept (after_ids ids st) x → AreAnswered plan (with_there plan s x) (map Ordinary behind)) → AreAnswered plan (with_there plan s t) (map Ordinary (map Make ids ++ behind))
   makes-asked [] st t behind single new takes is loose then = then t is

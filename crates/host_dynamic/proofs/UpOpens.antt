@@ -74,7 +74,7 @@ module _ {D : Type 0} (means : Meaning D) (plan : Plan) (sound : IsSound plan) (
     abbrev Any : There → Type 0
     Any t = Unit {0}
 
-    -- what is kept behind a call that came to this
+    -- what is kept after a call that came to this
     abbrev pub opened_state : Outcome → Record → World D → UpState
     opened_state (Ok done) kept' v = with_stream_open plan host n (record { kept = kept'; up = s.up; there = there_on (means.on v.device) })
     opened_state (Err fault) kept' v = record { kept = kept'; up = s.up; there = there_on (means.on v.device) }

@@ -92,7 +92,7 @@ all-flat : {X Y : Type 0} (P : Y → Type 0) (f : X → List Y) (xs : List X) �
 all-flat P f [] each = tt
 all-flat P f (x ∷ xs) each = all-both P (f x) (flat_map f xs) (each x) (all-flat P f xs each)
 
--- the key of a record of a list that ascends is not behind it
+-- the key of a record of a list that ascends is not after it
 behind-apart : {X : Type 0} (key : X → ℕ) (before : List X) (x : X) (behind : List X) → Ascends key (before ++ x ∷ behind) → list_any (λ (y : X). key y == key x) behind ≡ false
 behind-apart key [] x behind up = first-apart key x behind up
 behind-apart key (y ∷ before) x behind up = behind-apart key before x behind (rest-ascends key y (before ++ x ∷ behind) up)
@@ -191,7 +191,7 @@ module _ (plan : Plan) where
     runs-over Mid End (act ∷ xs) leaves t runs =
         (tt, kept-over act leaves.0 runs.1, λ free. runs-over Mid End xs leaves.1 (there_after plan (Ordinary act) t) (runs.2 (own-over act leaves.0 t ∙ free)))
 
-    -- the firmware answers them as the rules say, and so those behind them
+    -- the firmware answers them as the rules say, and so those after them
     says-over : (act : Act) (t : There) (o : Option Errno) (said : Result There ℤ) → SaysSo plan (over other t) (Ordinary act) o said → SaysSo plan (over kept t) (Ordinary act) o said
     says-over act t None said says = says
     says-over act t (Some e) said says = says
@@ -427,7 +427,7 @@ module _ (plan : Plan) (sound : IsSound plan) (s : UpState) (is : IsUpState plan
     rest-apart : list_any (λ (p : StreamPair). p.0.host == q.0.host) rest ≡ false
     rest-apart = behind-apart (λ (p : StreamPair). p.0.host) done q rest (subst (Ascends (λ (p : StreamPair). p.0.host)) cut (zip-ascends plan.streams s.kept.streams (streams-ascend plan sound)))
 
-    -- and so do those behind it
+    -- and so do those after it
     rest-stays : (ps : List StreamPair) → ((p : StreamPair) → IsIn p ps → IsIn p rest) → map given (map idle ps) ≡ map idle ps
     rest-stays [] within = refl
     rest-stays (p ∷ ps) within =

@@ -45,7 +45,7 @@ staged-still act f g same staged = tt
 module _ (plan : Plan) where
   -- ---- lists that the firmware answers as the rules say
 
-  -- Each is a message; a firmware in which what is kept is there answers it as the rules say, where what it asks is staged; and behind it
+  -- Each is a message; a firmware in which what is kept is there answers it as the rules say, where what it asks is staged; and after it
   -- the next finds staged what it asks.
   abbrev pub AreAnswered : UpState → List DynamicAct → Type 0
   AreAnswered u [] = Unit {0}
@@ -79,7 +79,7 @@ module _ (plan : Plan) where
       pub free : AreFree u passed
       pub left : (walk (up_act_rules plan) false next_of u meetings acts).kept ≡ after_all u passed
 
-    -- one act, and those behind it
+    -- one act, and those after it
     module _ (u : UpState) (act : DynamicAct) (acts passed : List DynamicAct) (w mid v : World D) (result : Outcome) (answer : Option (List ℕ)) (f : FwState) (on : means.on w.device ≡ Some f) (fits : IsMessage (dynamic_message plan act))
         (x : Exchanged means (message_spelling (dynamic_message plan act)) answer w mid) (same : there_in (before plan u act means fits answer w mid f on x) ≡ u.there) (m : IsMet plan u act means fits answer w mid f on x) where
       abbrev met : Meeting

@@ -278,7 +278,7 @@ module _ (plan : Plan) (sound : IsSound plan) (s : UpState) (up n : List ℕ) (s
   unmakes-loose [] f = tt
   unmakes-loose (id ∷ ids) f = tt
 
-  -- as the rules say, of what is left of these and of what comes behind
+  -- as the rules say, of what is left of these and of what comes after
   pipes-asked : (ids behind : List ℕ) (st : Stage) (t : There) → AreOnce ids → AreLeft ids st → ((id : ℕ) → IsIn id ids → (p : Pipe) × (pipe_at g id ≡ Some p)) → IsAmid plan up n st → IsStage plan kept st t →
       ((x : There) → IsStage plan kept (drops ids st) x → AreAnswered plan (with_there plan s x) (map Unmake behind)) → AreAnswered plan (with_there plan s t) (map Unmake (ids ++ behind))
   pipes-asked [] behind st t once left named a is then = then t is

@@ -29,7 +29,7 @@ abbrev pub widget_made : DynamicAct → Option ℕ
 widget_made (Ordinary (Make id)) = Some id
 widget_made act = None
 
--- these were sent, and the widgets that they made are listed behind those so far
+-- these were sent, and the widgets that they made are listed after those so far
 pub record Listed {D : Type 0} (means : Meaning D) (plan : Plan) (acts : List DynamicAct) (made made' : List ℕ) (w v : World D) (result : Outcome) : Type 0 where
   pub passed : List DynamicAct
   pub sent : DynamicSent means plan acts passed w v result

@@ -61,7 +61,7 @@ pub fn lose<const MOST: usize>(list: &mut ArrayVec<u32, MOST>, others: &[u32])
     list.retain(|index| !has(others, *index));
 }
 
-// Lists these behind what is listed.
+// Lists these after what is listed.
 pub fn list_ids<const MOST: usize>(list: &mut ArrayVec<u32, MOST>, ids: &[u32])
     requires { array_vec_len list.old + length ids.now ≤ MOST }
     ensures { list.new.items ≡ list.old.items ++ ids.now }

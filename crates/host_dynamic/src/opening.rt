@@ -236,7 +236,7 @@ fn unmake_where_on<P: Dsp>(side: &mut Side<'_, P>, made: &[u32]) -> Result<(), H
 
 // ---- calls
 
-/// Opens the stream of this name: what it needs and is not up is made, index by index, and is up behind what was. While the power is off,
+/// Opens the stream of this name: what it needs and is not up is made, index by index, and is up after what was. While the power is off,
 /// only what should be there changes. It takes no memory.
 ///
 /// `NotLoaded`, `NoSuch(name)` and `State(found)` as where all pipelines are made at a load; then nothing changes. `Refused(e)`: a message

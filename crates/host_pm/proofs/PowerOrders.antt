@@ -45,7 +45,7 @@ module _ {D : Type 0} (means : Meaning D) (plan : Plan) (heap : ℕ) where
   abbrev did_acts : Record → List Act → List Meeting → World D → World D → Type 0
   did_acts kept acts ms w v = ActsDid means (act_rules plan heap) false kept acts ms w v
 
-  -- acts behind acts that passed
+  -- acts after acts that passed
   pub record Joined (kept : Record) (xs ys : List Act) (ms ns : List Meeting) (w v : World D) : Type 0 where
     pub did : did_acts kept (xs ++ ys) (ms ++ ns) w v
     pub outcome : (walked kept (ms ++ ns) (xs ++ ys)).outcome ≡ (walked (walked kept ms xs).kept ns ys).outcome
@@ -80,7 +80,7 @@ module _ {D : Type 0} (means : Meaning D) (plan : Plan) (heap : ℕ) where
       by (Err (Range n)) on ok more go = absurd (cc ok)
       by (Err (Blob n)) on ok more go = absurd (cc ok)
 
-  -- no act behind one that failed
+  -- no act after one that failed
   pub record Ended (kept : Record) (xs ys : List Act) (ms : List Meeting) (w v : World D) : Type 0 where
     pub did : did_acts kept (xs ++ ys) ms w v
     pub outcome : (walked kept ms (xs ++ ys)).outcome ≡ (walked kept ms xs).outcome

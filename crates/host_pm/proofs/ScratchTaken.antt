@@ -44,7 +44,7 @@ use Rattle.host_pm.proofs.GoingDown.{elsewhere}
 use Rattle.host_pm.proofs.TurnsCome.{AreMet}
 use Rattle.host_pm.proofs.Unprepared.{AllWere, IsFine, all-were, bare_from, bare-view, coming-back, empty-buffers, fine-seen, own-none, same-kept, takes-kept}
 
--- ---- one list behind another
+-- ---- one list after another
 
 takes-then : (plan : Plan) (xs ys : List Act) (f g h : FwState) → TakesActs plan f xs g → TakesActs plan g ys h → TakesActs plan f (xs ++ ys) h
 takes-then plan [] ys f g h first rest = subst (λ (s : FwState). TakesActs plan s ys h) first rest

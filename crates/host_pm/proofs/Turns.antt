@@ -1,4 +1,4 @@
--- Acts that are sent one after another: one act, acts behind an act, and the turns of a loop.
+-- Acts that are sent one after another: one act, acts after an act, and the turns of a loop.
 use Rattle.std.proofs.Common.{◌≡◌, ◌⊎◌, inl, inr, ℕ, ◌*◌, List, [], ◌∷◌, ◌++◌, Bool, true, false, Option, is_some, Ok, Err, refl, sym, ap, subst, ◌∙◌}
 use Rattle.sof_base.specs.declared.errno.Errno.{Errno}
 use Rattle.sof_base.specs.Ports.{HasRoom}
@@ -23,7 +23,7 @@ pub first-none : (o : Outcome) → first_of o (Ok tt) ≡ o
 first-none (Ok done) = refl
 first-none (Err fault) = refl
 
--- what acts go on behind
+-- what acts go on after
 abbrev pub IsUp : Outcome → Type 0
 IsUp o = (o ≡ Ok tt) ⊎ ((e : Errno) × (o ≡ Err (Refused e)))
 
@@ -68,7 +68,7 @@ three a b c (inl is) up = (λ i. first_of (is i) (first_of b c)) ∙ (λ i. firs
 three a b c (inr (e, is)) (inl none) = (λ i. first_of (is i) (first_of (none i) c)) ∙ (λ i. first_of (first_of (sym is i) (sym none i)) c)
 three a b c (inr (e, is)) (inr (d, that)) = (λ i. first_of (is i) (first_of (that i) c)) ∙ past-refusals e d c ∙ (λ i. first_of (first_of (sym is i) (sym that i)) c)
 
--- acts go on behind both
+-- acts go on after both
 pub both-past : (goes_on : Bool) (a b : Outcome) → goes_past goes_on a ≡ true → goes_past goes_on b ≡ true → goes_past goes_on (first_of a b) ≡ true
 both-past goes_on a b past then_past = by (up-is goes_on a past) (up-is goes_on b then_past)
   where
@@ -99,7 +99,7 @@ module _ {D : Type 0} (means : Meaning D) (plan : Plan) (goes_on : Bool) where
       behind true = (Ok tt, (sent.led.2, refl), told ∙ sym (first-none (said sent.answer)))
       behind false = (sent.led.2, told)
 
-  -- ---- acts behind one act
+  -- ---- acts after one act
 
   module _ (act : Act) (acts : List Act) (w m : World D) (o : Outcome) (one : Turn (act ∷ []) w m o) where
     abbrev c : Outcome

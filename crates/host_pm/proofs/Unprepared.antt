@@ -60,7 +60,7 @@ anywhere So so host [] rs = tt
 anywhere So so host (s ∷ ss) [] = tt
 anywhere So so host (s ∷ ss) (r ∷ rs) = (λ here. so r, anywhere So so host ss rs)
 
--- the stream of a host is this one, once it was put there, also behind others
+-- the stream of a host is this one, once it was put there, also after others
 was-set : (host : ℕ) (c : StreamRec) (ss : List StreamPlan) (rs : List StreamRec) → AllAt (λ x. x ≡ c) host ss (set_at host (λ r. c) ss rs)
 was-set host c [] rs = tt
 was-set host c (s ∷ ss) [] = tt

@@ -22,12 +22,12 @@ pub record Told {D : Type 0} (means : Meaning D) (request : List ℕ) (w v : Wor
   pub sent : Sent means request w v reply
   pub said : result ≡ came_to reply
 
--- acts go on behind one that came to this, or end with it
+-- acts go on after one that came to this, or end with it
 abbrev pub Behind : Bool → Outcome → (Outcome → Type 0) → Type 0 → Outcome → Type 0
 Behind true one More Ends result = (rest : Outcome) × More rest × (result ≡ first_of one rest)
 Behind false one More Ends result = Ends × (result ≡ one)
 
--- one exchange for each act, up to the first behind which they do not go on, and no other call
+-- one exchange for each act, up to the first after which they do not go on, and no other call
 abbrev pub InTurn : {D : Type 0} → Meaning D → Plan → Bool → List Act → World D → World D → Outcome → Type 0
 InTurn means plan goes_on [] w v result = (v ≡ w) × (result ≡ Ok tt)
 InTurn {D} means plan goes_on (act ∷ acts) w v result =

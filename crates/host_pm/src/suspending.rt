@@ -20,7 +20,7 @@ use mbox_link::Dsp;
 use sof_io::{Inputs, Outputs};
 use tplg_plan::Plan;
 
-// Whether messages go on behind one that came to this: also behind a refusal.
+// Whether messages go on after one that came to this: also after a refusal.
 fn goes_on(done: &Result<(), HostFault>) -> bool
     ensures { result ≡ goes_past true done.now }
 {
@@ -71,7 +71,7 @@ fn save<P: Dsp>(
     tell(&Message::CtxSave, dsp, io, out)
 }
 
-// Sends all messages before the cut, also behind one that was refused, and none behind a link that failed.
+// Sends all messages before the cut, also after one that was refused, and none after a link that failed.
 fn send_down<P: Dsp>(
     plan: &Plan,
     kept: &Record,

@@ -38,7 +38,7 @@ module _ {D : Type 0} (means : Meaning D) (plan : Plan) (heap : ℕ) (goes_on : 
     pub keeps_now : KeepsRecord plan heap now state
     pub stands : StandsOn (Some f) w.io (Some state) v.io moments
 
-  -- the acts behind it find staged what they ask
+  -- the acts after it find staged what they ask
   abbrev pub IsReadyThen : FwState → Type 0
   IsReadyThen g = AreReady plan goes_on acts g
 

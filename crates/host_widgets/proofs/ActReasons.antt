@@ -82,7 +82,7 @@ module _ {D : Type 0} (means : Meaning D) (plan : Plan) (heap : ℕ) where
     abbrev outcome_of : List Meeting → List Act → Outcome
     outcome_of ms acts = (walk (act_rules plan heap) false next_of kept ms acts).outcome
 
-    -- what is behind an act that was answered so and came to this
+    -- what is after an act that was answered so and came to this
     abbrev Behind : Act → List Act → Meeting → List Meeting → World D → World D → Result Reply HostFault → Outcome → Type 0
     Behind act acts m ms mid v r o =
         MatchResult r (λ reply. ActsBecause means plan heap kept acts mid v (outcome_from means plan heap kept act acts m ms o)) (λ fault. (v ≡ mid) × (outcome_from means plan heap kept act acts m ms o ≡ Err fault))

@@ -1,4 +1,4 @@
--- Acts by their answers alone: one of them, lists one behind another, and the orders of calls.
+-- Acts by their answers alone: one of them, lists one after another, and the orders of calls.
 use Rattle.std.proofs.Common.{◌≡◌, refl, sym, ap, subst, ◌∙◌, ℕ, List, [], ◌∷◌, ◌++◌, Option, Some, None, Result, Ok, Err}
 use Rattle.std.specs.Prelude.{MatchResult}
 use Rattle.ipc3_model.specs.declared.reply.Reply.{Reply}
@@ -65,7 +65,7 @@ module _ {D : Type 0} (means : Meaning D) (plan : Plan) (heap : ℕ) where
 
   -- ---- lists
 
-  -- acts that all passed, and those behind them
+  -- acts that all passed, and those after them
   pub answered-then : (xs ys : List Act) (done : Record → Record) (kept k1 kept' : Record) (w m v : World D) (result : Outcome) → Passing xs kept k1 w m (Ok tt) → ActsAnswered means plan heap done ys k1 kept' m v result →
       ActsAnswered means plan heap done (xs ++ ys) kept kept' w v result
   answered-then [] ys done kept k1 kept' w m v result (left, stays, is) rest = subst (λ (y : Record × World D). ActsAnswered means plan heap done ys y.0 kept' y.1 v result) (λ i. (left i, stays i)) rest

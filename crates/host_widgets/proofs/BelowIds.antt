@@ -83,7 +83,7 @@ below-more {X} key n (y ∷ ys) x up is = by_test (below-more key n ys x up.1) (
     by_test rest true e h = here (eqb-true (key y) n e) (cc h)
     by_test rest false e h = there (rest h) h (nat_lt (key y) n) refl
 
--- a record of this key is put behind all that is below
+-- a record of this key is put after all that is below
 placed-last : {X : Type 0} (key : X → ℕ) (n : ℕ) (x : X) (xs : List X) → key x ≡ n → placed key x (below key n xs) ≡ below key n xs ++ x ∷ []
 placed-last key n x [] is = refl
 placed-last {X} key n x (y ∷ ys) is = by_order (placed-last key n x ys is) (nat_lt (key y) n) refl

@@ -117,7 +117,7 @@ clock-ticks (suc n) t = ap (λ (k : ℕ). clock_from k (replicate n Tick)) (let 
 
 -- ---- a walk that passed
 
--- an act, and where they go on, those behind it
+-- an act, and where they go on, those after it
 abbrev so_far : Plan → ℕ → Act → List Act → List Meeting → Record → Outcome → Bool → Walked Record Act (List Meeting)
 so_far plan heap act acts ms now o b =
     let a = performed (act_rules plan heap) act now (lag_of (next_of ms).0) o in followed_by act a (next_of ms).1 b (walk (act_rules plan heap) false next_of a.kept (next_of ms).1 acts)

@@ -123,7 +123,7 @@ host-id HostPlay id h is = let same : (id, false) ≡ h = cc is in ap (λ (p : �
 host-id HostCapture id h is = let same : (id, true) ≡ h = cc is in ap (λ (p : ℕ × Bool). p.0) (sym same)
 host-id kind id h is = absurd (cc is)
 
--- a stream of the next id is put behind all that are there
+-- a stream of the next id is put after all that are there
 stream-last : (v : StreamView) (n : ℕ) → v.host ≡ n → (xs : List Comp) → placed (λ s. s.host) v (streams_by (below (λ c. c.id) n xs)) ≡ streams_by (below (λ c. c.id) n xs) ++ v ∷ []
 stream-last v n is [] = refl
 stream-last v n is (x ∷ xs) = by_order (stream-last v n is xs) (nat_lt x.id n) refl

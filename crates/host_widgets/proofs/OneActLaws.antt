@@ -27,7 +27,7 @@ use Rattle.host_widgets.proofs.Exchanges.{verdict-zero}
 use Rattle.host_widgets.proofs.ActsStand.{KeepsWhereLive, stream-stands}
 use Rattle.host_widgets.proofs.PartRows.{HasStaged}
 
--- what an act asks of what is staged: a part behind the first of a blob, that those before it are
+-- what an act asks of what is staged: a part after the first of a blob, that those before it are
 abbrev pub IsReady : Act → FwState → Type 0
 IsReady (Part comp blob k) f = HasStaged comp blob k f
 IsReady act f = Unit {0}

@@ -65,7 +65,7 @@ module _ (blob : List ℕ) (is : is_blob blob ≡ true) where
     pub whole-part : 260 * (k + 1) < length (payload blob) → length (blob_part blob k).bytes ≡ 260
     whole-part more = length-take-le 260 rest (let r = rest-long in omega (arith, r, more))
 
-    -- with it and behind it come all that its predecessors left
+    -- with it and after it come all that its predecessors left
     pub part-left : bytes_left (blob_part blob k) ≡ length (payload blob) - 260 * k
     part-left = by (is_last blob k) refl
       where
@@ -80,7 +80,7 @@ module _ (blob : List ℕ) (is : is_blob blob ≡ true) where
         by true e = let ends = leb-true (length (payload blob)) (260 * (k + 1)) e in let f = full-part ends in let b = begins in (omega (arith, f, b), omega (arith, f, ends))
         by false e = let more = leb-false (length (payload blob)) (260 * (k + 1)) e in let w = whole-part more in (omega (arith, w), omega (arith, w))
 
-    -- nothing remains exactly behind the last
+    -- nothing remains exactly after the last
     pub none-left : ((blob_part blob k).remaining == 0) ≡ is_last blob k
     none-left = by (is_last blob k) refl
       where

@@ -53,7 +53,7 @@ module _ {D : Type 0} (means : Meaning D) (plan : Plan) (heap : ℕ) where
   no-acts done kept kept' w is = record { meetings = []; begun = w; sent = w; first = refl; walked = (refl, refl); came = refl; ends = (is, refl) }
 
   module _ (act : Act) (acts : List Act) (done : Record → Record) (kept : Record) (w : World D) where
-    -- an act of an outcome, and those behind it
+    -- an act of an outcome, and those after it
     module _ (m : Meeting) (ms : List Meeting) (o : Outcome) where
       abbrev Behind : World D → World D → Bool → Type 0
       Behind mid v b = Onwards b ms mid v (ActsDid means (act_rules plan heap) false (performed (act_rules plan heap) act kept (lag_of m) o).kept acts ms mid v)

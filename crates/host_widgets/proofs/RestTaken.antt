@@ -24,7 +24,7 @@ use Rattle.host_widgets.proofs.FinishesTaken.{finish_graph, finishes-none, finis
 abbrev pub rest_acts : Plan → Record → List Act
 rest_acts plan kept = join_acts plan.graph.joins ++ (flat_map control_acts (controls_of plan kept) ++ finish_acts plan.graph.pipes)
 
--- they stand behind the makes
+-- they stand after the makes
 pub rest-behind : (plan : Plan) (kept : Record) → bring_up plan kept ≡ map Make (widget_ids plan) ++ rest_acts plan kept
 rest-behind plan kept = refl
 

@@ -22,7 +22,7 @@ use Rattle.mbox_link.specs.Exchange.{ticked, ticks}
 
 -- ---- moments
 
--- moments behind moments
+-- moments after moments
 pub leads-append : (whole : List (ℕ × List ℕ)) (ms more : List Moment) (a b c : Past) → Leads whole a ms b → Leads whole b more c → Leads whole a (ms ++ more) c
 leads-append whole [] more a b c first rest = subst (λ (p : Past). Leads whole p more c) (sym first) rest
 leads-append whole (m ∷ ms) more a b c first rest = (first.0, first.1, leads-append whole ms more first.0 b c first.2 rest)
@@ -107,7 +107,7 @@ still-stands f g ms still leads io whole before stood =
     let s = leads whole io.inputs before stood in
     (s.0, s.1, gained-none io.outputs stood.past s.0.past (λ slot. ap (λ (bytes : List (ℕ × List ℕ)). list_of bytes slot) (still-bytes whole ms still stood.past s.0.past s.1)))
 
--- moments behind moments
+-- moments after moments
 pub stands-by : (f g h : Option FwState) (a b c : Io) (ms more : List Moment) → StandsOn f a g b ms → StandsOn g b h c more → StandsOn f a h c (ms ++ more)
 stands-by f g h a b c ms more first rest whole before stood =
     let one = first whole before stood in

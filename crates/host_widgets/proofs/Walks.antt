@@ -114,7 +114,7 @@ module _ {D : Type 0} (means : Meaning D) (plan : Plan) where
   pub sent-room : (acts : List Act) (w v : World D) (result : Outcome) → ActsSent means plan acts w v result → HasPendingRoom w → HasPendingRoom v
   sent-room = sent-keep HasPendingRoom room-stays
 
-  -- for a caller that goes on behind acts
+  -- for a caller that goes on after acts
   pub did-on : (heap : ℕ) (goes_on : Bool) (acts : List Act) (ms : List Meeting) (now : Record) (w v : World D) → ActsDid means (act_rules plan heap) goes_on now acts ms w v → IsOn w → IsOn v
   did-on = did-keep IsOn on-stays
 

@@ -66,7 +66,7 @@ module _ {D : Type 0} (means : Meaning D) (plan : Plan) (heap : ℕ) (goes_on : 
     pub keeps_now : KeepsRecord plan heap now state
     pub stands : StandsOn (Some f) w.io (Some state) v.io moments
 
-  -- one behind the other
+  -- one after the other
   behind : (f : FwState) (w mid v : World D) (now later : Record) (ms more : List Moment) (first : Held f w mid now ms) → Held first.state mid v later more → Held f w v later (ms ++ more)
   behind f w mid v now later ms more first rest = record {
     state = rest.state;
@@ -92,7 +92,7 @@ module _ {D : Type 0} (means : Meaning D) (plan : Plan) (heap : ℕ) (goes_on : 
   abbrev pub HeldBy : FwState → World D → World D → Walked Record Act (List Meeting) → Type 0
   HeldBy f w v walked = ByLink walked.outcome (Held f w v walked.kept walked.moments) (ReadBy f w v walked.moments)
 
-  -- the first fault of a refusal and of what came behind it
+  -- the first fault of a refusal and of what came after it
   after-refusal : (e : _) (rest : Outcome) (Up Down : Type 0) → ByLink rest Up Down → ByLink (first_of (Err (Refused e)) rest) Up Down
   after-refusal e (Ok done) Up Down x = x
   after-refusal e (Err LinkDown) Up Down x = x
@@ -128,7 +128,7 @@ module _ {D : Type 0} (means : Meaning D) (plan : Plan) (heap : ℕ) (goes_on : 
     abbrev Left : Performed Record → Bool → Type 0
     Left a b = HeldBy f w v (followed_by act a ms b (met_walk a.kept ms acts))
 
-    -- what is so behind it is so from its beginning
+    -- what is so after it is so from its beginning
     later : (now : Record) (ms' : List Moment) (first : Held f w mid now ms') (o : Outcome) (then_kept : Record) (more : List Moment) →
         ByLink o (Held first.state mid v then_kept more) (ReadBy first.state mid v more) → ByLink o (Held f w v then_kept (ms' ++ more)) (ReadBy f w v (ms' ++ more))
     later now ms' first o then_kept more = by-map o (Held first.state mid v then_kept more) (Held f w v then_kept (ms' ++ more)) (ReadBy first.state mid v more) (ReadBy f w v (ms' ++ more))

@@ -34,7 +34,7 @@ followed before later = record {
   queue = later.queue;
 }
 
--- a routine, behind what was sent before it
+-- a routine, after what was sent before it
 abbrev pub walk_on : {S A Q : Type 0} → ActRules S A → (Q → Meeting × Q) → Walked S A Q → Routine S A → Walked S A Q
 walk_on rules next before (Finished kept moments) =
     record { outcome = before.outcome; kept = kept; moments = before.moments ++ moments; sent = before.sent; queue = before.queue }

@@ -28,7 +28,7 @@ first_of (Ok done) rest = rest
 first_of (Err fault) (Err LinkDown) = Err LinkDown
 first_of (Err fault) rest = Err fault
 
--- an act, and where they go on, the acts behind it
+-- an act, and where they go on, the acts after it
 abbrev pub followed_by : {S A Q : Type 0} → A → Performed S → Q → Bool → Walked S A Q → Walked S A Q
 followed_by act a q true rest = record {
   outcome = first_of a.outcome rest.outcome;

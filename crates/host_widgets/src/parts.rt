@@ -15,7 +15,7 @@ use mbox_link::Dsp;
 use sof_base::{Part, PartBytes, bytes_at};
 use sof_io::{Inputs, Outputs};
 
-/// How many parts a blob has: of the bytes behind its header, 260 are in each but the last.
+/// How many parts a blob has: of the bytes after its header, 260 are in each but the last.
 pub fn part_count(blob: &[u8]) -> u32
     requires { is_blob blob.now ≡ true }
     ensures { result ≡ parts blob.now }
@@ -46,7 +46,7 @@ fn part(blob: &[u8], index: u32) -> Part
 }
 
 /// Sends a blob to an equaliser in its parts, one exchange each, up to the first that does not pass. Each part has the blob's
-/// header, and all but the last 260 bytes of those behind it. Nothing is cut.
+/// header, and all but the last 260 bytes of those after it. Nothing is cut.
 ///
 /// Ok: all parts have passed. `Refused(e)`: a part was answered with the negative error e. `LinkDown`: an exchange failed.
 pub fn send_parts<P: Dsp>(

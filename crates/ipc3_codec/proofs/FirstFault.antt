@@ -72,7 +72,7 @@ type_refused b none = no_type (nat_le 16 (word_at b 0)) (type_numbered (word_at 
 abbrev comp_at : List ℕ → CompWords → Message
 comp_at b words = CompNew (word_at b 8) (word_at b 16) (word_at b 36) (word_at b 40) (word_at b 48) words
 
--- a component behind its type word
+-- a component after its type word
 abbrev typed_in : List ℕ → CompType → Result Message CodecFault
 typed_in b type = do
   _ ← word_in b (any_word 16)
@@ -188,7 +188,7 @@ pub values_is : (b : List ℕ) → values_read b ≡ read_as b (payload_places b
 unfolding values_read
 values_is b = refl
 
--- the words up to the type, those behind it, and the payload
+-- the words up to the type, those after it, and the payload
 control_message : {A : Type 0} (b : List ℕ) (kind : ControlKind) (payload : Result A CodecFault) (x : A) (y : Message) (f : ℕ → Control → A → Message) → payload ≡ read_as b (payload_places b kind) x → f (word_at b 12) (control_at b) x ≡ y → (target_in b kind >>= λ id. control_in b kind >>= λ control. payload >>= λ x. Ok (f id control x)) ≡ read_as b (control_places b kind) y
 unfolding target_in
 control_message b kind payload x y f is same =
@@ -237,7 +237,7 @@ unfolding numbered_in
 numbered_is b None = refl
 numbered_is b (Some c) = command_is b c ∙ read_as-is b (places_of b c) (message_of b c)
 
--- a header's faults, and what is behind it
+-- a header's faults, and what is after it
 pub behind_header : {A : Type 0} (short sized : Bool) (b : List ℕ) (f : List ℕ → Result A CodecFault) (r : Result A CodecFault) → f b ≡ r → (cond short (Err Short) (cond (not sized) (Err SizeWord) (Ok b)) >>= f) ≡ cond short (Err Short) (cond (not sized) (Err SizeWord) r)
 behind_header true sized b f r e = refl
 behind_header false false b f r e = refl

@@ -55,7 +55,7 @@ command_is : (b : List ℕ) (t : Bool) (r : Result Reply CodecFault) (fault : Op
 command_is b true r fault x f e = e
 command_is b false r fault x f e = refl
 
--- a header's faults, and those behind it
+-- a header's faults, and those after it
 behind_header : {A : Type 0} (short sized : Bool) (b : List ℕ) (f : List ℕ → Result A CodecFault) (fault : Option CodecFault) (m : A) → f b ≡ faultless fault m → (cond short (Err Short) (cond (not sized) (Err SizeWord) (Ok b)) >>= f) ≡ faultless (cond short (Some Short) (cond (not sized) (Some SizeWord) fault)) m
 behind_header true sized b f fault m e = refl
 behind_header false false b f fault m e = refl

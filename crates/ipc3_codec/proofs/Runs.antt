@@ -51,7 +51,7 @@ two_steps : {A : Type 0} (r s : Result ℕ CodecFault) (f : Result A CodecFault)
 two_steps (Ok x) s f = refl
 two_steps (Err e) s f = refl
 
--- a pair, and those behind it
+-- a pair, and those after it
 pairs_step : (b : List ℕ) (i n : ℕ) (x : List ℕ) → pairs_from b i (suc n) x ≡ (pair_in b i >>= λ _. pairs_from b (i + 1) n x)
 unfolding pair_in
 pairs_step b i n x =

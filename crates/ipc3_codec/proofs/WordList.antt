@@ -21,7 +21,7 @@ pub written_over : (front rest bytes : List ℕ) → bytes ≡ front ++ rest →
 written_over front [] bytes is same = is ∙ append-nil front
 written_over front (x ∷ rest) bytes is same = absurd (omega (arith, same, ap length is, length-append front (x ∷ rest)))
 
--- one more word behind those that are written
+-- one more word after those that are written
 pub words_bytes-more : (front words out bytes : List ℕ) (end i k : ℕ) → end ≤ length out → i < length words → bytes ≡ to_le_bytes w32 (get_or words i 0) → take end out ≡ front ++ words_bytes (take i words) → take (end + 4) (put_mid end k out bytes) ≡ front ++ words_bytes (take (i + 1) words)
 words_bytes-more front words out bytes end i k room lt is so_far =
     let w = get_or words i 0 in
@@ -34,7 +34,7 @@ unfolding halves_bytes
 halves_bytes-push [] n = append-nil (to_le_bytes w16 n)
 halves_bytes-push (m ∷ ns) n = ap (λ (t : List ℕ). to_le_bytes w16 m ++ t) (halves_bytes-push ns n) ∙ sym (append_assoc (to_le_bytes w16 m) (halves_bytes ns) (to_le_bytes w16 n))
 
--- one more word of two bytes behind those that are written
+-- one more word of two bytes after those that are written
 pub halves_bytes-more : (front halves out bytes : List ℕ) (end i k : ℕ) → end ≤ length out → i < length halves → bytes ≡ to_le_bytes w16 (get_or halves i 0) → take end out ≡ front ++ halves_bytes (take i halves) → take (end + 2) (put_mid end k out bytes) ≡ front ++ halves_bytes (take (i + 1) halves)
 halves_bytes-more front halves out bytes end i k room lt is so_far =
     let w = get_or halves i 0 in
@@ -42,7 +42,7 @@ halves_bytes-more front halves out bytes end i k room lt is so_far =
     let written : take (end + 2) (put_mid end k out bytes) ≡ take end out ++ to_le_bytes w16 w = take-put_mid end k out bytes (end + 2) (rw is refl) room ∙ ap (λ (t : List ℕ). take end out ++ t) is in
     written ∙ ap (λ (t : List ℕ). t ++ to_le_bytes w16 w) so_far ∙ append_assoc front (halves_bytes (take i halves)) (to_le_bytes w16 w) ∙ ap (λ (t : List ℕ). front ++ t) (sym more)
 
--- ---- values behind their channels
+-- ---- values after their channels
 
 value_slots-push : (channel : ℕ) (vs : List ℕ) (v : ℕ) → value_slots channel (vs ++ v ∷ []) ≡ value_slots channel vs ++ Word (channel + length vs) ∷ Word v ∷ []
 value_slots-push channel [] v = let e : channel + 0 ≡ channel = omega arith in rw e refl
@@ -64,7 +64,7 @@ pair_bytes : (channel v : ℕ) → written (slots_cells (Word channel ∷ Word v
 unfolding slots_cells slot_cells words_bytes
 pair_bytes channel v = refl
 
--- one more value behind those that are written
+-- one more value after those that are written
 pub values-more : (front values out : List ℕ) (i : ℕ) → i < length values → out ≡ (front ++ written (slots_cells (value_slots 0 (take i values)))) ++ words_bytes (i ∷ get_or values i 0 ∷ []) → out ≡ front ++ written (slots_cells (value_slots 0 (take (i + 1) values)))
 values-more front values out i lt is =
     let v = get_or values i 0 in
@@ -81,6 +81,6 @@ part_bytes front part =
     let both : written (fixed part.header ++ (fixed part.bytes ++ [])) ≡ part.header ++ part.bytes = map-append byte_of (fixed part.header) (fixed part.bytes ++ []) ∙ (rw (written-fixed part.header, last) refl) in
     append_assoc front part.header part.bytes ∙ ap (λ (t : List ℕ). front ++ t) (sym both)
 
--- two lists behind what is written, one after the other
+-- two lists after what is written, one after the other
 pub joins : (front xs ys a b : List ℕ) → a ≡ front ++ xs → b ≡ a ++ ys → b ≡ front ++ (xs ++ ys)
 joins front xs ys a b e f = f ∙ ap (λ (t : List ℕ). t ++ ys) e ∙ append_assoc front xs ys

@@ -133,7 +133,7 @@ params_in b = do
 unfoldable pub target_in : List ℕ → ControlKind → Result ℕ CodecFault
 target_in b kind = read_as b (any_words 8 2 ++ word_of b 16 (λ n. n == type_of kind) ∷ []) (word_at b 12)
 
--- the words behind the type
+-- the words after the type
 unfoldable pub control_in : List ℕ → ControlKind → Result Control CodecFault
 control_in b kind = do
   _ ← word_in b (word_of b 20 (takes_command kind))
@@ -213,7 +213,7 @@ command_in b commands.TrigStop = read_as b (places_of b commands.TrigStop) (mess
 command_in b commands.TrigPause = read_as b (places_of b commands.TrigPause) (message_of b commands.TrigPause)
 command_in b commands.TrigRelease = read_as b (places_of b commands.TrigRelease) (message_of b commands.TrigRelease)
 
--- the message behind a header
+-- the message after a header
 unfoldable pub numbered_in : List ℕ → Option CommandWord → Result Message CodecFault
 numbered_in b None = Err (Command (word_at b 4))
 numbered_in b (Some command) = command_in b command

@@ -1,4 +1,4 @@
--- Numbers as bytes, one behind the other.
+-- Numbers as bytes, one after the other.
 use Rattle.std.specs.Prelude.{ℕ, List, [], ◌∷◌, ◌++◌}
 use Rattle.std.specs.Int.{w16, to_le_bytes}
 

@@ -186,7 +186,7 @@ impl<'a> Frame<'a> {
         Ok(count)
     }
 
-    /// How many elements remain behind these.
+    /// How many elements remain after these.
     #[tactic(auto, unfolding(crate::specs::Reading::word_in))]
     pub fn remaining(&self, at: usize, kind: ControlKind, count: u32) -> Result<u32, CodecFault>
         ensures read { result ≡ word_in self.now (word_of self.now at (takes_remaining kind count)) }

@@ -1,4 +1,4 @@
-// ctrl_data in messages and replies, and the values or the part behind it.
+// ctrl_data in messages and replies, and the values or the part after it.
 ghost use Rattle.std.specs.Prelude.{◌≡◌, ◌≤◌, ◌<◌, ◌+◌, ◌*◌, true, IfOk};
 ghost use Rattle.sof_base.specs.Slots.{word_at};
 ghost use Rattle.ipc3_model.specs.ControlWords.{takes_count};
@@ -9,7 +9,7 @@ use ipc3_model::CodecFault;
 use ipc3_model::control_kind::ControlKind;
 use sof_base::{Bounded, Part};
 
-/// The words of ctrl_data behind its type that carry something.
+/// The words of ctrl_data after its type that carry something.
 #[derive(Clone, Copy)]
 pub struct Control {
     pub command: u32,
@@ -29,7 +29,7 @@ pub fn target(frame: &Frame, kind: ControlKind) -> Result<u32, CodecFault>
     Ok(id)
 }
 
-/// The words behind the type, up to byte 92.
+/// The words after the type, up to byte 92.
 #[tactic(auto, unfolding(crate::specs::Reading::control_in))]
 pub fn control_words(frame: &Frame, kind: ControlKind) -> Result<Control, CodecFault>
     ensures read { result ≡ control_in frame.now kind }
@@ -52,7 +52,7 @@ pub fn control_words(frame: &Frame, kind: ControlKind) -> Result<Control, CodecF
     })
 }
 
-/// The values behind ctrl_data: so many pairs of a channel, in order, and its value.
+/// The values after ctrl_data: so many pairs of a channel, in order, and its value.
 pub fn values(frame: &Frame, count: u32) -> Result<Bounded<u32, 8>, CodecFault>
     requires small { count ≤ 8 }
     requires count { count ≡ word_at frame.now 56 }
@@ -65,7 +65,7 @@ pub fn values(frame: &Frame, count: u32) -> Result<Bounded<u32, 8>, CodecFault>
     Bounded::new(&values[..count as usize]).ok_or(CodecFault::Field(56))
 }
 
-/// The value of this number, behind its channel.
+/// The value of this number, after its channel.
 #[tactic(auto, unfolding(crate::specs::Reading::pair_in))]
 fn value(frame: &Frame, number: usize) -> Result<u32, CodecFault>
     requires { number < 8 }
@@ -76,7 +76,7 @@ fn value(frame: &Frame, number: usize) -> Result<u32, CodecFault>
     frame.word(96 + 8 * number)
 }
 
-/// The part behind ctrl_data: the blob's header and the part's bytes.
+/// The part after ctrl_data: the blob's header and the part's bytes.
 #[tactic(auto, unfolding(crate::specs::Reading::part_read))]
 pub fn part(frame: &Frame, control: Control) -> Result<Part, CodecFault>
     requires small { control.count ≤ 260 }

@@ -1,4 +1,4 @@
-// ctrl_data as bytes, in messages and replies, and the values or the part behind it.
+// ctrl_data as bytes, in messages and replies, and the values or the part after it.
 ghost use Rattle.std.specs.Prelude.{◌≡◌, ◌≤◌, ◌+◌, ◌*◌, ◌++◌, ◌∷◌, length, take};
 ghost use Rattle.sof_base.specs.Cells.{written};
 ghost use Rattle.sof_base.specs.Slots.{Word, slots_cells};
@@ -32,7 +32,7 @@ pub fn put_control(out: &mut [u8; 384], head: Head, kind: ControlKind, control: 
     put(out, at, &[0; 6])
 }
 
-/// ctrl_data with values behind it: 92 bytes and 8 for each.
+/// ctrl_data with values after it: 92 bytes and 8 for each.
 #[tactic(auto, unfolding(sof_base::specs::Slots::slots_cells, sof_base::specs::Slots::slot_cells))]
 pub fn put_value_control(
     out: &mut [u8; 384],
@@ -63,7 +63,7 @@ pub fn put_value_control(
     put_values(out, at, values)
 }
 
-/// ctrl_data with a part behind it: 124 bytes and those of the part.
+/// ctrl_data with a part after it: 124 bytes and those of the part.
 #[tactic(auto, unfolding(sof_base::specs::Slots::slots_cells, sof_base::specs::Slots::slot_cells))]
 pub fn put_part_control(
     out: &mut [u8; 384],

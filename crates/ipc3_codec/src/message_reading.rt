@@ -123,7 +123,7 @@ fn get_data(frame: &Frame) -> Result<Message, CodecFault>
     })
 }
 
-/// The message of a command. Where nothing is written of it, it has 12 bytes, and its id is behind the header.
+/// The message of a command. Where nothing is written of it, it has 12 bytes, and its id is after the header.
 #[tactic(auto, unfolding(crate::specs::Reading::command_in))]
 fn message(frame: &Frame, command: CommandWord) -> Result<Message, CodecFault>
     ensures { result ≡ command_in frame.now command }
@@ -162,7 +162,7 @@ fn framed_message(bytes: &[u8]) -> Result<Message, CodecFault>
     }
 }
 
-/// The message that the bytes carry, whatever stands behind it, or their first fault.
+/// The message that the bytes carry, whatever stands after it, or their first fault.
 pub fn decode(bytes: &[u8]) -> Result<Message, CodecFault>
     ensures exact { result ≡ decoded bytes.now }
     // What is decoded is a message that the bytes carry.

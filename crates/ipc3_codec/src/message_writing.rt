@@ -17,7 +17,7 @@ use ipc3_model::control_kind::{CTRL_BINARY, ControlKind};
 use ipc3_model::{CompWords, Message};
 use sof_base::{Bounded, Part};
 
-/// Writes the words of a component's type behind its config.
+/// Writes the words of a component's type after its config.
 #[tactic(auto, unfolding(sof_base::specs::Slots::words_bytes, sof_base::specs::Slots::slots_cells, sof_base::specs::Slots::slot_cells))]
 fn put_comp_words(out: &mut [u8; 384], at: usize, kind: CompWords) -> usize
     requires { at + 36 ≤ 384 }

@@ -14,7 +14,7 @@ use ipc3_model::command::REPLY;
 use ipc3_model::control_kind::ControlKind;
 use ipc3_model::{Body, CodecFault, Reply};
 
-/// What a reply carries behind its 12 bytes.
+/// What a reply carries after its 12 bytes.
 #[tactic(auto, unfolding(crate::specs::Reading::body_in))]
 fn reply_body(frame: &Frame) -> Result<Body, CodecFault>
     ensures { result ≡ body_in frame.now }
@@ -69,7 +69,7 @@ fn framed_reply(bytes: &[u8]) -> Result<Reply, CodecFault>
     })
 }
 
-/// The reply that the bytes carry, whatever stands behind it, or their first fault.
+/// The reply that the bytes carry, whatever stands after it, or their first fault.
 pub fn decode_reply(bytes: &[u8]) -> Result<Reply, CodecFault>
     ensures exact { result ≡ decoded_reply bytes.now }
     // What is decoded is a reply that the bytes carry.

@@ -1,4 +1,4 @@
-// Words and bytes that are written behind the first bytes of a message. Each call tells how many bytes there are then.
+// Words and bytes that are written after the first bytes of a message. Each call tells how many bytes there are then.
 ghost use Rattle.std.specs.Prelude.{◌≡◌, ◌≤◌, ◌+◌, ◌*◌, ◌++◌, length, take};
 ghost use Rattle.sof_base.specs.Cells.{written};
 ghost use Rattle.sof_base.specs.Slots.{slots_cells, words_bytes};
@@ -7,7 +7,7 @@ ghost use Rattle.ipc3_codec.specs.Writing.{halves_bytes};
 
 use byteorder::{ByteOrder, LittleEndian};
 
-/// Writes words behind the first `at` bytes.
+/// Writes words after the first `at` bytes.
 pub fn put(out: &mut [u8; 384], at: usize, words: &[u32]) -> usize
     requires { at + 4 * length words.now ≤ 384 }
     ensures end { result ≡ at + 4 * length words.now }
@@ -21,7 +21,7 @@ pub fn put(out: &mut [u8; 384], at: usize, words: &[u32]) -> usize
     end
 }
 
-/// Writes words of two bytes behind the first `at` bytes.
+/// Writes words of two bytes after the first `at` bytes.
 pub fn put_halves(out: &mut [u8; 384], at: usize, halves: &[u16]) -> usize
     requires { at + 2 * length halves.now ≤ 384 }
     ensures end { result ≡ at + 2 * length halves.now }
@@ -35,7 +35,7 @@ pub fn put_halves(out: &mut [u8; 384], at: usize, halves: &[u16]) -> usize
     end
 }
 
-/// Writes bytes behind the first `at` bytes.
+/// Writes bytes after the first `at` bytes.
 pub fn put_bytes(out: &mut [u8; 384], at: usize, bytes: &[u8]) -> usize
     requires { at + length bytes.now ≤ 384 }
     ensures end { result ≡ at + length bytes.now }
@@ -46,7 +46,7 @@ pub fn put_bytes(out: &mut [u8; 384], at: usize, bytes: &[u8]) -> usize
     end
 }
 
-/// Writes values, each behind its channel, behind the first `at` bytes.
+/// Writes values, each after its channel, after the first `at` bytes.
 pub fn put_values(out: &mut [u8; 384], at: usize, values: &[u32]) -> usize
     requires { at + 8 * length values.now ≤ 384 }
     ensures end { result ≡ at + 8 * length values.now }

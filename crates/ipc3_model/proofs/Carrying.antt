@@ -25,7 +25,7 @@ use Rattle.ipc3_model.proofs.WordsToPlaces.{Answers, body_only}
 
 -- ---- the words of bytes, as slots
 
--- the words behind the header are m's
+-- the words after the header are m's
 pub record Carries (b : List ℕ) (m : Message) : Type 0 where
   pub room : size_of m ≤ word_at b 0
   pub command : word_at b 4 ≡ command_number (command_of m)

@@ -194,7 +194,7 @@ reply_found b bytes header sized command good =
           subst (λ (t : Bool). Carries b (cond t bodies.Nothing (body_with b (body_kind b)))) (sym more) (body_carries b error (within 12 b sized) command here)
     ]
 
--- the fault behind the header
+-- the fault after the header
 abbrev pub behind : List ℕ → Option CodecFault
 behind b = cond (not (eqb (word_at b 4) 0x10000000)) (Some (Command (word_at b 4))) (field_fault (find (is_bad b) (reply_places b)))
 

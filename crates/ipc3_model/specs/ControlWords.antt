@@ -1,4 +1,4 @@
--- The words of messages on controls, ctrl_data, and what stands behind them: values or a part of a blob.
+-- The words of messages on controls, ctrl_data, and what stands after them: values or a part of a blob.
 use Rattle.std.specs.Prelude.{ℕ, zero, suc, ◌+◌, Bool, true, ◌&&◌, ◌||◌, List, [], ◌∷◌, ◌++◌, nat_le, ◌==◌}
 use Rattle.sof_base.specs.Slots.{Slot, Word, Size, Raw, word_at, part}
 use Rattle.sof_base.specs.declared.part.Part.{Part}
@@ -53,7 +53,7 @@ part_slots part = Raw part.header ∷ Raw part.bytes ∷ []
 
 -- ---- places
 
--- the words behind the type word, up to byte 92
+-- the words after the type word, up to byte 92
 abbrev pub control_rest_places : List ℕ → ControlKind → List Place
 control_rest_places b kind =
     word_of b 20 (takes_command kind) ∷ any_words 24 8
@@ -64,7 +64,7 @@ abbrev pub value_places : List ℕ → ℕ → ℕ → ℕ → List Place
 value_places b channel at zero = []
 value_places b channel at (suc n) = word_of b at (λ c. c == channel) ∷ any_word (at + 4) ∷ value_places b (channel + 1) (at + 8) n
 
--- what stands behind byte 92: pairs, or eight words of a header and bytes that count as one word; nothing where it is asked for
+-- what stands after byte 92: pairs, or eight words of a header and bytes that count as one word; nothing where it is asked for
 abbrev pub payload_places : List ℕ → ControlKind → List Place
 payload_places b GetValue = []
 payload_places b SetValue = value_places b 0 92 (word_at b 56)

@@ -61,7 +61,7 @@ pub record Means (b : List ℕ) (m : Message) : Type 0 where
   pub fits : Fits (take (size_of m) b) (slots_cells (message_slots m))
   pub allowed : IsAllowed m
 
--- the first fault behind a header: the command word is unknown, or a place is bad
+-- the first fault after a header: the command word is unknown, or a place is bad
 abbrev pub body_fault : List ℕ → Option CommandWord → Option CodecFault
 body_fault b None = Some (Command (word_at b 4))
 body_fault b (Some command) = field_fault (find (is_bad b) (places_of b command))

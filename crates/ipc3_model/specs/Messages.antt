@@ -108,7 +108,7 @@ command_of (TrigStop id) = commands.TrigStop
 command_of (TrigPause id) = commands.TrigPause
 command_of (TrigRelease id) = commands.TrigRelease
 
--- the words behind the header, in the order of the profile's table
+-- the words after the header, in the order of the profile's table
 abbrev pub body_slots : Message → List Slot
 body_slots (CompNew id pipe periods_sink periods_source frame_fmt kind) =
     Word id ∷ Word (type_number (comp_type kind)) ∷ Word pipe ∷ Size 0 ∷ Size 0 ∷ (config_slots periods_sink periods_source frame_fmt ++ kind_slots kind)
@@ -157,7 +157,7 @@ is_sized header b = nat_le header (word_at b 0) && nat_le (word_at b 0) 384 && n
 abbrev pub config_places : List ℕ → CompType → List Place
 config_places b type = any_words 28 5 ++ word_of b 48 (is_format_of type) ∷ any_words 52 3
 
--- the words of its type, behind the config
+-- the words of its type, after the config
 abbrev pub kind_places : List ℕ → CompType → List Place
 kind_places b types.Host = word_of b 64 is_direction ∷ any_words 68 2
 kind_places b types.Dai = word_of b 64 is_direction ∷ any_words 68 3
@@ -167,12 +167,12 @@ kind_places b types.Mux = []
 kind_places b types.EqIir = any_words 64 9
 kind_places b types.Demux = any_words 64 9
 
--- the words behind the header of its COMP_NEW; the type word is the last where it is none
+-- the words after the header of its COMP_NEW; the type word is the last where it is none
 abbrev pub comp_places : List ℕ → Option CompType → List Place
 comp_places b None = any_word 8 ∷ word_of b 12 is_comp_type ∷ []
 comp_places b (Some type) = any_word 8 ∷ word_of b 12 is_comp_type ∷ (any_words 16 3 ++ (config_places b type ++ kind_places b type))
 
--- the words behind the header of bytes with this command
+-- the words after the header of bytes with this command
 abbrev pub places_of : List ℕ → CommandWord → List Place
 places_of b commands.CompNew = comp_places b (type_numbered (word_at b 12))
 places_of b commands.Connect = any_words 8 2
@@ -188,7 +188,7 @@ places_of b _ = any_words 8 1
 
 -- ---- the message that the words of bytes are
 
--- what the words behind the config of this type are
+-- what the words after the config of this type are
 abbrev pub comp_words : List ℕ → CompType → CompWords
 comp_words b types.Host = Host (word_at b 64)
 comp_words b types.Dai = Dai (word_at b 64) (word_at b 68)

@@ -16,7 +16,7 @@ use Rattle.ipc3_model.specs.Places.{Place, any_words, word_of, is_bad, field_fau
 use Rattle.ipc3_model.specs.ControlWords.{control_slots, value_slots, part_slots, control_rest_places, payload_places, values_in, part_in}
 use Rattle.ipc3_model.specs.Messages.{is_sized, faultless}
 
--- how many bytes a reply needs: 12, or a ctrl_data and what stands behind it
+-- how many bytes a reply needs: 12, or a ctrl_data and what stands after it
 abbrev pub reply_size : Body → ℕ
 reply_size Nothing = 12
 reply_size (Values values) = 92 + 8 * length values
@@ -52,7 +52,7 @@ is_body_type n = n == VALUE_CHAN_SET || n == DATA_SET
 abbrev pub body_kind : List ℕ → ControlKind
 body_kind b = if word_at b 16 == DATA_SET then kinds.SetData else kinds.SetValue
 
--- behind its header a reply with a body is a ctrl_data
+-- after its header a reply with a body is a ctrl_data
 abbrev pub body_places : List ℕ → ControlKind → List Place
 body_places b kind = any_words 8 2 ++ word_of b 16 is_body_type ∷ (control_rest_places b kind ++ payload_places b kind)
 

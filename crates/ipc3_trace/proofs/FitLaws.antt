@@ -17,7 +17,7 @@ use Rattle.ipc3_trace.specs.CallRecords.{entries_by, entries_along, FitsRecords}
 abbrev HasSpace : HeldRecords → List ℕ → Type 0
 HasSpace h piece = length h.bytes + length piece ≤ 1048576
 
--- these are held behind what was, and nothing is cut short
+-- these are held after what was, and nothing is cut short
 abbrev Follows : HeldRecords → HeldRecords → List Entry → Type 0
 Follows h g es = (g.cut_short ≡ false) × (g.bytes ≡ h.bytes ++ records_bytes es)
 

@@ -13,7 +13,7 @@ use Rattle.ipc3_trace.specs.HeldRecords.{HeldRecords, held_where, piece_fits, ex
 use Rattle.ipc3_trace.specs.Tracing.{Traced, tracer, traced, kept_where, back_of}
 use Rattle.ipc3_trace.specs.CallRecords.{entries_by, entries_along, HoldsRecords, TracerIsDevice}
 
--- nothing was cut short, and this piece is held behind what was
+-- nothing was cut short, and this piece is held after what was
 abbrev Joins : HeldRecords → HeldRecords → List ℕ → Type 0
 Joins h g piece = (h.cut_short ≡ false) × (g.bytes ≡ h.bytes ++ piece)
 
@@ -39,7 +39,7 @@ all-append : (es fs : List Entry) → AllByRecursion IsEntry es → AllByRecursi
 all-append [] fs are all = all
 all-append (e ∷ es) fs are all = (are.0, all-append es fs are.1 all)
 
--- records behind records
+-- records after records
 joined : (h g k : HeldRecords) (es fs : List Entry) → Holds h g es → Holds g k fs → Holds h k (es ++ fs)
 joined h g k es fs first later = (
   first.0,

@@ -66,7 +66,7 @@ module _ (q : Quiescent) (c d : ℕ) (rs ss : List RingView) (hs ks : List Histo
   part-same : (id : ℕ) (bytes : List ℕ) (part : Part) → quieted (part_staged f id bytes part) ≡ quieted (part_staged g id bytes part)
   part-same id bytes part = simp (quieted-cond, quieted-ok, quieted-err)
 
-  -- behind a test that is one for both
+  -- after a test that is one for both
   behind : (t : Bool) (e : ℤ) (a b : Result FwState ℤ) → quieted a ≡ quieted b → quieted (cond t (Err e) a) ≡ quieted (cond t (Err e) b)
   behind true e a b h = refl
   behind false e a b h = h

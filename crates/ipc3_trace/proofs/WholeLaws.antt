@@ -19,7 +19,7 @@ use Rattle.ipc3_trace.proofs.RecordLaws.{IsRight, next-right, found, faulted}
 
 -- ---- one record
 
--- a record that is written is read, whatever stands before and behind it
+-- a record that is written is read, whatever stands before and after it
 pub stands-again : (e : Entry) (front rest : List ℕ) → IsEntry e → IsRecordAt (front ++ (record_bytes e ++ rest)) (length front) e (length front + length (record_bytes e))
 stands-again e front rest is = record {
   is = is;
@@ -83,7 +83,7 @@ one-from b at (e ∷ es) (f ∷ fs) x y (m, h, more) (n, k, rest) =
 length-front : (b : List ℕ) (at n m : ℕ) (whole : List ℕ) → part b at (n + m) ≡ whole → length whole ≡ n + m → length (part b at n) ≡ n
 length-front b at n m whole e long = omega (arith, ap length e, long, length-take (n + m) (drop at b), length-take n (drop at b))
 
--- the part of bytes that a front of records and those behind it take
+-- the part of bytes that a front of records and those after it take
 from-parts : (b : List ℕ) (at : ℕ) (es : List Entry) (end : Option TraceFault) → AllByRecursion IsEntry es → part b at (length (records_bytes es)) ≡ records_bytes es → IsOverAt b (at + length (records_bytes es)) end → StandFrom b at es end
 from-parts b at [] end are stand ends = subst (λ (p : ℕ). IsOverAt b p end) (omega arith) ends
 from-parts b at (e ∷ es) end are stand ends =

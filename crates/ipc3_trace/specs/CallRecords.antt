@@ -26,7 +26,7 @@ abbrev pub entries_along : {D : Type 0} (means : Meaning D) (w : World D) (cs : 
 entries_along means w [] v led = []
 entries_along means w (call ∷ cs) v led = entries_by (is_some (means.on w.device)) call ++ entries_along means led.0 cs v led.2
 
--- A tracer to which all records of these calls fit holds them behind those that it held, and a reader takes each of them.
+-- A tracer to which all records of these calls fit holds them after those that it held, and a reader takes each of them.
 abbrev pub HoldsRecords : {P : Type 0} → Meaning P → Type 0
 HoldsRecords {P} means =
     (w v : World (Traced P)) (cs : List Call) (led : Led (tracer means) w cs v) → v.device.held.cut_short ≡ false

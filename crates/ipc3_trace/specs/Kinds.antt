@@ -1,4 +1,4 @@
--- The kinds of records: the number of each, and how many bytes a record of it has behind its kind and size.
+-- The kinds of records: the number of each, and how many bytes a record of it has after its kind and size.
 use Rattle.std.specs.Prelude.{ℕ, List, [], ◌∷◌, Option, find, Bool, ◌&&◌, nat_le, ◌==◌}
 use Rattle.ipc3_trace.specs.declared.kind.RecordKind.{RecordKind}
 use Rattle.ipc3_trace.specs.declared.kind.RecordKind.TheVariants.{Boot, Cut, Request, Reply, Tick, Lost}

@@ -21,7 +21,7 @@ entry_in kinds.Reply body = Reply body
 entry_in kinds.Tick body = Tick
 entry_in kinds.Lost body = Lost
 
--- so many bytes behind kind and size, where they are there
+-- so many bytes after kind and size, where they are there
 abbrev pub whole_in : List ℕ → ℕ → RecordKind → ℕ → Result Next TraceFault
 whole_in b at kind size =
     if nat_lt (length b) (at + 8 + size) then Err (Short at) else Ok (One (entry_in kind (part b (at + 8) size)) (at + 8 + size))
@@ -41,7 +41,7 @@ next_in b at = if at == length b then Ok End else headed_in b at
 
 -- ---- as a whole trace
 
--- a record, and those behind it
+-- a record, and those after it
 abbrev pub found_then : Result Next TraceFault → (ℕ → List Entry × Option TraceFault) → List Entry × Option TraceFault
 found_then (Ok End) more = ([], None)
 found_then (Ok (One e next)) more = let rest = more next in (e ∷ rest.0, rest.1)

@@ -18,7 +18,7 @@ record_kind (Reply message) = kinds.Reply
 record_kind Tick = kinds.Tick
 record_kind Lost = kinds.Lost
 
--- the bytes behind its kind and size
+-- the bytes after its kind and size
 abbrev pub content_of : Entry → List ℕ
 content_of (Boot heap) = to_le_bytes w32 heap
 content_of Cut = []

@@ -6,7 +6,7 @@ use Rattle.ipc3_trace.specs.declared.entry.Next.{Next}
 use Rattle.ipc3_trace.specs.declared.entry.Next.TheVariants.{End, One}
 use Rattle.ipc3_trace.specs.Records.{record_bytes, IsEntry}
 
--- a record stands at a place, and `next` is the place behind it
+-- a record stands at a place, and `next` is the place after it
 pub record IsRecordAt (bytes : List ℕ) (at : ℕ) (e : Entry) (next : ℕ) : Type 0 where
   pub is : IsEntry e
   pub stands : part bytes at (length (record_bytes e)) ≡ record_bytes e

@@ -35,7 +35,7 @@ fn name(message: &Message) -> &'static [u8]
     }
 }
 
-// The words of a message behind its header, each with its place, up to its size.
+// The words of a message after its header, each with its place, up to its size.
 fn say_words(bytes: &[u8], size: usize, line: &mut Line)
     requires there { (8 ≤ size) × (size ≤ length bytes.now) × (size ≤ 384) }
     requires room { length line.old ≤ 100 }

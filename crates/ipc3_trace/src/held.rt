@@ -117,7 +117,7 @@ fn exchange_fits(bytes: &Vec<u8>, request: &[u8], back: &[u8]) -> bool
     fits(bytes, 16 + request.len() + back.len())
 }
 
-// Bytes behind those that are there; they fit in the memory that was reserved, so they are never refused.
+// Bytes after those that are there; they fit in the memory that was reserved, so they are never refused.
 fn put(bytes: &mut Vec<u8>, piece: &[u8])
     requires { vec_len bytes.old + length piece.now ≤ vec_capacity bytes.old }
     ensures bytes { bytes.new.items ≡ bytes.old.items ++ piece.now }

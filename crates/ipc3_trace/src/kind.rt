@@ -43,7 +43,7 @@ impl RecordKind {
         }
     }
 
-    /// Whether a record of this kind may have so many bytes behind its kind and size.
+    /// Whether a record of this kind may have so many bytes after its kind and size.
     pub fn takes_size(self, size: u32) -> bool
         ensures { result ≡ takes_size self size }
     {

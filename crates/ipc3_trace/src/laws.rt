@@ -13,7 +13,7 @@ ghost use Rattle.ipc3_trace.specs.declared.fault.TraceFault.{TraceFault as Fault
 use mbox_link::Dsp;
 
 /// Bytes have one trace: records, one after the other, up to their end or their first fault. A record that is written is read again, whatever
-/// stands before and behind it. Records that are written one after the other are a trace without a fault.
+/// stands before and after it. Records that are written one after the other are a trace without a fault.
 pub fn traces_are_read()
     ensures one { (b : List ℕ) (es fs : List Record) (x y : Option Fault) → IsTraceOf b es x → IsTraceOf b fs y → (es ≡ fs) × (x ≡ y) }
     ensures read { (b : List ℕ) → ((i : ℕ) → slice_index b i < 256) → IsTraceOf b (trace_in b).0 (trace_in b).1 }
@@ -28,7 +28,7 @@ pub fn alike_laws()
     ensures ticks { TicksAreAlike }
 {}
 
-/// A tracer to which all records of its calls fit holds them in order behind those that it held, and each is one that a reader takes. Where
+/// A tracer to which all records of its calls fit holds them in order after those that it held, and each is one that a reader takes. Where
 /// there is room for them all, all fit. Its calls are calls of its device, in the device's own relations.
 pub fn held_law<P: Dsp>()
     ensures held { HoldsRecords P.means }

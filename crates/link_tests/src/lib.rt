@@ -1,4 +1,4 @@
-//! Runs of the top call over a firmware behind a link that fails of its own accord.
+//! Runs of the top call over a firmware after a link that fails of its own accord.
 #![tactic(auto)]
 
 #[cfg(test)]

@@ -1,4 +1,4 @@
-// Runs over a device that fails of its own accord: a firmware behind a link of its own, which refuses a message or loses it.
+// Runs over a device that fails of its own accord: a firmware after a link of its own, which refuses a message or loses it.
 ghost use Rattle.std.specs.Prelude.{◌≡◌, None, IfOk};
 ghost use Rattle.fw_core.specs.Device.{firmware};
 ghost use Rattle.mbox_link.specs.Link.{link as linked_by};
@@ -27,7 +27,7 @@ enum Failing {
     DropsTenth,
 }
 
-// A firmware behind a link that has a fate for one message.
+// A firmware after a link that has a fate for one message.
 fn fated(alloc: Global, failing: Failing) -> Result<FaultLink<Firmware>, Fail>
     ensures off { IfOk result (λ l. (linked_by firmware).on l ≡ None) }
     ensures pending { IfOk result (λ l. (linked_by firmware).pending l ≡ 0) }

@@ -1,4 +1,4 @@
--- What a link's exchanges do, from what is known of the device behind it.
+-- What a link's exchanges do, from what is known of the device after it.
 use Rattle.std.proofs.Common.{◌≡◌, inr, ℕ, ◌+◌, ◌-◌, ◌*◌, ◌≤◌, List, replicate, Option, Some, None, refl, sym, subst, arith}
 use Rattle.sof_base.specs.Ports.{Io, OutputView, HasRoom}
 use Rattle.stream_law.specs.State.{FwState}

@@ -1,4 +1,4 @@
--- Ticks of a device, one after another, and a message behind them.
+-- Ticks of a device, one after another, and a message after them.
 use Rattle.std.proofs.Common.{◌≡◌, ℕ, zero, suc, ◌+◌, ◌-◌, ◌*◌, ◌≤◌, List, replicate, true, Option, Some, None, refl, sym, ap, ◌∙◌, subst, arith}
 use Rattle.std.specs.Prelude.{is_some}
 use Rattle.std.proofs.lemmas.Bool.{false≢true}
@@ -10,7 +10,7 @@ use Rattle.mbox_link.specs.Calls.{World, Meaning, Tick, Led, Steady, Quiet, Exch
 use Rattle.mbox_link.proofs.Rooms.{HasRoom-less}
 use Rattle.mbox_link.proofs.Led.{Led-steady, Steady-by}
 
--- ticks behind ticks
+-- ticks after ticks
 pub ticks-append : (m n : ℕ) (p : FwState × Io) → ticks (m + n) p ≡ ticks n (ticks m p)
 ticks-append zero n p = ap (λ (k : ℕ). ticks k p) (let same : zero + n ≡ n = omega arith in same)
 ticks-append (suc m) n p = ap (λ (k : ℕ). ticks k p) (let same : suc m + n ≡ suc (m + n) = omega arith in same) ∙ ticks-append m n (ticked p)
@@ -70,7 +70,7 @@ module _ {D : Type 0} (means : Meaning D) where
       by None is up = absurd (false≢true up)
       by (Some s) is up = ap (λ (o : Option FwState). is_some o) ((ticks-did n w v led).on s is).0
 
-  -- an exchange behind so many ticks, from before them
+  -- an exchange after so many ticks, from before them
   pub record Late (lag : ℕ) (request : List ℕ) (answer : Option (List ℕ)) (w v : World D) : Type 0 where
     pub step : (s : FwState) → means.on w.device ≡ Some s →
         Stepped (Rose (means.refusals w.device) (means.refusals v.device)) (Rose (means.faults w.device) (means.faults v.device)) (ticks (lag + (means.pending w.device - means.pending v.device)) (s, w.io)) request answer (means.on v.device) v.io

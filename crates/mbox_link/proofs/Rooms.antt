@@ -15,7 +15,7 @@ pub HasRoom-drained : (n : ℕ) (outputs : List OutputView) → n ≤ 1048576 �
 HasRoom-drained n [] le = tt
 HasRoom-drained n (output ∷ outputs) le = (omega arith, HasRoom-drained n outputs le)
 
--- room for what is held behind a message, from room for its ticks
+-- room for what is held after a message, from room for its ticks
 pub room-held : (all left lag a b : ℕ) (old new : List OutputView) → left + lag ≡ all → ((n : ℕ) → HasRoom (61440 * (lag + a) + n) old → HasRoom (61440 * b + n) new) →
     (n : ℕ) → HasRoom (61440 * (all + a) + n) old → HasRoom (61440 * (left + b) + n) new
 room-held all left lag a b old new is keeps n room =

@@ -1,4 +1,4 @@
--- The rows of SET_DATA and GET_DATA: a blob comes in parts, each with the header and at most 260 bytes of those behind it.
+-- The rows of SET_DATA and GET_DATA: a blob comes in parts, each with the header and at most 260 bytes of those after it.
 use Rattle.std.specs.Prelude.{ℕ, ◌+◌, ◌&&◌, ◌||◌, Bool, false, not, List, [], ◌++◌, map, length, take, filter, Option, Some, None, Result, Ok, Err, ℤ, find, nat_le, nat_lt, is_some, option_and_then, ◌==◌, if◌then◌else◌}
 use Rattle.std.specs.Option.{option_map_or}
 use Rattle.std.specs.Str.{bytes_eq}
@@ -23,7 +23,7 @@ use Rattle.mbox_link.specs.ValueRows.{with_setting}
 abbrev pub staging_at : FwState → ℕ → Option Staging
 staging_at f id = find (λ s. s.eq == id) f.staging
 
--- how many bytes come with a part and behind it
+-- how many bytes come with a part and after it
 abbrev pub bytes_left : Part → ℕ
 bytes_left part = length part.bytes + part.remaining
 

@@ -8,7 +8,7 @@ use Rattle.mbox_link.specs.declared.fates.Fate.TheVariants.{Pass, Refuse, Drop, 
 use Rattle.mbox_link.specs.Meetings.{planned, without_entry, lags}
 use Rattle.mbox_link.specs.Wire.{Wire}
 
--- the device behind the link, with the endpoints' bytes
+-- the device after the link, with the endpoints' bytes
 abbrev pub inner : {P : Type 0} → World (Wire P) → World P
 inner w = record { device = w.device.device; io = w.io }
 

@@ -10,17 +10,17 @@ use Rattle.mbox_link.specs.Wire.{Wire}
 abbrev pub holding : {P : Type 0} → Wire P → List Entry → Wire P
 holding link entries = record { device = link.device; entries = entries; sent = link.sent; dropped = link.dropped; refused = link.refused }
 
--- what planning came to: these entries are held, or there was no room and nothing changed
+-- the result of planning: these entries are held, or there was no room and nothing changed
 abbrev pub PlannedSo : {P : Type 0} → Bool → List Entry → Wire P → Result (Unit {0}) PlanFull → Wire P → Type 0
 PlannedSo room entries old (Ok done) new = (room ≡ true) × (new ≡ holding old entries)
 PlannedSo room entries old (Err full) new = (room ≡ false) × (new ≡ old)
 
--- what planning a fate of the k-th message from now came to
+-- the result of planning a fate of the k-th message from now
 abbrev pub Planned : {P : Type 0} → ℕ → Fate → Wire P → Result (Unit {0}) PlanFull → Wire P → Type 0
 Planned k fate old result new =
     let n = old.sent + k in PlannedSo (has_room n old.entries) (with_fate n fate old.entries) old result new
 
--- what planning so many ticks before it came to
+-- the result of planning so many ticks before it
 abbrev pub LagPlanned : {P : Type 0} → ℕ → ℕ → Wire P → Result (Unit {0}) PlanFull → Wire P → Type 0
 LagPlanned k ticks old result new =
     let n = old.sent + k in PlannedSo (has_lag_room n ticks old.entries) (with_lag n ticks old.entries) old result new

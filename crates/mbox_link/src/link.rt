@@ -17,13 +17,13 @@ use ipc3_model::bare_reply;
 use sof_io::{Inputs, Outputs};
 use std::marker::Model;
 
-/// Memory was wanting, and the device is handed back as it was.
+/// There was no memory, and the device is handed back as it was.
 #[derive(Drop)]
 pub struct NoRoom<P: Dsp> {
     pub dsp: P,
 }
 
-/// A device behind a link that plans the fates of its messages, and ticks before them. It counts the messages that it loses
+/// A device after a link that plans the fates of its messages, and ticks before them. It counts the messages that it loses
 /// and those that it refuses.
 #[derive(Drop)]
 pub struct FaultLink<P: Dsp> {

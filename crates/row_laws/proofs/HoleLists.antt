@@ -152,7 +152,7 @@ spaced-joined s (y ∷ ys) low high le unit some units most t = by (s.place + s.
         (le, unit, omega (arith, some), omega (arith, units, t.3), omega (arith, touch, t.4), spaced-lower (y.place + y.size + 1) (s.place + (s.size + y.size) + 1) high ys (omega (arith, touch)) t.5)
     by false e = let more = differs (s.place + s.size) y.place e in (le, unit, some, units, most, (omega (arith, t.0, more), t.1, t.2, t.3, t.4, t.5))
 
--- holes behind the first byte of a piece that is outside them are behind its last
+-- holes after the first byte of a piece that is outside them are after its last
 behind-piece : (p : PieceView) (hs : List Hole) (low high : ℕ) → p.place < low → AllByRecursion (IsOutside p) hs → Spaced low high hs → Spaced (p.place + p.size) high hs
 behind-piece p [] low high lt out t = tt
 behind-piece p (h ∷ hs) low high lt out t = (by out.0, t.1, t.2, t.3, t.4, t.5)

@@ -11,7 +11,7 @@ use Rattle.stream_law.specs.declared.graph.Join.{Join}
 use Rattle.stream_law.specs.declared.graph.Graph.{Graph}
 use Rattle.stream_law.specs.Ways.{edge_of, source_of, sink_of, ins, outs, buffers, is_end, leads, is_echo, on_way, is_capture}
 use Rattle.stream_law.specs.Joins.{kind_ins, fits_kind}
-use Rattle.stream_law.specs.Moves.{is_choosy}
+use Rattle.stream_law.specs.Moves.{skips_idle_inputs}
 use Rattle.stream_law.specs.Order.{is_among}
 use Rattle.mbox_link.specs.Step.{has_comp, has_edge, is_host, is_complete, is_ready_comp, is_ready_edge, is_way_ready}
 use Rattle.row_laws.specs.Wired.{IsWired, HasJoinedSides, IsSide, IsJoinedFrom, IsJoinedTo, IsOpen, is_at}
@@ -75,7 +75,7 @@ no-id [] a none here = false≢true here
 no-id (x ∷ ids) a none here = omega (arith, none)
 
 -- what is ready has at most one edge in, where it does not choose
-pub fits-in : (k : Kind) (m n : ℕ) → is_choosy k ≡ false → fits_kind k m n ≡ true → m ≤ 1
+pub fits-in : (k : Kind) (m n : ℕ) → skips_idle_inputs k ≡ false → fits_kind k m n ≡ true → m ≤ 1
 fits-in k m n plain fits = let few = right-most (kind_ins k) m (right-ins k m n fits) in let most = most-ins k plain in omega (arith, few, most)
 
 -- nothing goes into a playback's host, and nothing comes out of a capture's

@@ -38,7 +38,7 @@ record AreBehind (ss : List Slot) : Type 0 where
   bytes : IsBytes rest
   fits : Fits rest (slots_cells ss)
 
--- what stands behind some fields
+-- what stands after some fields
 behind : (b : List ℕ) (ss ts : List Slot) → IsBytes b → Fits b (slots_cells (ss ++ ts)) → AreBehind ts
 unfolding slots_cells
 behind b [] ts bytes fits = record { rest = b; bytes = bytes; fits = fits }

@@ -16,7 +16,7 @@ use Rattle.stream_law.specs.declared.stream.StreamView.{StreamView}
 use Rattle.stream_law.specs.State.{View}
 use Rattle.stream_law.specs.Ways.{comp_of, pipe_of, source_of, sink_of, ins, outs, components, buffers, is_end, is_of, is_capture, enters_capture, is_echo, way_joins, ways_to, on_way, is_end_on_way, is_live_phase, is_running_phase, live, active, channels_of}
 use Rattle.stream_law.specs.Joins.{fits_kind}
-use Rattle.stream_law.specs.Moves.{period, is_choosy, chooses}
+use Rattle.stream_law.specs.Moves.{period, skips_idle_inputs, chooses}
 use Rattle.stream_law.specs.Order.{is_among}
 use Rattle.ipc3_model.specs.Allowed.{is_period_allowed}
 use Rattle.mbox_link.specs.Step.{has_comp, has_kind, kind_at, is_host, is_ready_comp, is_way_ready}
@@ -166,7 +166,7 @@ module _ (v : View) (wired : IsWired v.graph) (linked : HasJoinedSides v.graph) 
         by false is = inl (play is (trip-end (way_joins v.graph) h e.buffer (trip-ways v.graph h e.buffer (sym (split false is e.buffer) ∙ on))))
 
     -- where a component with one edge in is on the way, so is that edge
-    on-in : (c : Comp) → IsIn c v.graph.comps → is_ready_comp v.graph c ≡ true → is_choosy c.kind ≡ false → is_end e.sink c.id ≡ true → on_way v.graph h c.id ≡ true → on_way v.graph h e.buffer ≡ true
+    on-in : (c : Comp) → IsIn c v.graph.comps → is_ready_comp v.graph c ≡ true → skips_idle_inputs c.kind ≡ false → is_end e.sink c.id ≡ true → on_way v.graph h c.id ≡ true → on_way v.graph h e.buffer ≡ true
     on-in c there ready plain to on = by (is_of v.graph is_capture h) refl
       where
         fits : fits_kind c.kind (length (ins v.graph c.id)) (length (outs v.graph c.id)) ≡ true
@@ -274,12 +274,12 @@ module _ (v : View) (wired : IsWired v.graph) (linked : HasJoinedSides v.graph) 
           let touches = touch-echo v.graph own.stream.host b.stream.host e.buffer echo starts ends in
           b.channels ∙ sym (one-shape own.params b.params own.stream.params b.stream.params own.has b.has (touching v played.agreed own.stream b.stream own.among b.among touches)) ∙ sym own.channels
 
-  pub chooses-kind : (c : Comp) → IsIn c v.graph.comps → chooses v c.id ≡ is_choosy c.kind
+  pub chooses-kind : (c : Comp) → IsIn c v.graph.comps → chooses v c.id ≡ skips_idle_inputs c.kind
   unfolding chooses
-  chooses-kind c there = ap (λ (o : Option Comp). option_map_or (λ x. is_choosy x.kind) o false) (comp-at c there)
+  chooses-kind c there = ap (λ (o : Option Comp). option_map_or (λ x. skips_idle_inputs x.kind) o false) (comp-at c there)
 
   -- the one edge into a component that does not choose is Live
-  live-in : (c : Comp) → IsIn c v.graph.comps → active v c.id ≡ true → is_choosy c.kind ≡ false → (e : Edge) → IsIn e v.graph.edges → is_end e.sink c.id ≡ true → live v e.buffer ≡ true
+  live-in : (c : Comp) → IsIn c v.graph.comps → active v c.id ≡ true → skips_idle_inputs c.kind ≡ false → (e : Edge) → IsIn e v.graph.edges → is_end e.sink c.id ≡ true → live v e.buffer ≡ true
   live-in c there now plain e at to =
       let r = run v c.id now in
       live-by r.stream r.among (running-live r.stream.phase r.phase) e.buffer (on-in r.stream.host (host-kind r.stream r.among) e at c there (active-ready c there now) plain to r.way)
@@ -298,12 +298,12 @@ module _ (v : View) (wired : IsWired v.graph) (linked : HasJoinedSides v.graph) 
             ∙ sym (channels-by b.stream b.among b.phase b.params b.has c.id (is-node c there) (on-sink b.stream.host (host-kind b.stream b.among) e at b.way c.id to));
       }
     where
-      by : (h : Bool) → is_choosy c.kind ≡ h → (not h || live v e.buffer) ≡ true → live v e.buffer ≡ true
+      by : (h : Bool) → skips_idle_inputs c.kind ≡ h → (not h || live v e.buffer) ≡ true → live v e.buffer ≡ true
       by false plain is = live-in c there now plain e at to
       by true some is = is
 
       lives : live v e.buffer ≡ true
-      lives = by (is_choosy c.kind) refl (sym (ap (λ h. not h || live v e.buffer) (chooses-kind c there)) ∙ takes)
+      lives = by (skips_idle_inputs c.kind) refl (sym (ap (λ h. not h || live v e.buffer) (chooses-kind c there)) ∙ takes)
 
   -- its pipeline has a period
   pub active-period : AllByRecursion (λ p. is_period_allowed p.period ≡ true) v.graph.pipes → (c : Comp) → IsIn c v.graph.comps → active v c.id ≡ true → 1 ≤ period v c.id

@@ -72,7 +72,7 @@ pub record AreHistories (v : View) (histories : List History) : Type 0 where
   pub numbers : AllByRecursion (λ h. length h.numbers ≡ numbers_held v h.comp) histories
   pub ramps : AllByRecursion (AreRampNumbers v) histories
 
--- What is so of the parts that are staged: they are an equaliser's. Those that came have 260 bytes each, behind the 32 of their
+-- What is so of the parts that are staged: they are an equaliser's. Those that came have 260 bytes each, after the 32 of their
 -- common header. More are to come, up to 992 bytes in all.
 pub record IsStaged (g : Graph) (s : Staging) : Type 0 where
   pub equaliser : has_kind is_equaliser (kind_at g s.eq) ≡ true

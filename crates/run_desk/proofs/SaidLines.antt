@@ -15,7 +15,7 @@ said line n turns (Read slot size got ∷ calls) status says = absurd says
 said line n turns (Did act true ∷ calls) status says = inr (says.3, λ i. Did (says.0 i) true ∷ says.2 i)
 said line n turns (Did act false ∷ calls) status says = inl says.3
 
--- bytes behind bytes, at a place
+-- bytes after bytes, at a place
 pub more_behind : (b : Bool) (o w v : Option (List ℕ)) (first rest : List ℕ) → w ≡ (if b then with_more o first else o) → v ≡ (if b then with_more w rest else w) → v ≡ (if b then with_more o (first ++ rest) else o)
 more_behind true None w v first rest one two = two ∙ ap (λ x. with_more x rest) one
 more_behind true (Some bytes) w v first rest one two = two ∙ ap (λ x. with_more x rest) one ∙ ap Some (append_assoc bytes first rest)
@@ -26,7 +26,7 @@ none_more true None v same = same
 none_more true (Some bytes) v same = same ∙ ap Some (sym (append-nil bytes))
 none_more false o v same = same
 
--- a front behind a whole is a front
+-- a front after a whole is a front
 pub front_behind : (first part text : List ℕ) → IsFront part text → IsFront (first ++ part) (first ++ text)
 front_behind first part text front = (front.0, append_assoc first part front.0 ∙ ap (λ xs. first ++ xs) front.1)
 

@@ -192,7 +192,7 @@ module _ {D : Type 0} (means : DeskMeaning D) where
   says_three line n turns (Did act true ∷ calls) status d e says other led three = absurd (other (sym says.3 ∙ three))
   says_three line n turns (Did act false ∷ calls) status d e says other led three = last_rises act calls d e says.2 led
 
-  -- reads that were done, and what comes behind them
+  -- reads that were done, and what comes after them
   reads_led : (reads : List (ℕ × List ℕ)) (failed : Option ℕ) (later : List DeskCall) (d e : D) → DeskLed means d (reading reads failed ++ later) e → (m : D) × (means.faults d ≤ means.faults m) × DeskLed means m (reading [] failed ++ later) e
   reads_led [] None later d e led = (d, omega arith, led)
   reads_led [] (Some slot) later d e led = (d, omega arith, led)

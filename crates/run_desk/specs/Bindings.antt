@@ -32,7 +32,7 @@ is_sought plan input name c = is_endpoint_kind input c.kind && option_map_or (λ
 abbrev pub is_right : Plan → List Bound → Bound → Bool
 is_right plan earlier b = list_any (is_sought plan b.input b.endpoint) plan.graph.comps && not (list_any (λ e. bytes_eq b.endpoint e.endpoint) earlier)
 
--- the line of the first that is wrong, behind earlier ones
+-- the line of the first that is wrong, after earlier ones
 abbrev pub wrong_behind : Plan → List Bound → List Bound → Option ℕ
 wrong_behind plan earlier [] = None
 wrong_behind plan earlier (b ∷ bs) = if is_right plan earlier b then wrong_behind plan (earlier ++ b ∷ []) bs else Some b.line

@@ -10,7 +10,7 @@ use Rattle.run_desk.specs.declared.preparing.Halt.TheVariants as halts
 abbrev pub with_newline : List ℕ → List ℕ
 with_newline line = line ++ codes "\n"
 
--- what is said where memory is wanting
+-- what is said where there is no memory
 abbrev pub no_memory_line : List ℕ
 no_memory_line = codes "no memory\n"
 

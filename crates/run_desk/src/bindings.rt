@@ -64,7 +64,7 @@ fn is_bound(bindings: &[Binding], endpoint: &Name44) -> bool
     bindings.iter().any(|binding| binds(binding, endpoint))
 }
 
-// Whether a binding is right behind earlier ones.
+// Whether a binding is right after earlier ones.
 fn is_right(plan: &Plan, earlier: &[Binding], binding: &Binding) -> bool
     ensures { result ≡ right.is_right plan.now (bounds_of earlier.now) (bound_of binding.now) }
 {

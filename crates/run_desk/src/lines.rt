@@ -9,7 +9,7 @@ use itoa::Buffer;
 use sof_script::{Line, cause_word};
 use tplg_read::TplgFault;
 
-/// A number in decimal digits, behind the bytes of the line.
+/// A number in decimal digits, after the bytes of the line.
 pub fn say_digits(number: u64, line: &mut Line)
     requires { length line.old + 40 ≤ 2304 }
     ensures said { line.new ≡ line.old ++ decimal number }
@@ -19,7 +19,7 @@ pub fn say_digits(number: u64, line: &mut Line)
     line.say(digits.format(number).as_bytes());
 }
 
-/// A word and a place, behind the bytes of the line.
+/// A word and a place, after the bytes of the line.
 pub fn say_at(word: &[u8], at: usize, line: &mut Line)
     requires { length line.old + length word.now + 40 ≤ 2304 }
     ensures said { line.new ≡ line.old ++ word.now ++ decimal at }
@@ -91,7 +91,7 @@ fn write_ticks(sum: u64, line: &mut Line)
     line.say(b"\n");
 }
 
-/// Writes the line of a rule of a topology that fails, behind a word, with its newline.
+/// Writes the line of a rule of a topology that fails, after a word, with its newline.
 pub fn write_rule(word: &[u8], rule: u8, item: u32, line: &mut Line)
     requires { length word.now ≤ 20 }
     ensures { line.new ≡ with_newline (word.now ++ decimal rule ++ (32 ∷ []) ++ decimal item) }
@@ -124,7 +124,7 @@ pub fn write_halt(halt: Halt, line: &mut Line)
     }
 }
 
-/// The first fault of a trace, behind the bytes of the line.
+/// The first fault of a trace, after the bytes of the line.
 pub fn say_trace_fault(fault: TraceFault, line: &mut Line)
     requires { length line.old ≤ 20 }
     ensures said { line.new ≡ line.old ++ trace_fault_words fault }

@@ -43,7 +43,7 @@ pub enum Halt {
     Rule { rule: u8, item: u32 },
     /// The binding of this line is wrong.
     Binding { line: u32 },
-    /// Memory was wanting.
+    /// There was no memory.
     OutOfMemory,
 }
 

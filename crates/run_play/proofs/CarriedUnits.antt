@@ -121,7 +121,7 @@ module _ {D P : Type 0} (means : DeskMeaning D) (dsp : Meaning P) where
               (by_pieces reads fill_out turn.out later inputs on inputs' (unread_ends means inputs inputs' on.last on.mid step.1.ends on.unread) turns seat' slots' more went)
         ]) (subst (λ (task : Task). Turned dsp task turned.1.0 (Seated seat inputs slots) turned.0) goes.0 turned.1.1) turned.2
 
-    -- ---- behind the reads
+    -- ---- after the reads
 
     stopped : (reads : List (ℕ × List ℕ)) (slot : ℕ) (out : Out) (turns : List Turn) (later : List DeskCall) (seat : Seat P) (inputs : List InputView) (slots : List ℕ) → ReadOn means reads (Some slot) later inputs rest old new → Over 3 turns later status → AreTurns (Fronted dsp) (Seated seat inputs slots) turns last → Carried (round ∷ rounds) (fills reads (Some slot) out ∷ turns) status old new rest last
     stopped reads slot out turns later seat inputs slots on over turned =

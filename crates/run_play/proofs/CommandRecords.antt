@@ -57,7 +57,7 @@ use Rattle.sof_session.proofs.SameNext.{due}
 use Rattle.run_play.specs.Met.{sent_deeds, act_deeds, walk_deeds, moment_deeds, order_deeds, deeds_by, command_deeds}
 use Rattle.run_play.proofs.DeedRecords.{Leaves, none-leaves, within, retold, append-leaves, boot-leaves, cut-leaves, tick-leaves, ticks-leave, ticks-on, exchange-leaves}
 
--- ---- how many moments come before and behind the acts of a command
+-- ---- how many moments come before and after the acts of a command
 
 where-few : (power : Power) (moment : Moment) → length (where_on power (moment ∷ [])) ≤ 1
 where-few On moment = omega arith
@@ -184,7 +184,7 @@ module _ {P : Type 0} (device : Meaning P) (C : Type 0) (plan : Plan) (heap : �
     abbrev deeds_at : Record → Queue → List Act → List Deed
     deeds_at kept q acts = walk_deeds plan heap goes_on (next_meeting calm) kept q acts
 
-    -- what comes behind an act, by what it came to and what is due then
+    -- what comes after an act, by what it came to and what is due then
     abbrev behind : List Act → Performed Record × Queue → List Deed
     behind acts x = if goes_past goes_on x.0.outcome then deeds_at x.0.kept x.1 acts else []
 

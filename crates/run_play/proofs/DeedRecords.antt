@@ -56,7 +56,7 @@ all-append : (es fs : List Entry) → AllByRecursion IsEntry es → AllByRecursi
 all-append [] fs are all = all
 all-append (e ∷ es) fs are all = (are.0, all-append es fs are.1 all)
 
--- ---- deeds behind deeds
+-- ---- deeds after deeds
 
 pub recorded-append : (d e : List Deed) (s : Option FwState) → recorded s (d ++ e) ≡ recorded s d ++ recorded (steps_from s (recorded s d)) e
 recorded-append [] e s = refl
@@ -83,7 +83,7 @@ module _ {P : Type 0} (device : Meaning P) (C : Type 0) where
     pub few : length (records_bytes (entries_along T w calls v led)) ≤ most
     pub met : C → T.pending w.device ≡ 0 → (s : Option FwState) → AreAlike (T.on w.device) s → ArePlain T w calls v led × (entries_along T w calls v led ≡ recorded s deeds)
 
-  -- ---- calls behind calls
+  -- ---- calls after calls
 
   record Joined (w m v : World (Traced P)) (a : List Call) (first : Led T w a m) (b : List Call) (later : Led T m b v) : Type 0 where
     led : Led T w (a ++ b) v

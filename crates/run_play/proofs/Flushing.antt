@@ -69,7 +69,7 @@ module _ {D : Type 0} (means : DeskMeaning D) where
   left_none outputs k old new past so_far = λ rest turns status end played.
       so_far rest turns status end (subst (λ os. Played means (flush_todo (written_in os) rest) new turns status end) (sym (drop_all k outputs past)) played)
 
--- bytes, and then what is written behind them
+-- bytes, and then what is written after them
 module _ {D : Type 0} (means : DeskMeaning D) (slot : ℕ) (bytes : List ℕ) (written : List Written) (old m new : D) where
   pub flushed_first : (done : Bool) → DeskPhase means (flush_todo (with_bytes slot bytes [])) true old m → DeskPhase means (flush_todo written) done m new → DeskPhase means (flush_todo (with_bytes slot bytes written)) done old new
   flushed_first true first later = λ rest turns status end played.

@@ -46,11 +46,11 @@ use Rattle.run_play.proofs.Grounds.{messages_few}
 abbrev Good : List Round → List Turn → Type 0
 Good rounds turns = AreFilled (take (length (carried_outs turns)) (commands_of rounds)) turns
 
--- the desk failed, or memory was wanting, and no turn came
+-- the desk failed, or there was no memory, and no turn came
 abbrev pub Ended : List Turn → ℕ → Type 0
 Ended turns status = (turns ≡ []) × ((status ≡ 3) ⊎ (status ≡ 7))
 
--- what comes behind calls was done, or they ended the run
+-- what comes after calls was done, or they ended the run
 abbrev Behind : Todo → List Turn → ℕ → Type 0
 Behind rest turns status = ((later : List DeskCall) × DoneBy rest turns later status) ⊎ Ended turns status
 

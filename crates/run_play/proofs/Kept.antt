@@ -240,7 +240,7 @@ module _ {P : Type 0} (means : Meaning P) where
 
   -- ---- turns, one after another
 
-  -- one, and those behind it
+  -- one, and those after it
   split-by : (task : Task) (out : Out) (turns : List Turn) (p m q : Life (Traced P)) → (Clean m → IsFirst m turns → AreTurns ByTracer m turns q → Split turns m q) → Clean p → IsFirst p (record { task = task; out = out } ∷ turns) → ByTracer task out p m → AreTurns ByTracer m turns q → Split (record { task = task; out = out } ∷ turns) p q
   split-by (Begin on_use plan heap inputs slots) out turns (Bare dsp) m q others clean first step more =
       let after : Clean m = subst Clean (sym step.0) (clean, ap (λ (u : Bool). is_some (first_up u)) first, step.1) in

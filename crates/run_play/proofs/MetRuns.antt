@@ -51,7 +51,7 @@ met-length plan heap commands = met-as-many plan heap (first_known (command_rule
 module _ {P : Type 0} (means : Meaning P) where
   -- ---- one turn
 
-  -- what comes behind a turn that fills the inputs
+  -- what comes after a turn that fills the inputs
   after-fill : (reads : List (ℕ × List ℕ)) (next : Option ℕ) (turn : Turn) (turns : List Turn) (seat : Seat P) (inputs : List InputView) (slots : List ℕ) (last : Life P) (turned : Turns means (Seated seat inputs slots) (turn ∷ turns) last) (records : List (List Entry)) →
       TurnsLeft means (Seated seat inputs slots) (turn ∷ turns) last turned records → turn.task ≡ Fill reads next →
       (inputs' : List InputView) × (slots' : List ℕ) × (more : Turns means (Seated seat inputs' slots') turns last) × TurnsLeft means (Seated seat inputs' slots') turns last more records
@@ -66,7 +66,7 @@ module _ {P : Type 0} (means : Meaning P) where
           let moved = subst (λ (s : Seat P). (more : Turns means (Seated s inputs' slots') turns last) × TurnsLeft means (Seated s inputs' slots') turns last more records) step.0 (more, left) in
           (inputs', slots', moved.0, moved.1)
 
-  -- and behind one that carries out a command, where all pipelines are made at a load
+  -- and after one that carries out a command, where all pipelines are made at a load
   record CarriedOn (command : Command) (turns : List Turn) (seat : Seat P) (last : Life P) (records : List (List Entry)) : Type 0 where
     after : Seat P
     inputs : List InputView

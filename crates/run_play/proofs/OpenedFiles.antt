@@ -108,7 +108,7 @@ module _ {D : Type 0} (means : DeskMeaning D) where
   stopped_later turns status old m new kept s =
       record { ended = s.ended; none = s.none; wrote = (s.wrote.0, s.wrote.1, λ place. s.wrote.2 place ∙ ap (λ o. if same_place Spoken place then with_more o s.wrote.0 else o) (kept place)) }
 
-  -- memory was wanting
+  -- there was no memory
   wanting : (turns : List Turn) (calls : List DeskCall) (status : ℕ) (old new : D) → Says no_memory_line 7 turns calls status → DeskLed means old calls new → Stopped turns status old new
   wanting turns [] status old new says led = absurd says
   wanting turns (Load name limit heard ∷ calls) status old new says led = absurd says
@@ -202,7 +202,7 @@ module _ {D : Type 0} (means : DeskMeaning D) where
       ∙ ap (λ o. if same_place (Slot slot) place then with_nothing o else o) (are place)
       ∙ opened_more slot outputs place (means.wrote base place)
 
-  -- the run ended while or before the files of these slots were created; where memory was wanting, none was created
+  -- the run ended while or before the files of these slots were created; where there was no memory, none was created
   pub record Before (slots : List ℕ) (turns : List Turn) (status : ℕ) (old new : D) : Type 0 where
     pub ended : (status ≡ 3) ⊎ (status ≡ 7)
     pub none : turns ≡ []
@@ -309,7 +309,7 @@ module _ {D : Type 0} (means : DeskMeaning D) where
         Next (bindings_todo plan bs rest) turns status old new →
         Opened (bound_inputs plan inputs bs) (bound_outputs plan outputs bs) (bound_files plan holds files bs) ⊎ Before (output_slots (bound_outputs plan outputs bs)) turns status base new
 
-    -- one binding, and those behind it
+    -- one binding, and those after it
     module _ (b : Bound) (bs : List Bound) (others : Opens bs) (inputs : List InputView) (outputs : List OutputView) (files : List (ℕ × List ℕ)) (old : D) (given : IsGiven holds b) (later : AllByRecursion (IsGiven holds) bs)
         (held : (name : List ℕ) → means.holds old name ≡ holds name) (are : AreOpen outputs base old) (unread : AreUnread inputs files old) where
       abbrev slot : ℕ

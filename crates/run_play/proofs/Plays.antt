@@ -105,7 +105,7 @@ module _ {D P : Type 0} (means : DeskMeaning D) (by : Turning (Life P)) where
   pub gave_alone : (dsp : Meaning P) (todo : Todo) (old new : D) (p : P) (status : ℕ) → Played means todo old [] status new → GaveBy means dsp by todo old p status new p
   gave_alone dsp todo old new p status played = record { last = Bare p; is = refl; exit = refl; ran = alone means by todo old new (Bare p) status played }
 
--- memory was wanting, and the device is handed back as it was
+-- there was no memory, and the device is handed back as it was
 pub wanted_gave : {D P : Type 0} (means : DeskMeaning D) (dsp : Meaning P) (by : Turning (Life P)) (todo : Todo) (old new : D) (p q : P) (status : ℕ) → q ≡ p → Played means todo old [] status new → GaveBy means dsp by todo old p status new q
 wanted_gave means dsp by todo old new p q status same played = subst (λ d. GaveBy means dsp by todo old p status new d) (sym same) (gave_alone means by dsp todo old new p status played)
 

@@ -66,7 +66,7 @@ tasks_recorded [] turns = refl
 tasks_recorded (es ∷ records) [] = refl
 tasks_recorded (es ∷ records) (turn ∷ turns) = ap (λ (ts : List Task). turn.task ∷ ts) (tasks_recorded (records_behind turn.task (es ∷ records)) turns)
 
--- the tasks are those of commands, each behind the reads before it
+-- the tasks are those of commands, each after the reads before it
 abbrev AreTasks : List Command → List Task → Type 0
 AreTasks [] [] = Unit {0}
 AreTasks [] (task ∷ []) = (next : Option ℕ) × ((reads : List (ℕ × List ℕ)) × (task ≡ Fill reads next))

@@ -79,7 +79,7 @@ module _ {D : Type 0} (means : DeskMeaning D) where
   abbrev pub ReadsOn : (whole left : List InputView) → D → D → Type 0
   ReadsOn whole left old new = (done : Bool) (inputs' : List InputView) (end : D) → Refilled means done left inputs' new end → Refilled means done whole inputs' old end
 
-  -- a read, and those behind it
+  -- a read, and those after it
   pub refilled_more : (slot : ℕ) (bytes : List ℕ) (inputs inputs' : List InputView) (done : Bool) (old m new : D) → next_read inputs ≡ Some slot → WasRead means slot 65536 (Some bytes) old m → Refilled means done (after_read slot bytes inputs) inputs' m new → Refilled means done inputs inputs' old new
   refilled_more slot bytes inputs inputs' done old m new next was r =
       record { reads = (slot, bytes) ∷ r.reads; failed = r.failed; led = (m, was, r.led); filled = (next, was.answers.0, r.filled); next = r.next; done_is = r.done_is }
@@ -97,7 +97,7 @@ module _ {D : Type 0} (means : DeskMeaning D) where
 
   -- ---- a turn that fills the inputs
 
-  -- calls, and those behind them
+  -- calls, and those after them
   pub led-append : (a b : List DeskCall) (d m e : D) → DeskLed means d a m → DeskLed means m b e → DeskLed means d (a ++ b) e
   led-append [] b d m e first rest = subst (λ x. DeskLed means x b e) first rest
   led-append (call ∷ a) b d m e first rest = (first.0, first.1, led-append a b first.0 m e first.2 rest)

@@ -65,7 +65,7 @@ pub fresh_none : (plan : Plan) (input : Bool) → IsFresh plan input [] []
 fresh_none plan input name there new = refl
 
 module _ (plan : Plan) (bound : List Bound) (b : Bound) where
-  -- a name that is new behind one more was new, and is another
+  -- a name that is new after one more was new, and is another
   new_parts : (name : List ℕ) → is_endpoint_bound (bound ++ b ∷ []) name ≡ false → (is_endpoint_bound bound name ≡ false) × (bytes_eq name b.endpoint ≡ false)
   new_parts name new =
       let parts = or_parts (is_endpoint_bound bound name) (is_endpoint_bound (b ∷ []) name) (sym (list_any-append (λ (x : Bound). bytes_eq name x.endpoint) bound (b ∷ [])) ∙ new) in
@@ -95,7 +95,7 @@ module _ (plan : Plan) (bound : List Bound) (b : Bound) where
       has_slot-with_slot slot (slot_of plan false b.endpoint) outputs
       ∙ or_neither (eqb (slot_of plan false b.endpoint) slot) (has_slot slot (output_slots outputs)) (apart plan false name b.endpoint there right parts.1) (fresh name there parts.0)
 
--- the first binding is right, and so are those behind it
+-- the first binding is right, and so are those after it
 pub right_first : (plan : Plan) (bound : List Bound) (b : Bound) (bs : List Bound) → wrong_behind plan bound (b ∷ bs) ≡ None → (has_endpoint plan b.input b.endpoint ≡ true) × (is_endpoint_bound bound b.endpoint ≡ false) × (wrong_behind plan (bound ++ b ∷ []) bs ≡ None)
 right_first plan bound b bs none =
     elim (cases_Bool (is_right plan bound b)) [
@@ -118,7 +118,7 @@ right_first plan bound b bs none =
 abbrev Ascends : Plan → List Bound → Type 0
 Ascends plan bs = (bound : List Bound) (inputs : List InputView) → wrong_behind plan bound bs ≡ None → IsFresh plan true bound (input_slots inputs) → IsStrictlyIncreasing (input_slots inputs) → IsStrictlyIncreasing (input_slots (bound_inputs plan inputs bs))
 
--- one binding, and those behind it
+-- one binding, and those after it
 one_bound : (plan : Plan) (bound : List Bound) (b : Bound) (bs : List Bound) (inputs : List InputView) → Ascends plan bs → wrong_behind plan bound (b ∷ bs) ≡ None → IsFresh plan true bound (input_slots inputs) → IsStrictlyIncreasing (input_slots inputs) → (input : Bool) → b.input ≡ input → IsStrictlyIncreasing (input_slots (bound_inputs plan (if input then with_input (slot_of plan input b.endpoint) inputs else inputs) bs))
 one_bound plan bound b bs inputs others none fresh sorted false is =
     let right = right_first plan bound b bs none in

@@ -189,7 +189,7 @@ module _ {D : Type 0} (means : DeskMeaning D) where
 
   -- ---- reads, one after another
 
-  -- what is still to be read after reads, and the calls behind them
+  -- what is still to be read after reads, and the calls after them
   pub record ReadOn (reads : List (ℕ × List ℕ)) (failed : Option ℕ) (later : List DeskCall) (inputs' : List InputView) (rest : ℕ → List ℕ) (d e : D) : Type 0 where
     pub mid : D
     pub last : ℕ → List ℕ

@@ -23,7 +23,7 @@ RunsIn false dsp g commands p turns last = RunsBy dsp made_at_load g commands p 
 RunsIn true dsp g commands p turns last = RunsBy dsp (made_on_use dsp) g commands p turns last
 
 -- The turns made the written run of the commands that they carried out, over the bytes that reads brought; or the desk failed, or memory
--- was wanting, before a session was begun, and the device is as it was handed in.
+-- was missing, before a session was begun, and the device is as it was handed in.
 abbrev pub PlaysWhatIsHeard : {P : Type 0} → Meaning P → List (List ℕ) → List DeskCall → List Turn → ℕ → P → Life P → Type 0
 PlaysWhatIsHeard dsp words calls turns status p last =
     (play : ToPlay (dsp.most p) words) → heard_in calls ≡ Ok play.topology ∷ Ok play.script ∷ []

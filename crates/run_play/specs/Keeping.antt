@@ -63,7 +63,7 @@ recorded_outs (es ∷ records) (out ∷ outs) = fronted (records_bytes es) out �
 
 -- ---- over a device
 
--- A command left these records: they are those of calls that led the device behind the link from where it was to where it is, and a reader
+-- A command left these records: they are those of calls that led the device after the link from where it was to where it is, and a reader
 -- takes each of them. Where no count of the device rose, they are those of the command's deeds, and lead to where it is.
 pub record LeftRecords {P : Type 0} (means : Meaning P) (command : Command) (old new : Seat P) (es : List Entry) : Type 0 where
   pub before : Io

@@ -49,7 +49,7 @@ abbrev pub opened : List ℕ → DeskPlace → Option (List ℕ) → Option (Lis
 opened slots Spoken bytes = bytes
 opened slots (Slot slot) bytes = if has_slot slot slots then with_nothing bytes else bytes
 
--- these pieces were written, place by place behind what stood there once the files of these slots were created
+-- these pieces were written, place by place after what stood there once the files of these slots were created
 abbrev pub WroteBehind : {D : Type 0} → DeskMeaning D → List ℕ → List Piece → D → D → Type 0
 WroteBehind means slots made old new = (place : DeskPlace) → means.wrote new place ≡ with_more (opened slots place (means.wrote old place)) (bytes_of_pieces place made)
 

@@ -66,7 +66,7 @@ AreMet (Some name) plan heap commands records = records ≡ met_units plan heap 
 
 -- The written run of the first units by the rules of a mode, one leg each, over the inputs' whole files. What was read of each file is a
 -- front of it, and all of it where the input has ended; the run over what was read is the same, the turns made it, and device and inputs
--- stand where it leads. The pieces were written behind what stood there once the files were made; where a trace is kept, the records of
+-- stand where it leads. The pieces were written after what stood there once the files were made; where a trace is kept, the records of
 -- each unit stand before its other pieces, and where no count of the device rose they are those that the run leaves.
 pub record Plays {D P S A : Type 0} (means : DeskMeaning D) (dsp : Meaning P) (mode : Mode P S A) (trace : Option (List ℕ)) (g : Ground) (rounds : List Round) (old new : D) (status : ℕ) (p : P) (last : Life P) (turns : List Turn) (records : List (List Entry)) : Type 0 where
   pub legs : List (Leg S)
@@ -85,7 +85,7 @@ abbrev pub PlaysIn : {D P : Type 0} → Bool → DeskMeaning D → Meaning P →
 PlaysIn false means dsp trace g rounds old new status p last turns records = Plays means dsp made_at_load trace g rounds old new status p last turns records
 PlaysIn true means dsp trace g rounds old new status p last turns records = Plays means dsp (made_on_use dsp) trace g rounds old new status p last turns records
 
--- nothing of the run was written, and the device is as it was handed in: the desk failed, or memory was wanting, and then no file was
+-- nothing of the run was written, and the device is as it was handed in: the desk failed, or there was no memory, and then no file was
 -- created
 pub record Unbegun {D P : Type 0} (means : DeskMeaning D) (slots : List ℕ) (old new : D) (status : ℕ) (p : P) (last : Life P) : Type 0 where
   pub ended : (status ≡ 3) ⊎ (status ≡ 7)

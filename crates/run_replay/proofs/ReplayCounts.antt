@@ -54,7 +54,7 @@ module _ {P : Type 0} (dsp : Meaning P) where
       abbrev Raised : Entry → Type 0
       Raised e = (n : ℕ) × ((tally_from (tallied e t) es).boots ≡ t.boots + n) × (dsp.boots (device_of last) ≡ raised n (dsp.boots d))
 
-      -- behind a call that does not boot
+      -- after a call that does not boot
       same-boots : (e : Entry) (after : P) (turns : List Turn) (reply : Option (List ℕ)) → (tallied e t).boots ≡ t.boots → dsp.boots after ≡ dsp.boots d → Turns dsp (Bare after) turns last → DoneBy (next reply) turns made 0 → Raised e
       same-boots e after turns reply counted same turned goes =
           let place = is_next reply in

@@ -10,7 +10,7 @@ use Rattle.sof_session.proofs.SteadyLives.{lives-steady}
 use Rattle.run_replay.proofs.ReplayPhases.{call-steady}
 
 module _ {P : Type 0} (dsp : Meaning P) where
-  -- the device after it, and what comes behind it
+  -- the device after it, and what comes after it
   pub record Given (call : Call) (turns : List Turn) (d : P) (last : Life P) : Type 0 where
     pub after : P
     pub did : Did dsp call (world d [] []) (world after [] [])
@@ -30,7 +30,7 @@ module _ {P : Type 0} (dsp : Meaning P) where
     pub did-steady : Steady dsp d g.after
     did-steady = call-steady dsp call d g.after g.did
 
-    -- no count rises in it, or behind it
+    -- no count rises in it, or after it
     pub first-calm : Calm dsp d (device_of last) → Calm dsp d g.after
     first-calm calm = Calm-between dsp d d g.after (device_of last) (Steady-none dsp d d refl) later-steady calm
 

@@ -56,7 +56,7 @@ module _ {P : Type 0} (dsp : Meaning P) where
             )
 
     module _ (es : List Entry) (others : Walks es) (d : P) (made : List DeskCall) (status : ℕ) (last : Life P) (s : Option FwState) (at : ℕ) (alike : AreAlike (dsp.on d) s) (none : dsp.pending d ≡ 0) (calm : Calm dsp d (device_of last)) where
-      -- what comes behind a record
+      -- what comes after a record
       abbrev Behind : Entry → Type 0
       Behind e = Came (fault_from room es end (step_by s e) (reply_after s e) (next_place at e)) (steps_from (step_by s e) es) made status last
 

@@ -38,7 +38,7 @@ give_todo Tick next = Step (Give calls.Tick) (λ out. next None)
 give_todo (Reply reply) next = next None
 give_todo Lost next = next None
 
--- records from a place on, and what comes behind them by whether the device is on then
+-- records from a place on, and what comes after them by whether the device is on then
 abbrev pub given_todo : ℕ → List Entry → Option TraceFault → Bool → Option (List ℕ) → ℕ → (Bool → Todo) → Todo
 given_todo room [] end on awaited at last = without_fault (end_fault awaited at end) (last on)
 given_todo room (e ∷ es) end on awaited at last =

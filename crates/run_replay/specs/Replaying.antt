@@ -14,7 +14,7 @@ use Rattle.run_desk.specs.Lines.{count_line}
 
 -- ---- what is at fault
 
--- the place behind a record
+-- the place after a record
 abbrev pub next_place : ℕ → Entry → ℕ
 next_place at e = at + length (record_bytes e)
 

@@ -61,7 +61,7 @@ ReplayVerdict room name bytes calls status =
 pub record Replays {D P : Type 0} (means : DeskMeaning D) (dsp : Meaning P) (words : List (List ℕ)) (old : D) (p : P) (calls : List DeskCall) (status : ℕ) (new : D) (last : Life P) : Type 0 where
   -- the device fails only where its count of faults rose
   pub failed : (name : List ℕ) → replay_of words ≡ Some name → status ≡ 10 → Rose (dsp.faults p) (dsp.faults (device_of last))
-  -- no call was made on it where the file is too long or memory was wanting
+  -- no call was made on it where the file is too long or there was no memory
   pub untouched : (name : List ℕ) → replay_of words ≡ Some name → (status ≡ 5) ⊎ (status ≡ 7) → last ≡ Bare p
   -- Over a device whose counts did not rise the status is by the file's bytes, where the desk tells them, and, whatever the desk tells,
   -- by those that the load brought.

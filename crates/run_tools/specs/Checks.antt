@@ -40,7 +40,7 @@ CheckVerdict lines name bytes calls status =
 
 -- ---- what was written
 
--- A text was said: all of it with a status, or a front of it with status 3. Or memory was wanting before, and the line for it
+-- A text was said: all of it with a status, or a front of it with status 3. Or there was no memory before, and the line for it
 -- was said or a front of it.
 pub record WroteText {D : Type 0} (means : DeskMeaning D) (text : List ℕ) (n : ℕ) (old new : D) (status : ℕ) : Type 0 where
   pub part : List ℕ

@@ -10,7 +10,7 @@ abbrev pub fault_lines : Option TraceFault → List (List ℕ)
 fault_lines None = []
 fault_lines (Some fault) = trace_fault_line fault ∷ []
 
--- one line for each record, and one for the fault behind them
+-- one line for each record, and one for the fault after them
 abbrev pub trace_lines : List Entry → Option TraceFault → List (List ℕ)
 trace_lines es fault = map (λ e. with_newline (entry_line e)) es ++ fault_lines fault
 

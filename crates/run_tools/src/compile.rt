@@ -56,7 +56,7 @@ fn refuse<D: Desk>(desk: &mut D, fault: SourceFault) -> u8
 }
 
 /// Loads the source of this name, makes the file of its topology and says how many bytes it has; or says why the source is
-/// refused. Nothing is made of a source that is refused, nor where memory is wanting.
+/// refused. Nothing is made of a source that is refused, nor where there is no memory.
 pub fn do_compile<D: Desk>(alloc: Global, names: Names<'_>, desk: &mut D) -> u8
     ensures played { Played D.means (compile_todo (names_of names.entry.source.now names.entry.out.now)) desk.old [] result desk.new }
     // What is made is the file of a topology.

@@ -33,7 +33,7 @@ fn sourced(alloc: Global, bytes: &[u8]) -> Result<Option<Vec<u8>>, Halt>
 }
 
 /// Loads the topology file of this name, makes the file of its source and says how many bytes it has; or says why there is none.
-/// Nothing is made where there is none, nor where memory is wanting.
+/// Nothing is made where there is none, nor where there is no memory.
 pub fn do_source<D: Desk>(alloc: Global, files: SourceFiles<'_>, desk: &mut D) -> u8
     ensures { Played D.means (make_source (source_files files.entry.topology.now files.entry.out.now)) desk.old [] result desk.new }
 {

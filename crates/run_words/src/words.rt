@@ -135,7 +135,7 @@ fn read_play<'a>(words: &'a [String], room: u32) -> Option<Form<'a>>
     read_traced(words, room)
 }
 
-// `check TOPOLOGY`, `graph TOPOLOGY`, `decode TRACE`, `replay TRACE`: the name of the file behind this word.
+// `check TOPOLOGY`, `graph TOPOLOGY`, `decode TRACE`, `replay TRACE`: the name of the file after this word.
 fn read_named<'a>(words: &'a [String], word: &str) -> Option<&'a str>
     ensures { MatchOption result
         (named_by word.now (map string_bytes words.now) ≡ None)

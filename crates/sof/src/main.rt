@@ -74,7 +74,7 @@ pub fn tell<D: Display + Drop>(rt: &HostRuntime, why: D) {
     let _ = eprintln!(rt; "sof: {why}");
 }
 
-// Memory was wanting.
+// There was no memory.
 fn no_memory(rt: &HostRuntime) -> u8 {
     tell(rt, "no memory");
     7
@@ -94,7 +94,7 @@ fn hold_standard_files(rt: &HostRuntime) -> io::Result<()> {
     Ok(())
 }
 
-// The words after the program's name; else the status: 7 where memory was wanting, and 6 where an argument is no text.
+// The words after the program's name; else the status: 7 where there was no memory, and 6 where an argument is no text.
 fn words(rt: &HostRuntime) -> Result<Vec<String>, u8> {
     match env::args(rt) {
         Ok(mut args) => {
@@ -131,7 +131,7 @@ fn is_untraced(form: &str) -> bool {
     form == "play" || form == "dynamic"
 }
 
-// Tells why the words led to a status, and what a script binds that is not what it seems; what memory is wanting for is left out.
+// Tells why the words led to a status, and what a script binds that is not what it seems; what there is no memory for is left out.
 fn explain(rt: &HostRuntime, words: &[String], status: u8) -> Result<(), NoMemory> {
     if status == 1 {
         if let Some(fault) = words_fault(words, ROOM) {

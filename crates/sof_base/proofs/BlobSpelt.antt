@@ -27,7 +27,7 @@ unfolding AreWords
 AreWords-append [] ys are more = more
 AreWords-append (x ∷ xs) ys are more = (are.0, AreWords-append xs ys are.1 more)
 
--- one run of words behind another
+-- one run of words after another
 then : (xs ys b : List ℕ) (place middle next : ℕ) → Spelt xs b place middle → Spelt ys b middle next → Spelt (xs ++ ys) b place next
 then xs ys b place middle next first second = record {
   bytes =

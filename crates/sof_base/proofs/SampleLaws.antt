@@ -33,7 +33,7 @@ pub frames_in-drop : (format : Format) (channels : ℕ) (bytes : List ℕ) (from
 frames_in-drop format channels bytes from n =
     ap (λ f. map f (range_with_len 0 n)) (λ i j. (frame_in-drop format channels bytes from (0 + j * (channels * width format)) ∙ ap (frame_in format channels bytes) (let e : from + (0 + j * (channels * width format)) ≡ from + j * (channels * width format) = omega arith in e)) i)
 
--- ---- with more bytes behind
+-- ---- with more bytes after
 
 part-append : (xs ys : List ℕ) (at n : ℕ) → at + n ≤ length xs → part (xs ++ ys) at n ≡ part xs at n
 part-append xs ys at n fits = ap (take n) (drop-append-le at xs ys (omega arith)) ∙ take-append-le n (drop at xs) ys (omega (arith, length-drop at xs))

@@ -24,7 +24,7 @@ unfolding slot_cells
 written_name name =
     map-append byte_of (fixed (name ++ 0 ∷ [])) (loose (zeros (43 - length name))) ∙ (rw (written-fixed (name ++ 0 ∷ []), written-loose (zeros (43 - length name))) (append_assoc name (0 ∷ []) (zeros (43 - length name))))
 
--- fields behind what is written
+-- fields after what is written
 pub wrote_slots : (old : List ℕ) (ss : List Slot) → wrote_all old ss ≡ old ++ written (slots_cells ss)
 unfolding slots_cells wrote
 wrote_slots old [] = sym (append-nil old)
@@ -42,7 +42,7 @@ zeros-replicate : (n : ℕ) → replicate n 0 ≡ zeros n
 zeros-replicate zero = refl
 zeros-replicate (suc n) = ap (λ (t : List ℕ). 0 ∷ t) (zeros-replicate n)
 
--- zeros behind a name
+-- zeros after a name
 pub name_padded : (old name : List ℕ) → length name < 44 → (old ++ name) ++ take (44 - length name) (replicate 44 0) ≡ wrote old (Label name)
 unfolding wrote
 name_padded old name short =
@@ -50,7 +50,7 @@ name_padded old name short =
     let pads : take (44 - length name) (replicate 44 0) ≡ 0 ∷ zeros (43 - length name) = take-replicate (44 - length name) 44 0 (omega arith) ∙ ap (λ (n : ℕ). replicate n 0) k ∙ zeros-replicate (suc (43 - length name)) in
     rw (pads, written_name name) (append_assoc old name (0 ∷ zeros (43 - length name)))
 
--- words behind words
+-- words after words
 pub words_none : (old : List ℕ) → wrote old (Words []) ≡ old
 unfolding wrote slot_cells words_bytes
 words_none old = append-nil old

@@ -38,7 +38,7 @@ blob_responses b = word_at b 40
 abbrev pub assignment_at : List ℕ → ℕ → ℤ
 assignment_at b channel = signed_at b (60 + 4 * channel)
 
--- the place of a response: behind the assignments and the responses before it, 24 bytes of head and 28 for each section
+-- the place of a response: after the assignments and the responses before it, 24 bytes of head and 28 for each section
 abbrev pub response_at : List ℕ → ℕ → ℕ
 response_at b zero = 60 + 4 * blob_channels b
 response_at b (suc r) = response_at b r + 24 + 28 * word_at b (response_at b r)

@@ -46,7 +46,7 @@ section_words s = s.a2 ∷ s.a1 ∷ s.b2 ∷ s.b1 ∷ s.b0 ∷ s.shift ∷ s.gai
 abbrev pub response_words : ResponseFields → List ℕ
 response_words r = length r.sections ∷ length r.sections ∷ (r.reserved ++ flat_map section_words r.sections)
 
--- of a blob with so many bytes behind its header
+-- of a blob with so many bytes after its header
 abbrev pub blob_words : ℕ → BlobFields → List ℕ
 blob_words size f =
     blob_magic ∷ f.kind ∷ size ∷ f.abi

@@ -17,7 +17,7 @@ unfoldable pub words_at : ℕ → List ℕ → ℕ → List ℕ
 words_at zero bytes at = []
 words_at (suc n) bytes at = word_at bytes at ∷ words_at n bytes (at + 4)
 
--- bytes, and a field behind them
+-- bytes, and a field after them
 unfoldable pub wrote : List ℕ → Slot → List ℕ
 wrote out s = out ++ written (slot_cells s)
 
@@ -26,7 +26,7 @@ abbrev pub wrote_all : List ℕ → List Slot → List ℕ
 wrote_all out [] = out
 wrote_all out (s ∷ ss) = wrote_all (wrote out s) ss
 
--- bytes, and cells behind them
+-- bytes, and cells after them
 unfoldable pub wrote_part : List ℕ → List Cell → List ℕ
 wrote_part out cells = out ++ written cells
 

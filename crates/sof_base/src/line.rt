@@ -46,7 +46,7 @@ impl Line {
         self.bytes.clear();
     }
 
-    /// Bytes behind those of the line.
+    /// Bytes after those of the line.
     pub fn say(&mut self, piece: &[u8])
         requires { length self.old + length piece.now ≤ 2304 }
         ensures said { self.new ≡ self.old ++ piece.now }
@@ -55,7 +55,7 @@ impl Line {
         extend(&mut self.bytes, piece);
     }
 
-    /// A number in decimal digits behind the bytes of the line.
+    /// A number in decimal digits after the bytes of the line.
     pub fn say_number(&mut self, number: u32)
         requires { length self.old + 10 ≤ 2304 }
         ensures said { self.new ≡ self.old ++ decimal number }
@@ -65,7 +65,7 @@ impl Line {
         self.say(digits.format(number).as_bytes());
     }
 
-    /// A signed number in decimal digits behind the bytes of the line.
+    /// A signed number in decimal digits after the bytes of the line.
     pub fn say_signed(&mut self, number: i32)
         requires { length self.old + 11 ≤ 2304 }
         ensures said { self.new ≡ self.old ++ signed_decimal number }
@@ -75,7 +75,7 @@ impl Line {
         self.say(digits.format(number).as_bytes());
     }
 
-    /// At most 1024 bytes in hex, in lower case, behind the bytes of the line.
+    /// At most 1024 bytes in hex, in lower case, after the bytes of the line.
     pub fn say_hex(&mut self, bytes: &[u8])
         requires few { length bytes.now ≤ 1024 }
         requires room { length self.old + 2 * length bytes.now ≤ 2304 }
@@ -91,7 +91,7 @@ impl Line {
     }
 }
 
-// Bytes behind those that are there.
+// Bytes after those that are there.
 fn extend(to: &mut ArrayVec<u8, 2304>, piece: &[u8])
     requires { length to.old.items + length piece.now ≤ 2304 }
     ensures { to.new.items ≡ to.old.items ++ piece.now }

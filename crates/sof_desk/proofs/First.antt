@@ -91,7 +91,7 @@ find-set-beside q (x ∷ xs) (suc i) d y within was is =
     let rest = find-set-beside q xs i d y (omega (arith, within)) was is in
     elim (q x) as (λ b. (if b then Some x else find q (set xs i y)) ≡ (if b then Some x else find q xs)) [ true ↦ refl | false ↦ rest ]
 
--- an item that does not pass, behind all others
+-- an item that does not pass, after all others
 pub find-push : {X : Type 0} (q : X → Bool) (xs : List X) (y : X) → q y ≡ false → find q (xs ++ y ∷ []) ≡ find q xs
 find-push q [] y is = rw is refl
 find-push q (x ∷ xs) y is =

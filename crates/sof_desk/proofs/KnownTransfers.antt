@@ -48,7 +48,7 @@ pub write_step : (piece rest part : List ℕ) (n : ℕ) (a b c : Option (List �
 write_step piece rest part n a b c parts first second =
     (part ++ take n rest, (rw take_rest (append_assoc part (take n rest) (drop n rest) ∙ ap (λ t. part ++ t) (take-append-drop n rest) ∙ parts), appends_more a b c part (take n rest) first second))
 
--- a piece behind one that was written whole
+-- a piece after one that was written whole
 pub part_behind : (done : Bool) (near far part : List ℕ) → Part done part far → Part done (near ++ part) (near ++ far)
 part_behind true near far part takes = ap (λ t. near ++ t) takes
 part_behind false near far part takes = (takes.0, append_assoc near part takes.0 ∙ ap (λ t. near ++ t) takes.1)

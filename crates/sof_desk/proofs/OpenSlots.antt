@@ -47,7 +47,7 @@ map-set-alike f [] i d y same = refl
 map-set-alike f (x ∷ xs) zero d y same = ap (λ n. n ∷ map f xs) same
 map-set-alike f (x ∷ xs) (suc i) d y same = ap (λ ns. f x ∷ ns) (map-set-alike f xs i d y same)
 
--- what is found under another slot, where a file stands in the place of the first one of its slot, or behind all others
+-- what is found under another slot, where a file stands in the place of the first one of its slot, or after all others
 pub beside-set : {X : Type 0} (f : X → ℕ) (slot : ℕ) (xs : List X) (i : ℕ) (y : X) → position (under f slot) xs ≡ Some i → f y ≡ slot → (other : ℕ) → nat_eq slot other ≡ false → find (under f other) (set xs i y) ≡ find (under f other) xs
 beside-set f slot xs i y found is other apart =
     let first = is_first (under f slot) xs i y found in

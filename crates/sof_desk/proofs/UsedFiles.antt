@@ -11,7 +11,7 @@ use Rattle.sof_desk.specs.UsedFiles.{is_same_file, use_in, used_with, MayTake, T
 use Rattle.sof_desk.proofs.First.{find-push}
 use Rattle.sof_desk.proofs.OpenSlots.{same_number}
 
--- an item that passes, behind others that do not
+-- an item that passes, after others that do not
 find-push-new : {X : Type 0} (q : X → Bool) (xs : List X) (y : X) → find q xs ≡ None → q y ≡ true → find q (xs ++ y ∷ []) ≡ Some y
 find-push-new q [] y none is = rw is refl
 find-push-new {X} q (x ∷ xs) y none is = by_test (q x) refl (λ rest. find-push-new q xs y rest is)

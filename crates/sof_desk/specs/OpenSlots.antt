@@ -33,7 +33,7 @@ with_read slot count opens = changed_first (is_under slot) (read_on count) opens
 abbrev pub read_of : Option HeldFile → List ℕ
 read_of file = unwrap_or (loaded_of file) []
 
--- what is still to be read of an open slot: the bytes behind those that were read
+-- what is still to be read of an open slot: the bytes after those that were read
 abbrev pub rest_after : List HeldFile → OpenSlot → List ℕ
 rest_after files o = drop o.position (read_of (slice_get files o.place))
 

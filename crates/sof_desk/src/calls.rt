@@ -15,7 +15,7 @@ pub enum LoadFault {
     Failed,
     /// The file has more bytes than the caller's limit.
     TooLong,
-    /// Memory for the bytes was wanting.
+    /// Memory for the bytes was missing.
     OutOfMemory,
 }
 
@@ -42,7 +42,7 @@ pub trait Desk {
     ///
     /// Ok is all its bytes, and never more than `limit` bytes, also where the desk tells no content. `TooLong`: the file
     /// has more than `limit` bytes. `Failed`: the count of faults rose, also where the file is written by this run.
-    /// `OutOfMemory`: memory was wanting.
+    /// `OutOfMemory`: there was no memory.
     /// In every case what was written stays, and so does what is still to be read.
     fn load(&mut self, alloc: Global, name: &str, limit: usize) -> Result<Vec<u8>, LoadFault>
         ensures { MatchResult result

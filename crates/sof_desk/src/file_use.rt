@@ -68,7 +68,7 @@ fn refusal(had: Option<FileUse>) -> io::Error {
     }
 }
 
-/// Takes a file for a use, where its use allows that; fails otherwise, and where memory was wanting.
+/// Takes a file for a use, where its use allows that; fails otherwise, and where there was no memory.
 pub fn take(files: &mut Vec<UsedFile>, file: Option<FileId>, usage: FileUse) -> io::Result<()>
     ensures ok { OnOk result (IsTaken usage file files.old.items files.new.items) }
     ensures succeeds { MayTake usage file files.old.items → vec_len files.old < vec_capacity files.old → IsOk result }

@@ -42,7 +42,7 @@ impl<F: Write + OpenFile + Drop> Model for OutFile<F> {
 }
 
 impl<F: Write + OpenFile + Drop> OutFile<F> {
-    /// All memory for a file of a name under a slot, before the file is touched; fails only where memory was wanting.
+    /// All memory for a file of a name under a slot, before the file is touched; fails only where there was no memory.
     pub fn new(alloc: Global, slot: u32, name: &str) -> io::Result<OutFile<F>>
         ensures slot { IfOk result (λ f. f.slot ≡ slot) }
         ensures kept { IfOk result (λ f. f.kept ≡ []) }

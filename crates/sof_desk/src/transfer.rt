@@ -16,7 +16,7 @@ pub enum ReadFault {
     Failed(io::Error),
     /// The reader gave more bytes than the limit.
     TooLong,
-    /// Memory for the bytes was wanting.
+    /// Memory for the bytes was missing.
     OutOfMemory,
 }
 

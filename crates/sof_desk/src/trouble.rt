@@ -9,7 +9,7 @@ use std::{fmt, io};
 pub enum Subject {
     /// The file of this name.
     File(String),
-    /// A file without a name: memory for the name was wanting, or the slot has no file.
+    /// A file without a name: memory for the name was missing, or the slot has no file.
     SomeFile,
     /// Standard output.
     Output,

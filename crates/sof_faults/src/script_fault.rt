@@ -173,7 +173,7 @@ fn takes_input(plan: &Plan, name: &[u8]) -> Option<bool> {
     None
 }
 
-// Why the binding of a place is wrong behind those before it; none where it is right.
+// Why the binding of a place is wrong after those before it; none where it is right.
 fn binding_cause<'a>(
     plan: &Plan,
     bindings: &[Binding],

@@ -37,7 +37,7 @@ fn called(kind: RecordKind) -> &'static str {
     }
 }
 
-// How many bytes stand behind its kind and size.
+// How many bytes stand after its kind and size.
 fn sizes_of(kind: RecordKind) -> &'static str {
     match kind {
         RecordKind::Boot => "4 bytes",

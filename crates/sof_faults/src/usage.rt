@@ -1,4 +1,4 @@
-// What stands behind each word of a script.
+// What stands after each word of a script.
 use sof_script::values::{error, format, hex, name, number};
 use sof_script::{Cause, FileName};
 

@@ -2,7 +2,7 @@
 use crate::shown::Quoted;
 use thiserror::Error;
 
-/// What is wrong with the words behind the program's name.
+/// What is wrong with the words after the program's name.
 #[derive(Clone, Copy, Debug, Drop, Error)]
 pub enum WordsFault<'a> {
     #[error("no form is given; try 'sof --help'")]
@@ -34,7 +34,7 @@ fn words_stand(given: usize) -> &'static str {
     }
 }
 
-// A form: its word, the words behind it as they are told, and each of them.
+// A form: its word, the words after it as they are told, and each of them.
 #[derive(Clone, Copy)]
 struct Form {
     word: &'static str,
@@ -42,7 +42,7 @@ struct Form {
     slots: &'static [Slot],
 }
 
-// A word behind a form.
+// A word after a form.
 #[derive(Clone, Copy)]
 enum Slot {
     Heap,

@@ -127,7 +127,7 @@ has_ended-taken slot n other (input ∷ inputs) =
       | inr differs ↦ rw differs (ap (λ (rest : Bool). if eqb input.slot other then input.ended else rest) (has_ended-taken slot n other inputs))
     ]
 
--- ---- bytes put behind a slot
+-- ---- bytes put after a slot
 
 -- the slots stay
 pub slots-filled_at : (slot : ℕ) (piece : List ℕ) (inputs : List InputView) → input_slots (filled_at slot piece inputs) ≡ input_slots inputs

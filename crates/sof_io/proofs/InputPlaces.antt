@@ -49,7 +49,7 @@ first-at slot (suc at) (input ∷ inputs) d distinct low is =
 pub stands-at : (slot at : ℕ) (inputs : List InputView) (d : InputView) → IsStrictlyIncreasing (input_slots inputs) → at < length inputs → (get_or inputs at d).slot ≡ slot → Some at ≡ position (is_input slot) inputs
 stands-at slot at inputs d ascends low is = sym (found_place (is_input slot) inputs at (first-at slot at inputs d (ascending_distinct (input_slots inputs) ascends) low is) low)
 
--- ---- bytes taken of a slot, put behind it, or no more to come
+-- ---- bytes taken of a slot, put after it, or no more to come
 
 taken-is : (slot n : ℕ) (inputs : List InputView) → changed (is_input slot) (after_input n) inputs ≡ taken slot n inputs
 taken-is slot n [] = refl

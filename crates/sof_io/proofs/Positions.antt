@@ -35,7 +35,7 @@ positions-with_input slot (input ∷ inputs) all =
       | inr below ↦ rw below (positions-one input (with_input slot inputs) (positions-first input inputs all) (positions-with_input slot inputs (positions-rest input inputs all)))
     ]
 
--- bytes put behind a slot
+-- bytes put after a slot
 pub positions-filled_at : (slot : ℕ) (piece : List ℕ) (inputs : List InputView) → All HasPosition inputs → All HasPosition (filled_at slot piece inputs)
 positions-filled_at slot piece [] all = positions-none
 positions-filled_at slot piece (input ∷ inputs) all =

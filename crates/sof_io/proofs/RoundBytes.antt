@@ -59,7 +59,7 @@ round-past s n k xs le fits few =
       | inr near ↦ rw (le-ltb (length xs) (s + k) near) (sym behind)
     ]
 
--- bytes put where those that are held end come behind them
+-- bytes put where those that are held end come after them
 pub round-put : (s n t m : ℕ) (xs ys : List ℕ) → s ≤ length xs → t + m ≤ length xs → n + m ≤ length xs → length ys ≡ m → (t ≡ s + n) ⊎ (t + length xs ≡ s + n) → round_bytes s (n + m) (put_mid t m xs ys) ≡ round_bytes s n xs ++ ys
 round-put s n t m xs ys le room fits count at =
     same_lists _ _ (omega (arith, long, length-round s (n + m) whole (omega (arith, long)) (omega (arith, long)), length-round s n xs le (omega arith), length-append (round_bytes s n xs) ys)) (λ k d under.
@@ -110,7 +110,7 @@ round-put s n t m xs ys le room fits count at =
         let there : s + k - length xs ≡ t + (k - n) = omega arith in
         second_whole (s + k) d (omega arith) ∙ ap (λ (j : ℕ). get_or whole j d) there ∙ within (k - n) d (omega arith) ∙ put k d ge
 
--- bytes behind a list whose last ones are held
+-- bytes after a list whose last ones are held
 pub round-grown : (s n : ℕ) (xs ys : List ℕ) → s ≤ length xs → n ≤ length xs → (0 < length ys → s + n ≡ length xs) → round_bytes s (n + length ys) (xs ++ ys) ≡ round_bytes s n xs ++ ys
 round-grown s n xs [] le fits last =
     let none : n + 0 ≡ n = omega arith in

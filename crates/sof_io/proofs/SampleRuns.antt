@@ -7,7 +7,7 @@ use Rattle.sof_base.specs.declared.format.Format.{Format}
 use Rattle.sof_base.specs.Samples.{width, sample_out_of, frame_out}
 use Rattle.sof_base.proofs.SampleLaws.{length-sample_out}
 
--- the bytes of samples and of those behind them
+-- the bytes of samples and of those after them
 pub frame_out-append : (format : Format) (xs ys : List ℤ) → frame_out format (xs ++ ys) ≡ frame_out format xs ++ frame_out format ys
 frame_out-append format [] ys = refl
 frame_out-append format (x ∷ xs) ys = ap (λ (t : List ℕ). sample_out_of format x ++ t) (frame_out-append format xs ys) ∙ sym (append_assoc (sample_out_of format x) (frame_out format xs) (frame_out format ys))

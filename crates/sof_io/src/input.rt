@@ -70,7 +70,7 @@ impl Input {
         self.ended
     }
 
-    /// Puts a piece behind the bytes that are left. The memory is first written up to its end, and then again from its beginning.
+    /// Puts a piece after the bytes that are left. The memory is first written up to its end, and then again from its beginning.
     pub fn fill(&mut self, piece: &[u8])
         requires { length self.old.left + length piece.now ≤ INPUT_BYTES }
         ensures { self.new ≡ fuller_input piece.now self.old }

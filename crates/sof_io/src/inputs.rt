@@ -72,7 +72,7 @@ impl Inputs {
         place_of(self.inputs.as_slice(), slot).is_some()
     }
 
-    /// One more input, with memory for 1048576 bytes; its slot must not be there yet. Where memory is wanting, the inputs stay as they are.
+    /// One more input, with memory for 1048576 bytes; its slot must not be there yet. Where there is no memory, the inputs stay as they are.
     pub fn add(&mut self, slot: u32) -> Result<(), NoMemory>
         requires { has_slot slot (input_slots self.old) ≡ false }
         ensures ok { OnOk result (self.new ≡ with_input slot self.old) }
@@ -96,7 +96,7 @@ impl Inputs {
         }
     }
 
-    /// Puts a piece behind the bytes that are left of a slot. This takes no memory.
+    /// Puts a piece after the bytes that are left of a slot. This takes no memory.
     pub fn fill(&mut self, slot: u32, piece: &[u8])
         requires there { has_slot slot (input_slots self.old) ≡ true }
         requires open { has_ended slot self.old ≡ false }

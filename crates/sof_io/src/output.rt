@@ -9,7 +9,7 @@ use sof_base::{Format, NoMemory, OUTPUT_BYTES, Sample};
 use std::alloc::Global;
 use std::marker::Model;
 
-/// The bytes of one output: the first `held` of those in memory that was reserved for them. What lies behind them means nothing.
+/// The bytes of one output: the first `held` of those in memory that was reserved for them. What lies after them means nothing.
 /// Contracts see its slot and its bytes.
 #[derive(Debug, Drop)]
 pub struct Output {
@@ -68,7 +68,7 @@ impl Output {
         OUTPUT_BYTES - self.held
     }
 
-    /// Puts a piece behind its bytes.
+    /// Puts a piece after its bytes.
     pub fn put(&mut self, piece: &[u8])
         requires { length self.old.bytes + length piece.now ≤ OUTPUT_BYTES }
         ensures { self.new ≡ longer_output piece.now self.old }
@@ -79,7 +79,7 @@ impl Output {
         self.held = end;
     }
 
-    /// Puts the samples of words, and of those behind them, behind its bytes, in a format.
+    /// Puts the samples of words, and of those after them, after its bytes, in a format.
     pub fn put_samples(&mut self, format: Format, front: &[Sample], back: &[Sample])
         requires { length self.old.bytes + (length front.now + length back.now) * width format ≤ OUTPUT_BYTES }
         ensures { self.new ≡ longer_output (frame_out format (front.now ++ back.now)) self.old }

@@ -74,7 +74,7 @@ impl Outputs {
         place_of(self.outputs.as_slice(), slot).is_some()
     }
 
-    /// One more output, with memory for 1048576 bytes; its slot must not be there yet. Where memory is wanting, the outputs stay as they are.
+    /// One more output, with memory for 1048576 bytes; its slot must not be there yet. Where there is no memory, the outputs stay as they are.
     pub fn add(&mut self, slot: u32) -> Result<(), NoMemory>
         requires { has_slot slot (output_slots self.old) ≡ false }
         ensures ok { OnOk result (self.new ≡ with_slot slot self.old) }
@@ -96,7 +96,7 @@ impl Outputs {
         }
     }
 
-    /// Puts a piece, of at most `room` bytes, behind a slot's bytes. An unknown slot drops it. This takes no memory.
+    /// Puts a piece, of at most `room` bytes, after a slot's bytes. An unknown slot drops it. This takes no memory.
     pub fn put(&mut self, slot: u32, piece: &[u8])
         requires { length piece.now ≤ room_at slot self.old }
         ensures { self.new ≡ with_piece slot piece.now self.old }
@@ -106,7 +106,7 @@ impl Outputs {
         }
     }
 
-    /// Puts samples, and those behind them, in a format behind a slot's bytes; it has room for theirs. An unknown slot drops them. This
+    /// Puts samples, and those after them, in a format after a slot's bytes; it has room for theirs. An unknown slot drops them. This
     /// takes no memory.
     pub fn put_samples(&mut self, slot: u32, format: Format, front: &[Sample], back: &[Sample])
         requires { (length front.now + length back.now) * width format ≤ room_at slot self.old }

@@ -26,7 +26,7 @@ pub fn copy_out(bytes: &[u8], start: usize, out: &mut [u8])
     out[ahead..].copy_from_slice(&bytes[..rest]);
 }
 
-/// Copies a piece behind the `held` bytes from `start` on, round the end: in one piece, or else in two.
+/// Copies a piece after the `held` bytes from `start` on, round the end: in one piece, or else in two.
 pub fn copy_in(bytes: &mut [u8], start: usize, held: usize, piece: &[u8])
     requires { (start ≤ length bytes.old) × (held + length piece.now ≤ length bytes.old) }
     ensures { round_bytes start (held + length piece.now) bytes.new ≡ round_bytes start held bytes.old ++ piece.now }
@@ -42,7 +42,7 @@ pub fn copy_in(bytes: &mut [u8], start: usize, held: usize, piece: &[u8])
     bytes[..back.len()].copy_from_slice(back);
 }
 
-/// Puts a piece behind the bytes, in memory that was reserved for it.
+/// Puts a piece after the bytes, in memory that was reserved for it.
 pub fn grow(bytes: &mut Vec<u8>, piece: &[u8])
     requires { vec_len bytes.old + length piece.now ≤ vec_capacity bytes.old }
     ensures items { bytes.new.items ≡ bytes.old.items ++ piece.now }

@@ -17,7 +17,7 @@ fn write_samples(format: Format, words: &[Sample], bytes: &mut [u8])
     }
 }
 
-/// Writes the samples of words and of those behind them.
+/// Writes the samples of words and of those after them.
 pub(crate) fn write_both(format: Format, front: &[Sample], back: &[Sample], bytes: &mut [u8])
     requires { length bytes.old ≡ (length front.now + length back.now) * width format }
     ensures { bytes.new ≡ frame_out format (front.now ++ back.now) }

@@ -55,7 +55,7 @@ use Rattle.sof_run.proofs.Findings.{run_of, as_prepared, prepared_same, run_hear
 
 -- ---- what is to do, unrolled
 
--- a load, and what comes behind it by the bytes
+-- a load, and what comes after it by the bytes
 abbrev loading : List ℕ → ℕ → List ℕ → List Heard → (List ℕ → List Heard → Course) → Course
 loading name limit line [] next = record { items = Calls (Load name limit (Err Failed)) ∷ []; status = 3 }
 loading name limit line (Ok bytes ∷ heard) next = before_course (Calls (Load name limit (Ok bytes)) ∷ []) (next bytes heard)
@@ -87,7 +87,7 @@ wanted turns (Read n size got ∷ calls) status says = absurd says
 wanted turns (Did act true ∷ calls) status says = says
 wanted turns (Did act false ∷ calls) status says = says
 
--- reads, and what comes behind them
+-- reads, and what comes after them
 reads_made : (reads : List (ℕ × List ℕ)) (items : List Item) (end : ℕ) (turns : List Turn) (later : List DeskCall) (status : ℕ) → Made items end turns later status → Made (map Calls (reading reads None) ++ items) end turns (reading reads None ++ later) status
 reads_made [] items end turns later status made = made
 reads_made ((slot, bytes) ∷ reads) items end turns later status made = (refl, reads_made reads items end turns later status made)
@@ -286,7 +286,7 @@ giving-same entries.Tick f g heard same turns = turning-same (Give device.Tick) 
 giving-same (entries.Reply reply) f g heard same turns = same None turns
 giving-same entries.Lost f g heard same turns = same None turns
 
--- records that are given, whatever comes behind them
+-- records that are given, whatever comes after them
 module _ (room : ℕ) (end : Option TraceFault) (f : Bool → Todo) (g : Bool → Course) (heard : List Heard) (same : (on : Bool) (turns : List Turn) → unrolled (f on) heard turns ≡ g on) where
   given-same : (es : List Entry) (on : Bool) (awaited : Option (List ℕ)) (at : ℕ) (turns : List Turn) → unrolled (given_todo room es end on awaited at f) heard turns ≡ giving_all room es end on awaited at g turns
   given-same [] on awaited at turns = faulting-same (end_fault awaited at end) (f on) (g on) heard turns (same on turns)

@@ -17,7 +17,7 @@ use Rattle.run_desk.proofs.Statuses.{none_turned}
 use Rattle.sof_run.proofs.Throughout.{words_last}
 use Rattle.run_replay.proofs.ReplayVerdicts.{replays}
 
--- a status that may come behind turns
+-- a status that may come after turns
 abbrev IsBehind : ℕ → Type 0
 IsBehind n = (n ≡ 5) ⊎ (n ≡ 7) → ⊥
 

@@ -70,7 +70,7 @@ module _ {D P : Type 0} (means : DeskMeaning D) (dsp : Meaning P) where
         sound = inr s.sound;
       }
 
-  -- memory was wanting
+  -- there was no memory
   pub unstressed : (seed : ℕ) (old new : D) (p q : P) (status : ℕ) → q ≡ p → Played means (Stop no_memory_line 7) old [] status new → StressGave means dsp seed old p status new q
   unstressed seed old new p q status same played = record {
     sent = 0;

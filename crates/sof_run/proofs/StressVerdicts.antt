@@ -100,7 +100,7 @@ module _ {D P : Type 0} (means : DeskMeaning D) (dsp : Meaning P) (words : List 
       subst (λ (trace : Option (List ℕ)). KeptRecords dsp trace (Bare p) given.turns last given.turned given.records)
       (none_kept (dsp.most p) words (Some (Stress seed)) (stress_asked (dsp.most p) words seed is) (λ form e. cc e)) given.kept
 
-  -- memory was wanting
+  -- there was no memory
   wanted : (turns : List Turn) (calls : List DeskCall) → Says no_memory_line 7 turns calls status → DeskLed means old calls new → Turns dsp (Bare p) turns last → Unbegun means [] old new status p last
   wanted turns calls says led turned =
       let parted = line_parted means no_memory_line 7 turns calls old new status says led in

@@ -300,7 +300,7 @@ module _ (P : ℕ → Type 0) (done : P 0) where
   without_fault_last None rest last = last
   without_fault_last (Some fault) rest last = tt
 
-  -- what comes behind a record that is given
+  -- what comes after a record that is given
   module _ (two : P 2) (ten : P 10) where
     give_last : (e : Entry) (next : Option (List ℕ) → Todo) → TurnsLast P (next None) → ((reply : Option (List ℕ)) → Throughout P (λ name. ⊥) (next reply) × OpensNone (next reply)) → TurnsLast P (give_todo e next)
     give_last (entries.Boot heap) next last all = λ out. all None
@@ -338,7 +338,7 @@ module _ (P : ℕ → Type 0) (done : P 0) where
   words_last room sent (Some (Picture name)) other = λ bytes. checked_last picture_lines (checked bytes)
   words_last room sent (Some (Play form)) other = λ topology script. prepared_last form.on_use form.heap form.trace (prepared topology script)
 
--- files that make a run end with 0 or 3, or memory was wanting
+-- files that make a run end with 0 or 3, or there was no memory
 pub ready_ends : (on_use : Bool) (heap : ℕ) (trace : Option (List ℕ)) (plan : Plan) (read : Read) (turns : List Turn) (calls : List DeskCall) (status : ℕ) → DoneBy (ready_todo on_use heap trace plan read) turns calls status → IsLate status ⊎ (status ≡ 7)
 ready_ends on_use heap trace plan read turns calls status goes =
     ends (λ n. IsLate n ⊎ (n ≡ 7)) (λ name. Unit {0}) (ready_todo on_use heap trace plan read) turns calls status goes (ready_all (λ n. IsLate n ⊎ (n ≡ 7)) (λ name. Unit {0}) on_use heap trace plan read (inl (inl refl))) (inl (inr refl))

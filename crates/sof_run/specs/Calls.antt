@@ -72,19 +72,19 @@ saying line = Calls (Did (Put Spoken line) true)
 abbrev pub last_line : List ℕ → ℕ → Course
 last_line line status = record { items = saying line ∷ []; status = status }
 
--- a load, by what it answered first of all that loads answered: the bytes, behind which it goes on, or why there are none
+-- a load, by what it answered first of all that loads answered: the bytes, after which it goes on, or why there are none
 abbrev pub load_course : List ℕ → ℕ → List ℕ → List Heard → (List Heard → Course) → Course
 load_course name limit line (Ok bytes ∷ heard) next = before_course (Calls (Load name limit (Ok bytes)) ∷ []) (next heard)
 load_course name limit line (Err TooLong ∷ heard) next = before_course (Calls (Load name limit (Err TooLong)) ∷ []) (last_line line 5)
 load_course name limit line (Err OutOfMemory ∷ heard) next = before_course (Calls (Load name limit (Err OutOfMemory)) ∷ []) (last_line no_memory_line 7)
 load_course name limit line _ next = record { items = Calls (Load name limit (Err Failed)) ∷ []; status = 3 }
 
--- a turn, and what comes next by what it came to and by the turns behind it
+-- a turn, and what comes next by what it came to and by the turns after it
 abbrev pub turning : Task → List Turn → (Out → List Turn → Course) → Course
 turning task [] next = record { items = Turns task ∷ []; status = 0 }
 turning task (turn ∷ turns) next = before_course (Turns task ∷ []) (next turn.out turns)
 
--- a message is given, and what comes next by its reply and by the turns behind it
+-- a message is given, and what comes next by its reply and by the turns after it
 abbrev pub sending : List ℕ → List Turn → (Option (List ℕ) → List Turn → Course) → Course
 sending message [] next = record { items = Turns (Give (device.Exchange message None)) ∷ []; status = 0 }
 sending message (turn ∷ turns) next =
@@ -175,7 +175,7 @@ abbrev pub replying : Option (List ℕ) → Course → Course
 replying None rest = last_line device_line 10
 replying (Some reply) rest = rest
 
--- a record is given by its call, and what comes next by the reply that is awaited then and by the turns behind it
+-- a record is given by its call, and what comes next by the reply that is awaited then and by the turns after it
 abbrev pub giving : Entry → List Turn → (Option (List ℕ) → List Turn → Course) → Course
 giving (entries.Boot heap) turns next = turning (Give (device.Boot heap)) turns (λ out turns. next None turns)
 giving entries.Cut turns next = turning (Give device.Cut) turns (λ out turns. next None turns)
@@ -228,13 +228,13 @@ course room sent None found heard turns = last_line (codes "words\n") 1
 
 -- ---- what was made of it
 
--- memory is wanting: the line is said, and no more is done
+-- there is no memory: the line is said, and no more is done
 abbrev pub Wants : List Turn → List DeskCall → ℕ → Type 0
 Wants turns (Did act done ∷ calls) status = (act ≡ Put Spoken no_memory_line) × (turns ≡ []) × (calls ≡ []) × (status ≡ (if done then 7 else 3))
 Wants turns _ status = ⊥
 
 -- These turns and calls were made, in this order and no others: all of it; or its front up to a call that failed, after which the
--- status is 3; or its front up to a place where memory was wanting.
+-- status is 3; or its front up to a place where there was no memory.
 abbrev pub Made : List Item → ℕ → List Turn → List DeskCall → ℕ → Type 0
 Made [] end turns calls status = (turns ≡ []) × (calls ≡ []) × (status ≡ end)
 Made (Memory ∷ items) end turns calls status = Made items end turns calls status ⊎ Wants turns calls status

@@ -59,14 +59,14 @@ fn do_words<D: Desk, P: Dsp>(alloc: Global, words: &[String], desk: &mut D, dsp:
 /// bytes without a needless leading zero, at most the device's room, N is one from 1 to 1000, and each name has 1 to 255 bytes. `dynamic`
 /// is `play` over a device in which a pipeline is there while a stream needs it that is not closed. A topology, a script and a source have
 /// at most 1048576 bytes, a trace 16777216. The script's inputs, of any length, are opened and its outputs created in the order of its lines,
-/// before the commands; `trace` creates its file behind them, in slot 4294967295. Before each tick, and before each other command, the
+/// before the commands; `trace` creates its file after them, in slot 4294967295. Before each tick, and before each other command, the
 /// inputs are read until each holds the bytes that it may take or has ended. After it the records of the device's calls are appended where
 /// they are kept, then the bytes of the outputs, and then the command's lines are said. `replay` gives the records of a trace to the
 /// device, one after another. The statuses: 0 all commands were carried out, the topology is right, its picture was said, the source's or
 /// the topology's file was made, all records were told, or all were given and each reply is the device's; 1 the words are of no form; 2 the
 /// topology file is broken, the topology breaks a rule, no source carries it, the trace has a fault, or a record of it can't be given or is
 /// not what the device does; 3 the desk failed; 4 a line of the script is at fault, or binds what it may not, or the source is refused; 5 a
-/// file is too long; 7 memory was wanting; 8 the script has more than 60000 ticks, with those of its lags; 10 the device failed while
+/// file is too long; 7 there was no memory; 8 the script has more than 60000 ticks, with those of its lags; 10 the device failed while
 /// records were given to it.
 pub fn run<D: Desk, P: Dsp>(alloc: Global, words: &[String], desk: &mut D, dsp: P) -> Ended<P>
     requires off { P.means.on dsp ≡ None }

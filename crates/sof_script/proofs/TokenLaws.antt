@@ -172,7 +172,7 @@ unfolding StartsToken
 some_byte [] starts = absurd starts
 some_byte (b ∷ bytes) starts = omega arith
 
--- what is found behind a first quote
+-- what is found after a first quote
 pub behind_quote : (found : Option (Bor (List ℕ) × Bor (List ℕ))) (inner bytes : List ℕ) → tokens_of bytes ≡ tokens_from Quoted inner → length inner ≤ length bytes
     → MatchOption found (tokens_from Quoted inner ≡ None) (λ f. (tokens_from Quoted inner ≡ first_token f.0.now (tokens_of f.1.now)) × (length f.1.now < length inner))
     → MatchOption found (tokens_of bytes ≡ None) (λ f. (tokens_of bytes ≡ first_token f.0.now (tokens_of f.1.now)) × (length f.1.now < length bytes))

@@ -53,7 +53,7 @@ lag-is (x ∷ y ∷ z ∷ args) = refl
 
 -- ---- the words
 
--- a text, its word, and what the word says of the tokens behind it
+-- a text, its word, and what the word says of the tokens after it
 abbrev Row : Type 0
 Row = List ℕ × Word × (List (List ℕ) → Result Item Cause)
 

@@ -67,7 +67,7 @@ values_item (control ∷ value ∷ values) =
     else Err causes.Count
 values_item _ = Err causes.Count
 
--- what a first token and the tokens behind it say; a first token that is none of these words is a fault
+-- what a first token and the tokens after it say; a first token that is none of these words is a fault
 abbrev pub said_by : List ℕ → List (List ℕ) → Result Item Cause
 said_by word args =
     if bytes_eq word (codes "in") then two_values name_value file_value (λ e f. Bind true e f) args
@@ -119,7 +119,7 @@ pub record Read : Type 0 where
   pub bindings : List Bound
   pub commands : List Numbered
 
--- a line's item before what the lines behind it are; the first line at fault decides
+-- a line's item before what the lines after it are; the first line at fault decides
 abbrev pub with_item : ℕ → Result Item Cause → Result Read ScriptFault → Result Read ScriptFault
 with_item line (Err cause) rest = Err (Line line (cause_number cause))
 with_item line (Ok item) (Err fault) = Err fault

@@ -24,7 +24,7 @@ abbrev pub numbered_from : ℕ → List Command → List Numbered
 numbered_from line [] = []
 numbered_from line (c ∷ commands) = record { line = line; command = c } ∷ numbered_from (line + 1) commands
 
--- what was read, before what lines behind it are
+-- what was read, before what lines after it are
 abbrev pub behind : Read → Result Read ScriptFault → Result Read ScriptFault
 behind read (Err fault) = Err fault
 behind read (Ok rest) = Ok (record { bindings = read.bindings ++ rest.bindings; commands = read.commands ++ rest.commands })

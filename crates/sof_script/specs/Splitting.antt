@@ -43,7 +43,7 @@ pub data Kind : Type 0 where
 abbrev pub byte_kind : ℕ → Kind
 byte_kind b = if is_blank b then Blank else if nat_eq b 34 then Quote else Other
 
--- where a byte stands: between tokens, inside one without quotes, between the quotes of one, just behind those
+-- where a byte stands: between tokens, inside one without quotes, between the quotes of one, just after those
 pub data TokenPlace : Type 0 where
   Between : TokenPlace
   Inside : TokenPlace

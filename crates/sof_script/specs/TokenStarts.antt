@@ -19,7 +19,7 @@ unfoldable pub IsBare : List ℕ → Type 0
 IsBare [] = ⊥
 IsBare (b ∷ bytes) = byte_kind b ≡ Other
 
--- a byte and the lines behind it: a newline (10) ends an empty line, another byte belongs to the first line
+-- a byte and the lines after it: a newline (10) ends an empty line, another byte belongs to the first line
 abbrev pub with_byte : ℕ → List (List ℕ) → List (List ℕ)
 with_byte b rest = if nat_eq b 10 then [] ∷ rest else onto_first b rest
 

@@ -16,7 +16,7 @@ use Rattle.sof_script.specs.Splitting.{all_plain}
 abbrev pub is_digit : ℕ → Bool
 is_digit b = nat_le 48 b && nat_le b 57
 
--- the number of digits behind those of a number; none where a byte is no digit
+-- the number of digits after those of a number; none where a byte is no digit
 unfoldable pub digits_behind : ℕ → List ℕ → Option ℕ
 digits_behind n [] = Some n
 digits_behind n (b ∷ bytes) = if is_digit b then digits_behind (n * 10 + (b - 48)) bytes else None
@@ -43,7 +43,7 @@ number_value least most token = in_range least most (decimal_value token)
 abbrev pub negative : Result ℕ Cause → Result ℤ Cause
 negative r = result_map_both (λ n. pos 0 -ℤ pos n) (λ cause. cause) r
 
--- an error number: `-` (45), and 1 to 4095 behind it
+-- an error number: `-` (45), and 1 to 4095 after it
 abbrev pub error_value : List ℕ → Result ℤ Cause
 error_value [] = Err causes.Number
 error_value (b ∷ bytes) = if nat_eq b 45 then negative (number_value 1 4095 bytes) else Err causes.Number

@@ -39,7 +39,7 @@ word_named token =
     else if bytes_eq token (codes "lag") then Some word.Lag
     else None
 
--- what a word and the tokens behind it are
+-- what a word and the tokens after it are
 abbrev pub worded_item : Word → List (List ℕ) → Result Item Cause
 worded_item word.In args = bound true args
 worded_item word.Out args = bound false args
@@ -65,7 +65,7 @@ worded_item word.Drop args = Ok (λ n. Do (command.Drop n)) ⊛ one_number 10000
 worded_item word.Lose args = Ok (λ n. Do (command.Lose n)) ⊛ one_number 100000 args
 worded_item word.Lag args = lag_item args
 
--- the tokens behind a first token, which is a word or not
+-- the tokens after a first token, which is a word or not
 abbrev pub behind_word : Option Word → List (List ℕ) → Result Item Cause
 behind_word None args = Err causes.Word
 behind_word (Some w) args = worded_item w args

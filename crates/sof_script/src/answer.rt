@@ -20,7 +20,7 @@ fn stand_word(found: Found) -> &'static [u8]
     }
 }
 
-/// Writes each of at most 8 values in decimal digits, after a blank, behind a line of at most 100 bytes.
+/// Writes each of at most 8 values in decimal digits, after a blank, after a line of at most 100 bytes.
 pub fn say_values(values: &[u32], line: &mut Line)
     requires few { length values.now ≤ 8 }
     requires room { length line.old ≤ 100 }
@@ -33,7 +33,7 @@ pub fn say_values(values: &[u32], line: &mut Line)
     }
 }
 
-/// Writes at most 1024 bytes in hex, `-` where there are none, behind a line of at most 100 bytes.
+/// Writes at most 1024 bytes in hex, `-` where there are none, after a line of at most 100 bytes.
 pub fn say_bytes(bytes: &[u8], line: &mut Line)
     requires few { length bytes.now ≤ 1024 }
     requires room { length line.old ≤ 100 }
@@ -82,7 +82,7 @@ fn say_fault(fault: &HostFault, line: &mut Line)
 }
 
 /// Writes the line of a command's answer: the number of the command's line, a blank, and the answer's words. There is room
-/// for a newline behind it.
+/// for a newline after it.
 pub fn write_answer(number: u32, answer: &Answer, line: &mut Line)
     ensures said { line.new ≡ answer_line number answer.now }
     ensures short { length line.new < 2304 }

@@ -7,7 +7,7 @@ ghost use Rattle.sof_script.specs.Causes.{cause_number, cause_words};
 pub enum Cause {
     /// A byte outside 0x20 to 0x7E and tab.
     Byte = 1,
-    /// A quote that is not closed, or another byte than a separator behind it.
+    /// A quote that is not closed, or another byte than a separator after it.
     Quote = 2,
     /// The first token is no word.
     Word = 3,
@@ -30,7 +30,7 @@ impl Cause {
     }
 }
 
-/// The word of a cause, as it stands behind the number of its line.
+/// The word of a cause, as it stands after the number of its line.
 pub fn cause_word(cause: u8) -> &'static str
     ensures word { result.now ≡ cause_words cause }
     ensures short { length result.now ≤ 6 }

@@ -162,7 +162,7 @@ fn lag(args: &[&[u8]]) -> Result<Item, Cause>
     Ok(Item::Do(Command::Lag(message, ticks)))
 }
 
-// What a word and the tokens behind it say.
+// What a word and the tokens after it say.
 fn meant(word: Word, args: &[&[u8]]) -> Result<Item, Cause>
     ensures { result ≡ worded_item word (texts args.now) }
 {
@@ -193,7 +193,7 @@ fn meant(word: Word, args: &[&[u8]]) -> Result<Item, Cause>
     }
 }
 
-// What a first token and the tokens behind it say.
+// What a first token and the tokens after it say.
 fn said(first: &[u8], args: &[&[u8]]) -> Result<Item, Cause>
     ensures { result ≡ said_by first.now (texts args.now) }
 {

@@ -20,7 +20,7 @@ pub enum ScriptFault {
     /// 5 a number or format, 6 hex, 7 a name or file.
     #[error("line {line}: {word}", word = cause_word(*.cause))]
     Line { line: u32, cause: u8 },
-    /// Memory was wanting.
+    /// There was no memory.
     #[error("out of memory")]
     OutOfMemory,
 }

@@ -59,7 +59,7 @@ pub fn skip_blanks(bytes: &[u8]) -> &[u8]
     bytes.split_at(at).1
 }
 
-// A token that begins with the first byte and ends before a separator, and the bytes behind it.
+// A token that begins with the first byte and ends before a separator, and the bytes after it.
 fn bare_token(bytes: &[u8]) -> (&[u8], &[u8])
     requires { IsBare bytes.now }
     ensures tokens { tokens_of bytes.now ≡ first_token result.0.now (tokens_of result.1.now) }
@@ -82,7 +82,7 @@ fn ends_token(rest: &[u8]) -> bool
     }
 }
 
-// What is before the next double quote, and the bytes behind that; none where there is none, or no separator follows it.
+// What is before the next double quote, and the bytes after that; none where there is none, or no separator follows it.
 fn quoted_token(bytes: &[u8]) -> Option<(&[u8], &[u8])>
     ensures { MatchOption result
         (tokens_from Quoted bytes.now ≡ None)
@@ -104,7 +104,7 @@ fn quoted_token(bytes: &[u8]) -> Option<(&[u8], &[u8])>
     None
 }
 
-/// The token that bytes begin with, and the bytes behind it; none where its quote is not closed, or no separator follows it.
+/// The token that bytes begin with, and the bytes after it; none where its quote is not closed, or no separator follows it.
 pub fn next_token(bytes: &[u8]) -> Option<(&[u8], &[u8])>
     requires { StartsToken bytes.now }
     ensures { MatchOption result

@@ -65,7 +65,7 @@ module _ {P S A : Type 0} (means : Meaning P) (rules : ActRules S A) where
   behind goes_on acts ms kept mid v true on = acts-steady goes_on acts ms kept mid v on
   behind goes_on acts ms kept mid v false on = Steady-none means mid.device.device v.device.device (ap (λ (x : World (Wire P)). x.device.device) on.1)
 
-  -- what comes behind an act, where it goes on
+  -- what comes after an act, where it goes on
   calm-behind : (goes_on : Bool) (acts : List A) (ms : List Meeting) (kept : S) (mid v : World (Wire P)) (number : ℕ) (b : Bool) → Later goes_on acts ms kept mid v b →
       (ActsDid (link means) rules goes_on kept acts ms mid v → doing_by mid.device.sent mid.device.entries ms number ≡ Pass) → doing_by mid.device.sent mid.device.entries ms number ≡ Pass
   calm-behind goes_on acts ms kept mid v number true on rest = rest on

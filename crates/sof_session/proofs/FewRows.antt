@@ -225,7 +225,7 @@ module _ (f : FwState) (few : AreFewThere (there_in f)) where
   fine-row (messages.TrigRelease id) is = changed-fine id is_paused (set_phase id phases.Running) (phase-few id phases.Running)
   fine-row messages.CtxSave is = left f few.pipes few.streams
 
--- what is there behind a row
+-- what is there after a row
 left-fine : (t : There) (r : Result FwState ℤ) → AreFewThere t → IsFine r → AreFewThere (row_left t r)
 left-fine t (Ok g) few fine = fine
 left-fine t (Err e) few fine = few

@@ -1,4 +1,4 @@
--- What reads do to inputs: their slots and positions stay, and the bytes that came stand behind those that are left.
+-- What reads do to inputs: their slots and positions stay, and the bytes that came stand after those that are left.
 use Rattle.std.proofs.Common.{◌≡◌, refl, sym, ap, ◌∙◌, subst, ℕ, ◌+◌, ◌-◌, ◌≤◌, List, [], ◌∷◌, ◌++◌, map, length, Bool, true, false, not, ◌&&◌, ◌||◌, cond, ◌==◌, Some, None, nat_eq, arith}
 use Rattle.std.specs.Prelude.{find, nat_lt}
 use Rattle.std.specs.Option.{option_map_or}
@@ -146,7 +146,7 @@ is-read slot (byte ∷ bytes) inputs = filled-read slot (byte ∷ bytes) inputs
 
 -- ---- which slot is read next
 
--- the slot that is wanting is there, and may grow
+-- the slot that is missing is there, and may grow
 pub record IsNext (slot : ℕ) (inputs : List InputView) : Type 0 where
   pub there : is_among (input_slots inputs) slot ≡ true
   pub grows : may_grow slot inputs ≡ true
@@ -176,7 +176,7 @@ next-there level slot (x ∷ xs) apart = by (is_wanting level x) refl (next-ther
         let at : (x.slot == slot) ≡ false = apart-head slot x xs apart.0 rest.there in
         record { there = ap (λ (b : Bool). b || is_among (input_slots xs) slot) at ∙ rest.there; grows = ap (λ (b : Bool). cond b (not x.ended) (may_grow slot xs)) at ∙ rest.grows }
 
--- where none is wanting, an input that may grow holds as many bytes
+-- where none is missing, an input that may grow holds as many bytes
 held-enough : (n level : ℕ) (ended : Bool) → (nat_lt n level && not ended) ≡ false → not ended ≡ true → level ≤ n
 held-enough n level true none may = absurd (true≢false (sym may))
 held-enough n level false none may = by (nat_lt n level) refl none

@@ -45,7 +45,7 @@ use Rattle.sof_session.proofs.WholeBytes.{Whole, SameBytes, leads-same, leads-wh
 abbrev pub Filling : Turn → Option ℕ → Type 0
 Filling turn next = (reads : List (ℕ × List ℕ)) × (turn.task ≡ Fill reads next)
 
--- these turns carry out these commands, each behind a turn that filled the inputs; one more may have filled them in part
+-- these turns carry out these commands, each after a turn that filled the inputs; one more may have filled them in part
 abbrev pub AreFilled : List Command → List Turn → Type 0
 AreFilled [] [] = Unit {0}
 AreFilled [] (turn ∷ []) = (next : Option ℕ) × Filling turn next
@@ -225,7 +225,7 @@ module _ {P S A : Type 0} (means : Meaning P) (mode : Mode P S A) (g : Ground) (
     closes = λ slot closed. closed;
   }
 
-  -- behind a turn that filled the inputs
+  -- after a turn that filled the inputs
   makes-filled : (commands : List Command) (turn : Turn) (turns : List Turn) (reads : List (ℕ × List ℕ)) (next : Option ℕ) → turn.task ≡ Fill reads next → (whole : Whole) (inputs inputs' : List InputView) (seat : Seat P) (slots : List ℕ) (before : List Moment) (at : At S) (last : Life P) →
       AfterReads seat slots before at reads whole inputs inputs' → FilledBy reads inputs inputs' → next_read inputs' ≡ next → MakesFilled commands turns (with_reads whole reads) seat inputs' slots before at last → MakesFilled commands (turn ∷ turns) whole seat inputs slots before at last
   makes-filled commands turn turns reads next is whole inputs inputs' seat slots before at last a by upto m =

@@ -46,7 +46,7 @@ module _ {P S A : Type 0} (means : Meaning P) (rules : ActRules S A) where
       by true on rest = rest on
       by false on rest = none-sent ms did.0 v on.0 on.1
 
-  -- ---- acts, with what was met behind them
+  -- ---- acts, with what was met after them
 
   module _ (goes_on : Bool) (late : List Meeting) (number : ℕ) where
     none-front : (ms : List Meeting) (w v : World (Wire P)) → ms ≡ [] → v ≡ w → doing_by v.device.sent v.device.entries late number ≡ Pass → doing_by w.device.sent w.device.entries (ms ++ late) number ≡ Pass

@@ -43,7 +43,7 @@ module _ {D S A : Type 0} (means : Meaning D) (rules : ActRules S A) (heap : ℕ
 
   -- ---- acts
 
-  -- no more ticks are pending behind them
+  -- no more ticks are pending after them
   acts-pending : (goes_on : Bool) (acts : List A) (ms : List Meeting) (kept : S) (w v : World D) → ActsDid means rules goes_on kept acts ms w v → means.pending v.device ≤ means.pending w.device
   acts-pending goes_on [] ms kept w v did = let same = ap (λ (x : World D). means.pending x.device) did.1 in omega (arith, same)
   acts-pending goes_on (act ∷ acts) [] kept w v did = absurd did

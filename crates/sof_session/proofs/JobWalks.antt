@@ -34,7 +34,7 @@ with_queue w q = record { outcome = w.outcome; kept = w.kept; moments = w.moment
 abbrev so_far : {S A Q : Type 0} → Outcome → S → List Moment → List A → Q → Walked S A Q
 so_far outcome kept moments sent q = record { outcome = outcome; kept = kept; moments = moments; sent = sent; queue = q }
 
--- ---- acts that have met theirs leave the meetings behind
+-- ---- acts that have met theirs leave the meetings after
 
 module _ {D S A : Type 0} (means : Meaning D) (rules : ActRules S A) (goes_on : Bool) (late : List Meeting) where
   pub walk-front : (acts : List A) (early : List Meeting) (kept : S) (w v : World D) → ActsDid means rules goes_on kept acts early w v →

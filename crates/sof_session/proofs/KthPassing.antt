@@ -9,7 +9,7 @@ use Rattle.std.proofs.lemmas.Option.{slice_get_past, slice_get_within, slice_get
 use Rattle.sof_session.specs.ShownLines.{kth_in, item_or_count}
 
 module _ {X : Type 0} (p : X → Bool) where
-  -- one that passes stands behind those that do before it
+  -- one that passes stands after those that do before it
   at-counted : (xs : List X) (i : ℕ) (x : X) → slice_get xs i ≡ Some x → p x ≡ true → slice_get (filter p xs) (length (filter p (take i xs))) ≡ Some x
   at-counted [] i x is passes = absurd (cc is)
   at-counted (y ∷ ys) zero x is passes = by (p y) (let same : y ≡ x = cc is in ap p same ∙ passes)

@@ -80,7 +80,7 @@ module _ {P S A : Type 0} (means : Meaning P) (rules : ActRules S A) (goes_on : 
     pub same : Same (met_walk kept ms acts) (written_walk kept w.device acts)
     pub queue : (written_walk kept w.device acts).queue ≡ queue_of v.device
 
-  -- of an act and what comes behind it
+  -- of an act and what comes after it
   record AgreedOf {Q R : Type 0} (a : Walked S A Q) (b : Walked S A R) (q : R) : Type 0 where
     same : Same a b
     queue : b.queue ≡ q

@@ -76,7 +76,7 @@ module _ (v w : View) (same : SameLife v w) where
 
 -- ---- a state that changes in what is not Live
 
--- Rings and numbers stay but for those of what is not there before it or behind it.
+-- Rings and numbers stay but for those of what is not there before it or after it.
 pub record LeavesLife (f f' : FwState) : Type 0 where
   pub clock : f'.clock ≡ f.clock
   pub ringed : map (λ (r : RingView). r.buffer) f.rings ≡ buffers f.graph → map (λ (r : RingView). r.buffer) f'.rings ≡ buffers f'.graph

@@ -34,7 +34,7 @@ module _ (g : Ground) (sound : IsSound g.plan) (doing : Doing) where
         at = at i;
       }
 
-  -- behind a leg
+  -- after a leg
   leg-ranks : (command : Command) (old : At Record) (leg : Leg Record) → HasRanks old.past.view → IsLeg (basis_of g) doing command old leg → HasRanks leg.at.past.view
   leg-ranks command old leg ranks is = leads-ranks g.whole (moments_at command old) old.past leg.at.past ranks (ranks-at command old) is.goes.led
 

@@ -52,7 +52,7 @@ unfolding AreAbove
 all-above m n least [] above = tt
 all-above m n least (k ∷ ks) above = (omega (arith, least, above.0), all-above m n least ks above.1)
 
--- behind the first component stand those of greater keys
+-- after the first component stand those of greater keys
 behind : (c : Comp) (cs : List Comp) (ks : List ControlPlan) → AreAbove (λ k. k.comp) c.id ks → AllByRecursion (IsOther (c ∷ cs)) ks → AllByRecursion (IsOther cs) ks
 unfolding AreAbove
 behind c cs [] above all = tt

@@ -99,7 +99,7 @@ module _ {P S A : Type 0} (means : Meaning P) (mode : Mode P S A) (g : Ground) (
   abbrev b : Basis S A
   b = basis_in mode g
 
-  -- the legs that turns make from a place, behind these moments; the turns met all doings that are these from the place on
+  -- the legs that turns make from a place, after these moments; the turns met all doings that are these from the place on
   pub record Makes (commands : List Command) (turns : List Turn) (from : Life P) (before : List Moment) (at : At S) (last : Life P) : Type 0 where
     pub doing : Doing
     pub met : (e : Doing) → ((number : ℕ) → at.known.queue.sent < number → e number ≡ doing number) → TurnsBy means e from turns last
@@ -201,7 +201,7 @@ module _ {P S A : Type 0} (means : Meaning P) (mode : Mode P S A) (g : Ground) (
         subst (λ (t : Task). TurnedBy means e t out (Seated seat inputs slots) (Seated seat' inputs' slots')) (sym is_task)
         (same, (c, λ number low high. met number (subst (λ (n : ℕ). n < number) first low) (subst (λ (n : ℕ). number ≤ n) later high) ∙ sym (ap (λ (x : Doing). x number) done.1)))
 
-    -- and those behind it
+    -- and those after it
     module _ (commands : List Command) (turn : Turn) (turns : List Turn) (last : Life P) (counted : IsCounted means mode g laws command at) (is_task : turn.task ≡ Carry command) (out_is : turn.out ≡ out)
         (rest : Makes commands turns (Seated seat' inputs' slots') (before ++ come.moments) at' last) where
       abbrev joined : Doing

@@ -71,7 +71,7 @@ module _ {S A : Type 0} (rules : ActRules S A) (goes_on : Bool) where
       ∙ ap (λ (f : Fate). let m : Meeting × Queue = (record { lag = (planned q.entries n).lag; fate = fate_met (planned q.entries n).fate f }, p.1) in
       followed_by act (one_act rules kept act m.0) m.1 (goes_past goes_on (one_act rules kept act m.0).outcome) (walked e (one_act rules kept act m.0).kept m.1 acts)) here
 
--- the doings up to a number, and those behind it
+-- the doings up to a number, and those after it
 abbrev pub then_by : ℕ → Doing → Doing → Doing
 then_by last d e number = if nat_le number last then d number else e number
 

@@ -36,7 +36,7 @@ module _ {P : Type 0} (means : Meaning P) (old : Seat P) (wire : Wire P) (io io'
     abbrev CarriedSo : Order → Type 0
     CarriedSo o = Carried (link means) old.plan old.heap o old.kept kept w v result
 
-    -- no more than a cut comes behind the acts
+    -- no more than a cut comes after the acts
     end-io : (s : World (Wire P)) (ms : List Moment) → Led (link means) s (calls_of old.heap ms) v → ms ≡ Cut ∷ [] → v.io ≡ s.io
     end-io s ms led is = let cut = subst (λ (x : List Moment). Led (link means) s (calls_of old.heap x) v) is led in ap (λ (x : World (Wire P)). x.io) cut.2 ∙ cut.1.1
 

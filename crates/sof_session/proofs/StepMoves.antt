@@ -42,7 +42,7 @@ module _ {D : Type 0} (means : Meaning D) where
   ticked-none : (w v : World D) → v ≡ w → HasTicked 0 w v
   ticked-none w v same = subst (HasTicked 0 w) (sym same) (record { pending = refl; moves = λ slot. omega arith })
 
-  -- behind a call that leaves the endpoints
+  -- after a call that leaves the endpoints
   ticked-behind : (n : ℕ) (w m v : World D) → means.pending m.device ≡ means.pending w.device → m.io ≡ w.io → HasTicked n m v → HasTicked n w v
   ticked-behind n w m v pending io rest = record {
     pending = rest.pending ∙ pending;

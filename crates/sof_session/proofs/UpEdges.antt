@@ -261,7 +261,7 @@ module _ (plan : Plan) where
     abbrev base : ℕ → ℕ
     base = of-plan.0
 
-    -- a buffer comes behind its source
+    -- a buffer comes after its source
     abbrev rank_by : Option Comp → Option Edge → ℕ → ℕ
     rank_by (Some c) e id = 2 * base id
     rank_by None (Some e) id = 2 * base (unwrap_or e.source 0) + 1

@@ -44,7 +44,7 @@ module _ (g : Ground) (sound : IsSound g.plan) (doing : Doing) where
         at = at i;
       }
 
-  -- behind a leg
+  -- after a leg
   leg-ranked : (command : Command) (old : At UpState) (leg : Leg UpState) → IsRankedAt old → IsLeg b doing command old leg → IsRankedAt leg.at
   leg-ranked command old leg ranks is =
       let came = came-ranked g.plan sound doing g.heap old.known ranks.1 command in (

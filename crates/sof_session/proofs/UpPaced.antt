@@ -495,7 +495,7 @@ module _ (plan : Plan) (sound : IsSound plan) (heap : ℕ) (doing : Doing) (know
   routine-so (commands.Lose k) plans none = absurd (cc plans)
   routine-so (commands.Lag k ticks) plans none = absurd (cc plans)
 
-  -- ---- its first moments, and what is there behind them
+  -- ---- its first moments, and what is there after them
 
   -- moments without a tick, or those of a command that is a tick
   record StartsSo (job : Job UpState DynamicAct) : Type 0 where

@@ -1,4 +1,4 @@
--- What stood goes on standing over a plain act that the firmware takes, where what is up is there before it and behind it.
+-- What stood goes on standing over a plain act that the firmware takes, where what is up is there before it and after it.
 use Rattle.std.proofs.Common.{◌≡◌, refl, sym, ap, ◌∙◌, subst, ℕ, zero, suc, ◌+◌, ◌-◌, ◌*◌, Bool, true, false, not, cond, List, [], ◌∷◌, ◌++◌, map, filter, length, Option, Some, None, Result, Ok, Err, is_some, inl, inr, ◌⊎◌, ◌==◌, ◌&&◌, ◌||◌, Contains, zip, arith}
 use Rattle.std.specs.Prelude.{ℤ, nat_le, option_map, option_and_then, if◌then◌else◌}
 use Rattle.std.specs.List.{list_all}
@@ -100,7 +100,7 @@ contains-in [] x (k, low, is) = absurd (omega (arith, low))
 contains-in (y ∷ xs) x (zero, low, is) = inl (sym is)
 contains-in (y ∷ xs) x (suc k, low, is) = inr (contains-in xs x (k, omega (arith, low), is))
 
--- the last part of a blob leaves nothing behind it
+-- the last part of a blob leaves nothing after it
 none-behind : (n m : ℕ) → (n - m == 0) ≡ nat_le n m
 none-behind n m = by (nat_le n m) refl
   where
@@ -320,7 +320,7 @@ module _ (plan : Plan) (sound : IsSound plan) (s : UpState) (was : IsRecordOf pl
   shown : view_of f ≡ up_view plan s.kept s.up
   shown = ap there_view same ∙ stood_there.view
 
-  -- behind a change of the record
+  -- after a change of the record
   module _ (kept : Record) (will : IsRecordOf plan kept) (behind : view_of g ≡ up_view plan kept s.up) where
     -- ---- streams
 
@@ -542,7 +542,7 @@ module _ (plan : Plan) (sound : IsSound plan) (s : UpState) (was : IsRecordOf pl
   leads-by (Join source sink) plain will behind passed = absurd plain
   leads-by (Finish id) plain will behind passed = absurd plain
 
--- an act at a state in which what is up is there, before it and behind it
+-- an act at a state in which what is up is there, before it and after it
 pub plain-row : (plan : Plan) → IsSound plan → (act : Act) → IsPlainly act → (s : UpState) → IsRecordOf plan s.kept → IsServing plan s.kept s.up → IsThere plan s → (let t = (up_act_rules plan).after (Ordinary act) s in IsRecordOf plan t.kept → IsThere plan t → (f g : FwState) → there_in f ≡ s.there → there_in g ≡ t.there →
     row f (act_message plan act) ≡ Ok g → LeadsOn (Some f) (Some g) (Now (there_view t.there) (fresh_in plan act) ∷ []))
 plain-row plan sound act plain s was serves at will behind f g same same_then passed =

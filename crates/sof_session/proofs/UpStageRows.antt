@@ -105,7 +105,7 @@ Builds (Ordinary (Finish id)) = Unit {0}
 Builds (Ordinary act) = ⊥
 Builds (Unmake id) = Unit {0}
 
--- the last part has no bytes behind it
+-- the last part has no bytes after it
 last-same : (blob : List ℕ) (k : ℕ) → ((blob_part blob k).remaining == 0) ≡ is_last blob k
 last-same blob k = by (is_last blob k) refl
   where

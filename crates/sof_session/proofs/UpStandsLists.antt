@@ -114,7 +114,7 @@ module _ (plan : Plan) (plays : PlaysAtStages plan) (rows : RowsAtStages plan) w
       λ on. absurd (false≢true on),
     )
 
-    -- and acts behind them
+    -- and acts after them
     pub runs-led-on : (End : There → Type 0) → ((t : There) → End t → Mid t) → (xs more : List DynamicAct) → AllByRecursion Builds xs → (u : UpState) → AreAnswered plan u (xs ++ more) → Runs plan Mid u xs End →
         ((t : There) → End t → AreAnswered plan (with_there plan u t) more → AreLed plan false (with_there plan u t) more) → AreLed plan false u (xs ++ more)
     runs-led-on End ends [] more all u answered runs then = then u.there runs answered

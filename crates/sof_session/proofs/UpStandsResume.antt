@@ -85,7 +85,7 @@ quiet-plays g before ss plays each = record {
 
 -- ---- acts over a record with other streams
 
--- what leads on over the one does over the other, and so do those behind it
+-- what leads on over the one does over the other, and so do those after it
 led-over : (plan : Plan) (kept : Record) (streams : List StreamRec) (up : List ℕ) (Mid End : There → Type 0) (xs more : List Act) → AllByRecursion LeavesStreams xs → (t : There) →
     AreLed plan false (over plan kept streams up (other plan kept streams up) t) (map Ordinary xs) → Runs plan Mid (over plan kept streams up (other plan kept streams up) t) (map Ordinary xs) End →
     ((f : FwState) → StagedFirst (map Ordinary more) f) → ((x : There) → End x → AreLed plan false (over plan kept streams up kept x) (map Ordinary more)) → AreLed plan false (over plan kept streams up kept t) (map Ordinary (xs ++ more))

@@ -43,7 +43,7 @@ module _ (plan : Plan) (goes_on : Bool) where
     pub leads : LeadsOn (Some f) (Some g) (Now (there_view (there_after plan act u.there)) (dynamic_fresh plan act) ∷ [])
     pub staged : StagedFirst acts g
 
-  -- Before each a tick may come; where the firmware does it, what stood stands then; and so it is of those behind it, after one that was
+  -- Before each a tick may come; where the firmware does it, what stood stands then; and so it is of those after it, after one that was
   -- refused too, where acts go on.
   abbrev pub AreLed : UpState → List DynamicAct → Type 0
   AreLed u [] = Unit {0}
@@ -83,7 +83,7 @@ by-both (Err (Range n)) Up Up' Down Down' All f g x y = f x y
 by-both (Err (Refused d)) Up Up' Down Down' All f g x y = f x y
 by-both (Err (Blob n)) Up Up' Down Down' All f g x y = f x y
 
--- the first fault of a refusal and of what came behind it
+-- the first fault of a refusal and of what came after it
 after-refusal : (e : _) (rest : Outcome) (Up Down : Type 0) → ByLink rest Up Down → ByLink (first_of (Err (Refused e)) rest) Up Down
 after-refusal e (Ok done) Up Down x = x
 after-refusal e (Err LinkDown) Up Down x = x

@@ -56,7 +56,7 @@ module _ (one two : Whole) (same : SameBytes one two) where
 
 -- ---- bytes of which others are a front
 
--- the bytes of a slot with more behind them
+-- the bytes of a slot with more after them
 pub filled-is : (whole : Whole) (slot : ℕ) (more : List ℕ) (s : ℕ) → list_of (filled whole slot more) s ≡ cond (slot == s) (list_of whole slot ++ more) (list_of whole s)
 filled-is whole slot more s = refl
 
@@ -133,7 +133,7 @@ whole-trans inputs later part mid whole closes first rest = record {
   all = λ slot closed. rest.all slot (closes slot closed) ∙ first.all slot closed;
 }
 
--- a slot that may grow with more behind its bytes
+-- a slot that may grow with more after its bytes
 pub whole-filled : (inputs : List InputView) (whole : Whole) (slot : ℕ) (more : List ℕ) → may_grow slot inputs ≡ true → AreWhole inputs whole (filled whole slot more)
 whole-filled inputs whole slot more may = record { front = λ s. by s (slot == s) refl; all = λ s closed. same s (slot == s) refl closed }
   where

@@ -23,7 +23,7 @@ pub record Calm {D : Type 0} (means : Meaning D) (old new : D) : Type 0 where
   pub faults : Rose (means.faults old) (means.faults new) → ⊥
   pub refusals : Rose (means.refusals old) (means.refusals new) → ⊥
 
--- the device behind a link and the inputs stand where these moments lead, at this past
+-- the device after a link and the inputs stand where these moments lead, at this past
 abbrev pub StandsAt : {P : Type 0} → Meaning P → List (ℕ × List ℕ) → List Moment → Past → World (Wire P) → Type 0
 StandsAt means whole moments past w = (stands : Stands (means.on w.device.device) whole w.io.inputs moments) × (stands.past ≡ past)
 

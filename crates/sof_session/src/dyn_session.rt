@@ -44,7 +44,7 @@ impl<P: Dsp> Model for DynSession<P> {
 
 impl<P: Dsp> DynSession<P> {
     /// A session over a device that is off and of which no tick pends, with a heap of so many bytes, which are at most the device's room:
-    /// nothing is loaded, up, sent or planned. Where memory is wanting, the device is handed back as it was.
+    /// nothing is loaded, up, sent or planned. Where there is no memory, the device is handed back as it was.
     pub fn new(alloc: Global, plan: Plan, heap: u32, dsp: P) -> Result<DynSession<P>, NoRoom<P>>
         requires off { P.means.on dsp ≡ None }
         requires pending { P.means.pending dsp ≡ 0 }

@@ -1,4 +1,4 @@
-//! A session: a host with its device behind a link, which carries out a script's commands and shows how everything stands.
+//! A session: a host with its device after a link, which carries out a script's commands and shows how everything stands.
 #![tactic(auto)]
 
 mod answers;

@@ -1,4 +1,4 @@
-// A host with its device behind a link.
+// A host with its device after a link.
 ghost use Rattle.std.specs.Prelude.{◌≡◌, ℕ, ◌+◌, ◌<◌, ◌≤◌, ◌^◌, [], None, true, false, length, is_some, unwrap_or, option_map, MatchResult};
 ghost use Rattle.sof_base.specs.Ports.{Io, HasRoom};
 ghost use Rattle.sof_base.specs.DrainedOutputs.{drained};
@@ -72,7 +72,7 @@ fn down_fault(power: Power) -> HostFault
     }
 }
 
-/// A host that keeps its record of a device behind a link. A session has one of two modes for good. Where all pipelines are made at a
+/// A host that keeps its record of a device after a link. A session has one of two modes for good. Where all pipelines are made at a
 /// load, the device is on with the view that the record says, with a heap as the load left it and a ring for each buffer; or off. Where
 /// they are made on use, it is on with the part of the plan's graph that the streams need that are not closed; or off.
 #[derive(Drop)]
@@ -98,7 +98,7 @@ impl<P: Dsp> Model for Session<P> {
 
 impl<P: Dsp> Session<P> {
     /// A session over a device that is off, with a heap of so many bytes: nothing is loaded, sent or planned, and all pipelines are made
-    /// at a load. Where memory is wanting, the device is handed back as it was.
+    /// at a load. Where there is no memory, the device is handed back as it was.
     pub fn new(alloc: Global, plan: Plan, heap: u32, dsp: P) -> Result<Session<P>, NoRoom<P>>
         requires off { P.means.on dsp ≡ None }
         requires pending { P.means.pending dsp ≡ 0 }

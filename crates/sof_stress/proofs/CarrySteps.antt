@@ -67,7 +67,7 @@ counts-mono m n counts le are = record {
   bytes = omega (arith, are.bytes, le);
 }
 
--- the turns of commands and of others behind them
+-- the turns of commands and of others after them
 turns-append : (xs ys : List Command) (rest : List CommandTurn) → turns_of (xs ++ ys) ++ rest ≡ turns_of xs ++ (turns_of ys ++ rest)
 turns-append [] ys rest = refl
 turns-append (x ∷ xs) ys rest =
@@ -150,7 +150,7 @@ module _ {P : Type 0} (means : Meaning P) (slot : ℕ) where
       counted = counts-mono (10 * n + 10 * length commands) (10 * m) counts' (omega (arith, within)) (here.counted (10 * n) before.counted);
     }
 
-    -- others behind them
+    -- others after them
     pub and-then : (first second : List Command) {seat'' : Seat P} {inputs'' : List InputView} {outputs'' : List OutputView} {counts'' : Counts} →
         CommandsCarried means slot first seat inputs outputs counts seat' inputs' outputs' counts' → CommandsCarried means slot second seat' inputs' outputs' counts' seat'' inputs'' outputs'' counts'' → CommandsCarried means slot (first ++ second) seat inputs outputs counts seat'' inputs'' outputs'' counts''
     and-then first second {seat''} {inputs''} {outputs''} {counts''} here there = record {

@@ -1,4 +1,4 @@
--- The slot of each stream is new, and its input is put behind those of earlier streams, filled and ended.
+-- The slot of each stream is new, and its input is put after those of earlier streams, filled and ended.
 use Rattle.std.proofs.Common.{◌≡◌, ℕ, zero, suc, ◌+◌, ◌*◌, ◌<◌, ◌≤◌, Bool, true, false, cond, eqb, nat_lt, ◌||◌, List, [], ◌∷◌, ◌++◌, length, refl, sym, ap, ◌∙◌, subst, arith, zero-add, add-one}
 use Rattle.std.specs.List.{AllByRecursion, range_with_len}
 use Rattle.std.proofs.lemmas.List.{length-map}
@@ -42,7 +42,7 @@ fresh-slot i (suc n) within =
     subst (λ m. has_slot (5 * i) (input_slots (stress_inputs m)) ≡ false) (add-one n)
     (subst (λ xs. has_slot (5 * i) (input_slots xs) ≡ false) (sym (inputs-more n)) (other-more (5 * i) (stress_inputs n) (stream_input n) other (fresh-slot i n (omega (arith, within)))))
 
--- ---- behind inputs of lower slots
+-- ---- after inputs of lower slots
 
 abbrev pub AreBelow : ℕ → List InputView → Type 0
 AreBelow slot xs = AllByRecursion (λ (x : InputView). x.slot < slot) xs
@@ -116,6 +116,6 @@ module _ (slot : ℕ) where
     pub filled-there : (bytes : List ℕ) → has_slot slot (input_slots (filled_at slot bytes (with_input slot xs))) ≡ true
     filled-there bytes = ap (λ ys. has_slot slot (input_slots ys)) (filled-is bytes) ∙ last-there (fuller_input bytes (new_input slot)) same-slot xs below
 
-    -- and stands behind the others with its bytes, of which no more come
+    -- and stands after the others with its bytes, of which no more come
     pub loaded : (bytes : List ℕ) → ended_at slot (filled_at slot bytes (with_input slot xs)) ≡ xs ++ record { slot = slot; position = 0; left = bytes; ended = true } ∷ []
     loaded bytes = ap (ended_at slot) (filled-is bytes) ∙ ended-last (fuller_input bytes (new_input slot)) same-slot xs below

@@ -6,7 +6,7 @@ use Rattle.std.proofs.lemmas.List.FromFn.{map-range_with_len_more}
 use Rattle.std.proofs.lemmas.List.Folds.{flat_map-map}
 use Rattle.std.proofs.lemmas.Grind.{flat_map-append}
 
--- behind other elements, by a list for each number
+-- after other elements, by a list for each number
 pub flat-more : {A : Type 0} (f : ℕ → List A) (first : List A) (n : ℕ) → (first ++ flat_map f (range_with_len 0 n)) ++ f n ≡ first ++ flat_map f (range_with_len 0 (n + 1))
 flat-more f first n =
     append_assoc first (flat_map f (range_with_len 0 n)) (f n)

@@ -78,7 +78,7 @@ abbrev pub CarriesOn : {P : Type 0} → Meaning P → ℕ → List CommandTurn �
 CarriesOn {P} means slot whole left old before new after =
     (end : Life P) (last : Counts) → CarriedOut means slot left new after end last → CarriedOut means slot whole old before end last
 
--- these were carried out: whatever comes behind them, carried out, makes the whole carried out
+-- these were carried out: whatever comes after them, carried out, makes the whole carried out
 abbrev pub CarriedFirst : {P : Type 0} → Meaning P → ℕ → List CommandTurn → Life P → Counts → Life P → Counts → Type 0
 CarriedFirst means slot todo old before new after = (rest : List CommandTurn) → CarriesOn means slot (todo ++ rest) rest old before new after
 

@@ -17,7 +17,7 @@ up_to_volume i =
     ∷ volume (volume_name i) (i + 1)
     ∷ []
 
--- those behind it
+-- those after it
 abbrev pub behind_volume : ℕ → List SourceWidget
 behind_volume i =
     buffer (numbered_name (codes "C") i) 1536 (i + 1)
@@ -28,7 +28,7 @@ behind_volume i =
 abbrev pub up_to_equaliser : List SourceWidget
 up_to_equaliser = plain_widget kind.Mixer (codes "MIX") [] 100 ∷ buffer (codes "D0") 768 100 ∷ equaliser ∷ []
 
--- and behind it
+-- and after it
 abbrev pub behind_equaliser : List SourceWidget
 behind_equaliser = buffer (codes "D1") 768 100 ∷ dai ∷ scheduler (codes "PIPEM") (codes "DAI0") 1000 100 ∷ []
 

@@ -3,7 +3,7 @@ use Rattle.std.specs.Prelude.{ℕ, true, ◌+◌, ◌*◌, ◌%◌, List, map}
 use Rattle.std.specs.List.{range_with_len}
 use Rattle.sof_base.specs.Ports.{InputView}
 
--- behind all streams' widgets come the mixer, a buffer, the equaliser, a buffer and the DAI
+-- after all streams' widgets come the mixer, a buffer, the equaliser, a buffer and the DAI
 abbrev pub dai_slot : ℕ → ℕ
 dai_slot streams = 5 * streams + 4
 

@@ -120,7 +120,7 @@ fn pipeline(alloc: Global, i: u32) -> Result<SourceWidget, NoMemory>
     scheduler(alloc, name, &host, 1000 * (i + 1), i + 1)
 }
 
-// Those behind it.
+// Those after it.
 #[tactic(auto, using(crate::proofs::NameLaws::two_are_name))]
 fn put_behind_volume(
     alloc: Global,
@@ -163,7 +163,7 @@ fn put_up_to_equaliser(alloc: Global, widgets: &mut Items<SourceWidget>) -> Resu
     widgets.push(equaliser)
 }
 
-// What is behind it.
+// What is after it.
 #[tactic(auto, unfolding(sof_base::specs::Slots::has_zero))]
 fn put_behind_equaliser(alloc: Global, widgets: &mut Items<SourceWidget>) -> Result<(), NoMemory>
     ensures { OnOk result (widgets.new ≡ widgets.old ++ parts.behind_equaliser) }

@@ -79,7 +79,7 @@ fn heap_for(plan: &Plan, room: u32) -> u32
     need(plan).min(room as u64) as u32
 }
 
-/// Carries out the stress of a seed over a device that is off, and hands the device back. Where memory is wanting, which comes
+/// Carries out the stress of a seed over a device that is off, and hands the device back. Where there is no memory, which comes
 /// before the session, the device is handed back as it was.
 pub fn stress<P: Dsp>(alloc: Global, seed: u32, dsp: P) -> Result<Stressed<P>, NoRoom<P>>
     requires off { P.means.on dsp ≡ None }

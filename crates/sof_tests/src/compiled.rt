@@ -19,7 +19,7 @@ index = 7
 // size and name.
 const WORDS: [(usize, [u8; 4]); 9] = [
     (0, *b"CoSA"),
-    // the ABI, the type of a block of widgets, the header's bytes, those behind it, the index and the count
+    // the ABI, the type of a block of widgets, the header's bytes, those after it, the index and the count
     (4, [5, 0, 0, 0]),
     (12, [5, 0, 0, 0]),
     (16, [36, 0, 0, 0]),

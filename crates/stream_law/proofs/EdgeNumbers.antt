@@ -5,7 +5,7 @@ use Rattle.std.specs.Prelude.{nat_le}
 use Rattle.stream_law.specs.declared.graph.Kind.{Kind}
 use Rattle.stream_law.specs.declared.graph.Kind.TheVariants.{HostPlay, DaiCapture, Mixer, Mux}
 use Rattle.stream_law.specs.Joins.{kind_ins, kind_outs, is_right_number, fits_kind}
-use Rattle.stream_law.specs.Moves.{is_choosy}
+use Rattle.stream_law.specs.Moves.{skips_idle_inputs}
 
 pub right-most : (most n : ℕ) → is_right_number most n ≡ true → n ≤ most
 right-most zero n right = let none = eqb-true n 0 right in omega (arith, none)
@@ -36,7 +36,7 @@ pub right-outs : (k : Kind) (m n : ℕ) → fits_kind k m n ≡ true → is_righ
 right-outs k m n fits = (and_parts (is_right_number (kind_ins k) m) (is_right_number (kind_outs k) n) fits).1
 
 -- only kinds that choose have more than one edge in
-pub most-ins : (k : Kind) → is_choosy k ≡ false → kind_ins k ≤ 1
+pub most-ins : (k : Kind) → skips_idle_inputs k ≡ false → kind_ins k ≤ 1
 most-ins Mixer plain = absurd (true≢false plain)
 most-ins Mux plain = absurd (true≢false plain)
 most-ins HostPlay plain = omega arith

@@ -1,4 +1,4 @@
--- More bytes behind what an input has given change nothing of the past.
+-- More bytes after what an input has given change nothing of the past.
 use Rattle.std.proofs.Common.{◌≡◌, refl, sym, ap, ◌∙◌, subst, ℕ, ◌+◌, ◌≤◌, List, [], ◌∷◌, ◌++◌, drop, length, Option, Some, None, Bool, true, false, cond, ◌==◌, inl, inr, ◌⊎◌, arith}
 use Rattle.std.proofs.lemmas.Bool.{true≢false, eqb-true, true_from_ne_false}
 use Rattle.std.proofs.lemmas.List.{drop-append-le}
@@ -40,7 +40,7 @@ frames_made-unread v c n read other s f g unread = by_comp (comp_of v.graph c) u
     by_comp (Some x) h = by_kind x.kind x.setting h
 
 module _ (whole : List (ℕ × List ℕ)) (slot : ℕ) (more : List ℕ) where
-  -- the whole bytes with more behind those of the slot
+  -- the whole bytes with more after those of the slot
   abbrev pub filled : List (ℕ × List ℕ)
   filled = updated (slot ∷ []) (λ s. list_of whole s ++ more) whole
 
@@ -119,7 +119,7 @@ module _ (whole : List (ℕ × List ℕ)) (slot : ℕ) (more : List ℕ) where
       let rest : number_of led.0.positions slot ≤ number_of new.positions slot = leads-rises ms led.0 new led.2 in
       (led.0, follows-filled m old led.0 led.1 (omega arith), leads-filled ms led.0 new led.2 within)
 
--- What stands, with inputs that have not gone past their bytes, stands with more bytes behind those of a slot.
+-- What stands, with inputs that have not gone past their bytes, stands with more bytes after those of a slot.
 unfoldable pub Stands-filled : (device : Option FwState) (whole : List (ℕ × List ℕ)) (inputs inputs' : List InputView) (moments : List Moment) (slot : ℕ) (more : List ℕ) (stands : Stands device whole inputs moments)
     → number_of stands.past.positions slot ≤ length (list_of whole slot) → Fills slot more inputs inputs' → Stands device (filled whole slot more) inputs' moments
 Stands-filled device whole inputs inputs' moments slot more stands within fills = record {

@@ -15,7 +15,7 @@ use Rattle.stream_law.specs.Table.{number_of, list_of, updated, table}
 use Rattle.sof_base.specs.Samples.{Frame, silence}
 use Rattle.stream_law.specs.State.{View}
 use Rattle.stream_law.specs.Ways.{comp_of, components, buffers, source_of, sink_of, is_end, ins, outs, channels_of, active, active_end, inputs}
-use Rattle.stream_law.specs.Moves.{fed, looks, looked_at, frames_to_move, chooses, is_choosy}
+use Rattle.stream_law.specs.Moves.{fed, looks, looked_at, frames_to_move, chooses, skips_idle_inputs}
 use Rattle.stream_law.specs.Counts.{Counts, Counting, frames_held, frames_free, moved_by}
 use Rattle.stream_law.specs.Epochs.{equalised}
 use Rattle.stream_law.specs.Past.{part_of, frames_read, Past, frames_now, frames_put, made_after, slices, equalised_after}
@@ -53,7 +53,7 @@ module _ (whole : List (ℕ × List ℕ)) (old : Past) (n put : List (ℕ × ℕ
       by_source (Some a) e = ap (frames_for old.view a b) (frames_now_same made other a (same a e))
 
   module _ (rank : ℕ → ℕ) (ranked : IsRanked old.view.graph rank) where
-    -- one more round changes nothing behind what is below the rank of the round
+    -- one more round changes nothing after what is below the rank of the round
     settles_made : (k b : ℕ) → ((a : ℕ) → source_of old.view.graph b ≡ Some a → rank a < k) → list_of (made_in whole old n put (suc k)) b ≡ list_of (made_in whole old n put (suc (suc k))) b
     settles_made zero b low =
         value_of-updated_same [] (buffers old.view.graph) (made_after whole old n put (made_in whole old n put 0)) (made_after whole old n put (made_in whole old n put 1)) old.made b
@@ -78,9 +78,9 @@ module _ (whole : List (ℕ × List ℕ)) (old : Past) (n put : List (ℕ × ℕ
 outs-among : (g : Graph) (b a : ℕ) → source_of g b ≡ Some a → is_among (outs g a) b ≡ true
 outs-among g b a source = is_among-filter (λ x. is_end (source_of g x) a) (buffers g) b ∙ ap (λ (p : Bool × Bool). p.0 && p.1) (λ i. (some-end (source_of g b) a source i, source_of-there g b a source i))
 
-chooses-kind : (v : View) (a : ℕ) (x : Comp) → comp_of v.graph a ≡ Some x → chooses v a ≡ is_choosy x.kind
+chooses-kind : (v : View) (a : ℕ) (x : Comp) → comp_of v.graph a ≡ Some x → chooses v a ≡ skips_idle_inputs x.kind
 unfolding chooses
-chooses-kind v a x e = ap (λ o. option_map_or (λ (x : Comp). is_choosy x.kind) o false) e
+chooses-kind v a x e = ap (λ o. option_map_or (λ (x : Comp). skips_idle_inputs x.kind) o false) e
 
 length-equalised_after : (epoch : List Frame) (blob : List ℕ) (channels : ℕ) (frames : List Frame) → length (equalised_after epoch blob channels frames) ≡ length frames
 length-equalised_after epoch blob channels frames = omega (arith, length-drop (length epoch) (equalised blob channels (epoch ++ frames)), length-equalised blob channels (epoch ++ frames), length-append epoch frames)
@@ -143,7 +143,7 @@ one-looked : (ids : List ℕ) (p : ℕ → Bool) (f : ℕ → List Frame) (k : L
 one-looked [] p f k some one all = absurd (omega arith)
 one-looked (i ∷ ids) p f k some one all = ap (λ h. k (table (cond h (i ∷ filter p ids) (filter p ids)) f)) (all i) ∙ some (i, f i) (table (filter p ids) f)
 
-makes-fit : (k : Kind) (ins' outs' : List ℕ) (p : ℕ → Bool) (f : ℕ → List Frame) (b : ℕ) → fits_kind k (length ins') (length outs') ≡ true → is_among outs' b ≡ true → (is_choosy k ≡ false → (x : ℕ) → p x ≡ true) → makes k (table (filter p ins') f) ≡ true
+makes-fit : (k : Kind) (ins' outs' : List ℕ) (p : ℕ → Bool) (f : ℕ → List Frame) (b : ℕ) → fits_kind k (length ins') (length outs') ≡ true → is_among outs' b ≡ true → (skips_idle_inputs k ≡ false → (x : ℕ) → p x ≡ true) → makes k (table (filter p ins') f) ≡ true
 makes-fit HostCapture ins' outs' p f b fits there all =
     let none : length outs' ≡ 0 = eqb-true (length outs') 0 (and_parts (length ins' == 1) (length outs' == 0) fits).1 in
     absurd (omega (arith, length-among outs' b there))

@@ -1,4 +1,4 @@
--- The order of moves puts each component behind its sources, and its places are ranks.
+-- The order of moves puts each component after its sources, and its places are ranks.
 use Rattle.std.proofs.Common.{◌≡◌, refl, sym, ap, ◌∙◌, ℕ, zero, suc, ◌<◌, ◌≤◌, min, List, [], ◌∷◌, length, filter, Some, Bool, true, false, cond, not, inl, inr, ◌⊎◌, ◌==◌, ◌&&◌, ◌||◌, arith}
 use Rattle.std.proofs.lemmas.Bool.{false≢true, true≢false, eqb-true, eq-eqb, and_parts, or_left, or_right, or_cases, not-true, false_from_ne_true, cases_order}
 use Rattle.std.specs.Option.{option_map_or}

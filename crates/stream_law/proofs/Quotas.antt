@@ -40,7 +40,7 @@ pub quota-numbers : (v : View) (t c : ℕ) → period v c ≤ 1000 → quota v t
 unfolding quota
 quota-numbers v t c low = by_numbers (rate_of v c) (period v c) t low
 
--- what is behind and what a period has are what is before it
+-- what is after and what a period has are what is before it
 parts : (r p t : ℕ) → p ≤ 1000 → (t + 1000 - p) * r + p * r ≡ (t + 1000) * r
 parts r p t low = (let e : (t + 1000 - p) * r + p * r ≡ (t + 1000 - p + p) * r = omega arith in e) ∙ ap (λ z. z * r) (let e : t + 1000 - p + p ≡ t + 1000 = omega (arith, low) in e)
 

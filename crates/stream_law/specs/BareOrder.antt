@@ -1,4 +1,4 @@
--- The order of a graph whose components are only told by their ids.
+-- The order of a graph whose components are known by their ids alone.
 use Rattle.std.specs.Prelude.{List, []}
 use Rattle.stream_law.specs.declared.graph.Comp.{Comp}
 use Rattle.stream_law.specs.declared.graph.Edge.{Edge}

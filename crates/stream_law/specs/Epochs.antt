@@ -11,7 +11,7 @@ use Rattle.stream_law.specs.Equaliser.{sections_of}
 abbrev pub channel_of : ℕ → List Frame → List ℤ
 channel_of k frames = map (λ frame. sample_of frame k) frames
 
--- channel k of all frames of an epoch, behind its sections
+-- channel k of all frames of an epoch, after its sections
 abbrev pub channel_out : List ℕ → ℕ → List Frame → List ℤ
 channel_out blob k frames = after_sections (sections_of blob k) (channel_of k frames)
 

@@ -98,7 +98,7 @@ TickKeeps = (f f' : FwState) (whole : List (ℕ × List ℕ)) (io io' : Io) (mom
     (after : Stands (Some f') whole io'.inputs (moments ++ Tick ∷ [])) ×
     ((slot : ℕ) → list_of after.past.bytes slot ≡ list_of before.past.bytes slot ++ list_of (audio_after f io).written slot)
 
--- more bytes behind those that are left of an input keep what stands
+-- more bytes after those that are left of an input keep what stands
 abbrev pub FillKeeps : Type 0
 FillKeeps = (device : Option FwState) (whole : List (ℕ × List ℕ)) (inputs inputs' : List InputView) (moments : List Moment) (slot : ℕ)
     (more : List ℕ) (before : Stands device whole inputs moments) → number_of before.past.positions slot ≤ length (list_of whole slot) →

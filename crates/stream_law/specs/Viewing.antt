@@ -54,7 +54,7 @@ pub record StaysAsLive (old new : View) (fresh : Option ℕ) : Type 0 where
   pub on : (c : ℕ) → remembers new c ≡ true → goes_on old new fresh c ≡ true →
       (blob_in new c ≡ blob_in old c) × (channels_of new c ≡ channels_of old c) × (ramp_length new c ≡ ramp_length old c)
 
--- more bytes stand behind those that are left of an input
+-- more bytes stand after those that are left of an input
 pub record Fills (slot : ℕ) (more : List ℕ) (inputs inputs' : List InputView) : Type 0 where
   pub bound : (s : ℕ) → is_bound inputs s ≡ is_bound inputs' s
   pub positions : (s : ℕ) → position_of inputs' s ≡ position_of inputs s

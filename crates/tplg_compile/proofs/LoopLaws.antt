@@ -1,4 +1,4 @@
--- What a loop has found so far, and what is found behind it.
+-- What a loop has found so far, and what is found after it.
 use Rattle.std.proofs.Common.{◌≡◌, ℕ, ◌+◌, List, [], ◌∷◌, ◌++◌, Option, Some, None, Result, Ok, Err, refl, sym, ap, append_assoc, append-nil}
 use Rattle.std.specs.Option.{option_to_list}
 use Rattle.std.specs.Prelude.{bit_or, true, false, is_some}

@@ -66,7 +66,7 @@ module _ {A : Type 0} (list : SourceList) (read : Data → Option A) where
       let same : p.0 ∷ q.0 ≡ xs = cc q.1.1 in
       rw (p.1.0, all_told (place + 1) ds q.0 q.1.0) (ap Ok same)
 
-  -- what was told of the rest, behind one more entry
+  -- what was told of the rest, after one more entry
   one_more : (d : Data) (ds : List Data) (n : ℕ) (x : A) → read d ≡ Some x → IsFirstMisfit read ds n → IsFirstMisfit read (d ∷ ds) (n + 1)
   unfolding each
   one_more d ds n x is first =

@@ -41,7 +41,7 @@ is-orderable t = record {
   };
 }
 
--- rule 14 is behind the thirteenth
+-- rule 14 is after the thirteenth
 pub is-acyclic : (t : Topology) → IsWellFormed t → IsAcyclic (plan_of t).graph
 is-acyclic t w (c, n, walk) =
     let ps = interpreted (entries_of t) in

@@ -12,7 +12,7 @@ use Rattle.tplg_model.proofs.ArrayLaws.{IsWhole, whole_from, fault_none, array_t
 abbrev pub Arrays : Type 0
 Arrays = List TokenArray
 
--- one array, and what is read behind it
+-- one array, and what is read after it
 abbrev pub one_more : ℕ → ℕ → List ℕ → Result Arrays ArrayFault
 one_more n at bytes = unless (array_fault at bytes) (with_front (array_at bytes ∷ []) (arrays_from n (at + word_at bytes 0) (drop (word_at bytes 0) bytes)))
 
@@ -42,7 +42,7 @@ front at (b ∷ bytes) = front_of at (b ∷ bytes) (array_fault at (b ∷ bytes)
 ok_same : (xs ys : Arrays) (r : Result Arrays ArrayFault) → r ≡ Ok xs → r ≡ Ok ys → xs ≡ ys
 ok_same xs ys r d e = cc
 
--- what is left of a list of arrays behind those that were read before it
+-- what is left of a list of arrays after those that were read before it
 front_ok : (before xs : Arrays) (read : Result Arrays ArrayFault) → with_front before read ≡ Ok xs → (ys : Arrays) × (read ≡ Ok ys) × (before ++ ys ≡ xs)
 front_ok before xs (Ok ys) e = (ys, refl, cc)
 front_ok before xs (Err f) e = absurd cc
@@ -92,7 +92,7 @@ arrays_take (suc n) at bytes xs h enough e =
           subst (λ (ys : Arrays). Whole bytes ys) a.2 (whole_more bytes (array_at bytes) size a.0 one.whole one.is others)
     ]
 
--- ---- what is spelled is read, and reading goes on behind it
+-- ---- what is spelled is read, and reading goes on after it
 
 record GoesOn (n at : ℕ) (bytes : List ℕ) (xs : Arrays) (place : ℕ) (rest : List ℕ) : Type 0 where
   fuel : ℕ

@@ -79,7 +79,7 @@ blocks_take (suc n) at bytes xs h enough e =
           subst (λ (ys : Blocks). Whole bytes ys) (ok_same made xs (Ok made) refl b.2) (whole_more bytes a.0.0 a.0.1 b.0 one others)
     ]
 
--- ---- what is spelled is read, and reading goes on behind it
+-- ---- what is spelled is read, and reading goes on after it
 
 record GoesOn (n at : ℕ) (bytes : List ℕ) (xs : Blocks) (place : ℕ) (rest : List ℕ) : Type 0 where
   fuel : ℕ

@@ -1,4 +1,4 @@
--- The laws of items one after the other, and of a head with items behind it.
+-- The laws of items one after the other, and of a head with items after it.
 use Rattle.std.proofs.Common.{◌≡◌, ℕ, zero, suc, ◌+◌, ◌-◌, ◌≤◌, ◌<◌, ◌⊎◌, inl, inr, true, false, cond, eqb, eq-eqb, List, [], ◌∷◌, ◌++◌, length, take, drop, Result, Ok, Err, refl, sym, ap, subst, ◌∙◌, arith, length-append, append-nil, append_assoc, add-zero, zero-add}
 use Rattle.std.proofs.lemmas.Bool.{eqb-true, eqb-false, ne_eqb}
 use Rattle.std.proofs.lemmas.List.{drop_at, take_all, take-append-drop, length-take, length-drop, nil_from_length}
@@ -87,7 +87,7 @@ module _ {A : Type 0} (step : ℕ → List ℕ → Result (A × ℕ) TplgFault) 
       let made : List A × ℕ = (a.0.0 ∷ b.0.0, a.0.1 + b.0.1) in
       subst (λ (p : List A × ℕ). TookAll bytes (suc n) p.0 p.1) (ok_same made (xs, used) (Ok made) refl b.2) (TookAll-more bytes n a.0.0 a.0.1 b.0.0 b.0.1 one others)
 
-  -- what is spelled is read, and reading goes on behind it
+  -- what is spelled is read, and reading goes on after it
   pub items_again : (xs : List A) (m at : ℕ) (front rest : List ℕ) → Each Is xs → Fits front (items_cells cells xs)
       → items_at step (length xs + m) at (front ++ rest) ≡ with_front xs (length front) (items_at step m (at + length front) rest)
   unfolding items_at items_cells Each
@@ -219,7 +219,7 @@ unfolding items_cells
 items_few cells some [] = omega arith
 items_few cells some (x ∷ xs) = omega (arith, some x, items_few cells some xs, length-append (cells x) (items_cells cells xs))
 
--- ---- a head, and items behind it
+-- ---- a head, and items after it
 
 module _ {A B : Type 0} (head : ℕ → List ℕ → Result (A × ℕ) TplgFault) (head_cells : A → List Cell) (IsHead : A → Type 0) (head_item : IsItem head head_cells IsHead)
     (count : A → ℕ)

@@ -1,4 +1,4 @@
--- The laws of a record whose last word is the size of the private data behind it, from what is special to its kind.
+-- The laws of a record whose last word is the size of the private data after it, from what is special to its kind.
 use Rattle.std.proofs.Common.{◌≡◌, ℕ, zero, suc, ◌+◌, ◌-◌, ◌≤◌, Bool, true, false, ◌&&◌, cond, ltb, List, [], ◌∷◌, ◌++◌, length, take, Some, None, Result, Ok, Err, refl, sym, ap, subst, ◌∙◌, arith, length-append}
 use Rattle.std.proofs.lemmas.Bool.{ltb-false, le-ltb}
 use Rattle.tplg_model.specs.declared.fault.TplgFault.{TplgFault}

@@ -1,4 +1,4 @@
--- A part of a record at an offset: the two laws, of fields, of equal parts, of parts behind each other.
+-- A part of a record at an offset: the two laws, of fields, of equal parts, of parts one after another.
 use Rattle.std.proofs.Common.{◌≡◌, ℕ, zero, suc, ◌+◌, ◌*◌, ◌≤◌, true, cond, List, [], ◌∷◌, ◌++◌, length, take, drop, Result, Ok, Err, refl, sym, ap, subst, ◌∙◌, arith, length-append, append_assoc, mul-suc}
 use Rattle.std.proofs.lemmas.List.{take_at, drop_at, drop-drop, drop-take, take-take, take-append-drop}
 use Rattle.tplg_model.specs.declared.fault.TplgFault.{TplgFault}
@@ -106,7 +106,7 @@ module _ {A : Type 0} (w : ℕ) (read : ℕ → List ℕ → ℕ → Result A Tp
     wide = λ xs is. parts_wide xs is.0 ∙ ap (λ (m : ℕ). w * m) is.1;
   }
 
--- ---- parts behind each other
+-- ---- parts one after another
 
 -- each part fits where it stands
 abbrev pub FitsAt : List ℕ → ℕ → List ℕ → List (List Cell) → Type 0

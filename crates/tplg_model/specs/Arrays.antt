@@ -93,7 +93,7 @@ AreArrays arrays = Each IsArray arrays
 
 -- ---- faults
 
--- what is wrong with an array, with the place of its first byte: bytes are wanting, its size word is wrong, or its type is unknown
+-- what is wrong with an array, with the place of its first byte: bytes are missing, its size word is wrong, or its type is unknown
 pub data ArrayFault : Type 0 where
   Too_short : ℕ → ArrayFault
   Wrong_size : ℕ → ArrayFault

@@ -95,7 +95,7 @@ BytesLeft cells Is n at bytes f = (q : ItemsFirst cells Is bytes) × (length q.i
 abbrev pub RecordsFault : {A : Type 0} → (A → List Cell) → (A → Type 0) → (ℕ → List ℕ → TplgFault → Type 0) → ℕ → ℕ → List ℕ → TplgFault → Type 0
 RecordsFault cells Is Fault n at bytes f = ItemsFault cells Is Fault n at bytes f ⊎ BytesLeft cells Is n at bytes f
 
--- the head is whole, and an item behind it is at fault
+-- the head is whole, and an item after it is at fault
 pub record BehindHead {A B : Type 0} (head_cells : A → List Cell) (IsHead : A → Type 0) (count : A → ℕ)
     (cells : B → List Cell) (Is : B → Type 0) (Fault : ℕ → List ℕ → TplgFault → Type 0) (at : ℕ) (bytes : List ℕ) (f : TplgFault) : Type 0 where
   pub head : A
@@ -114,7 +114,7 @@ WidgetFault at bytes f =
 
 -- ---- faults of a file
 
--- the header of a block: bytes that are wanting, then its words, then its payload's bytes that are wanting
+-- the header of a block: bytes that are missing, then its words, then its payload's bytes that are missing
 abbrev pub header_fault : ℕ → List ℕ → Option TplgFault
 header_fault at bytes =
     if nat_lt (length bytes) 36 then Some (Truncated at)

@@ -55,7 +55,7 @@ all_items step n at bytes = do
   x ← items_at step n at bytes
   if x.1 == length bytes then Ok x.0 else Err (Payload (at + x.1))
 
--- a head, and behind it as many items as it says
+-- a head, and after it as many items as it says
 unfoldable pub headed_at : {A B : Type 0} → (ℕ → List ℕ → Result (A × ℕ) TplgFault) → (A → ℕ) → (ℕ → List ℕ → Result (B × ℕ) TplgFault)
     → ℕ → List ℕ → Result ((A × List B) × ℕ) TplgFault
 headed_at head count step at bytes = do

@@ -1,7 +1,7 @@
 // A widget's controls.
 use sof_base::{Items, Name44};
 
-/// The head that every control has; its operation `info` is told by the control's kind.
+/// The head that every control has; its operation `info` is given by the control's kind.
 #[derive(Debug, Drop)]
 pub struct ControlHead {
     pub type_word: u32,

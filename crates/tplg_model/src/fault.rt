@@ -34,7 +34,7 @@ pub enum TplgFault {
     /// A widget's private data are no vendor arrays.
     #[error("widget at byte {0}: the private data are no vendor arrays")]
     Tokens(usize),
-    /// Memory was wanting.
+    /// There was no memory.
     #[error("out of memory")]
     OutOfMemory,
 }

@@ -7,7 +7,7 @@ ghost use Rattle.tplg_picture.specs.Picture as law;
 use itoa::Buffer;
 use sof_base::NoMemory;
 
-/// Bytes behind those of a line.
+/// Bytes after those of a line.
 pub fn say(line: &mut Vec<u8>, piece: &[u8]) -> Result<(), NoMemory>
     ensures { OnOk result (line.new.items ≡ line.old.items ++ piece.now) }
 {
@@ -15,7 +15,7 @@ pub fn say(line: &mut Vec<u8>, piece: &[u8]) -> Result<(), NoMemory>
     Ok(())
 }
 
-/// A number in decimal digits behind the bytes of a line.
+/// A number in decimal digits after the bytes of a line.
 pub fn say_number(line: &mut Vec<u8>, number: u32) -> Result<(), NoMemory>
     ensures { OnOk result (line.new.items ≡ line.old.items ++ decimal number) }
 {

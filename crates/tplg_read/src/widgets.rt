@@ -1,4 +1,4 @@
-// Widgets: their words and names, their vendor arrays, and the controls behind them.
+// Widgets: their words and names, their vendor arrays, and the controls after them.
 ghost use Rattle.std.specs.Prelude.{◌≡◌, ◌≤◌, ◌<◌, ◌+◌, ◌^◌, length, IfOk};
 ghost use Rattle.tplg_model.specs.Outcomes.{Gives};
 ghost use Rattle.tplg_model.specs.ArrayReading.{arrays_of};

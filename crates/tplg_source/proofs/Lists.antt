@@ -19,7 +19,7 @@ kept_more f xs i x within here =
     ap (filter_map f) (take_more xs i x within) ∙ filter_map-append f (take i xs) (get_or xs i x ∷ [])
     ∙ ap (λ z. filter_map f (take i xs) ++ cons_option (f z) []) (sym here) ∙ ap (λ zs. filter_map f (take i xs) ++ zs) (of_one (f x))
 
--- what a function gives of one item more was put behind what it gives of those before
+-- what a function gives of one item more was put after what it gives of those before
 pub kept_on : {X Y : Type 0} (f : X → Option Y) (xs : List X) (i : ℕ) (x : X) (start so_far next : List Y) → i < length xs → x ≡ get_or xs i x
     → so_far ≡ start ++ filter_map f (take i xs) → next ≡ so_far ++ option_to_list (f x) → next ≡ start ++ filter_map f (take (i + 1) xs)
 kept_on f xs i x start so_far next within here was put =

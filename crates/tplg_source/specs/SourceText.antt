@@ -32,7 +32,7 @@ quoted_byte byte =
 unfoldable pub quoted : List ℕ → List ℕ
 quoted text = codes "\"" ++ (flat_map quoted_byte text ++ codes "\"")
 
--- texts in brackets, each after the first behind a comma
+-- texts in brackets, each after the first after a comma
 unfoldable pub after_comma : List ℕ → List ℕ
 after_comma text = codes ", " ++ quoted text
 

@@ -69,7 +69,7 @@ fn kind_carried(widget: &Widget) -> Option<WidgetKind>
     }
 }
 
-// A widget in a block of this index, behind those that are there, where a source can carry it.
+// A widget in a block of this index, after those that are there, where a source can carry it.
 #[tactic(auto, unfolding(crate::specs::Carried::carried_widget))]
 fn put_widget(
     alloc: Global,
@@ -124,7 +124,7 @@ fn carried_route(widgets: &[SourceWidget], route: &Route) -> Option<SourceRoute>
     })
 }
 
-// A route behind those that are there, where a source can carry it.
+// A route after those that are there, where a source can carry it.
 fn put_route(
     widgets: &[SourceWidget],
     route: &Route,

@@ -9,7 +9,7 @@ use itoa::Buffer;
 use sof_base::{Name44, NoMemory};
 use std::alloc::Global;
 
-/// Bytes behind those of a text.
+/// Bytes after those of a text.
 pub fn say(out: &mut Vec<u8>, piece: &[u8]) -> Result<(), NoMemory>
     ensures { OnOk result (out.new.items ≡ out.old.items ++ piece.now) }
 {
@@ -97,7 +97,7 @@ pub fn say_quoted(alloc: Global, out: &mut Vec<u8>, text: &[u8]) -> Result<(), N
     say(out, b"\"")
 }
 
-// A text behind a comma.
+// A text after a comma.
 #[tactic(auto, unfolding(crate::specs::SourceText::after_comma))]
 fn say_after_comma(alloc: Global, out: &mut Vec<u8>, text: &[u8]) -> Result<(), NoMemory>
     ensures { OnOk result (out.new.items ≡ out.old.items ++ law.after_comma text.now) }

@@ -54,7 +54,7 @@ const CHANGES: [Changed; 16] = [
         byte: 0,
         fault: Some(TplgFault::Payload(36)),
     },
-    // the first widget: its size word, its name, a byte behind its name's end
+    // the first widget: its size word, its name, a byte after its name's end
     Changed {
         at: 36,
         byte: 1,

@@ -53,7 +53,7 @@ fn one_of_most(alloc: Global) -> Result<TopologySource, Fail> {
     Ok(source)
 }
 
-// A manifest of 4 bytes, and the rest behind it, each in a block of its own.
+// A manifest of 4 bytes, and the rest after it, each in a block of its own.
 fn one_of_each(alloc: Global) -> Result<Vec<u8>, Fail> {
     let mut manifest = Vec::new(alloc);
     put_header(&mut manifest, block_type::MANIFEST, 116)?;

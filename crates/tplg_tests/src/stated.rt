@@ -66,7 +66,7 @@ fn host_limits() -> PcmLimits {
     }
 }
 
-/// The file of the topology that a source states, behind these bytes.
+/// The file of the topology that a source states, after these bytes.
 pub fn written(alloc: Global, source: &TopologySource, before: Vec<u8>) -> Result<Vec<u8>, Fail> {
     let topology = build(alloc, source)?;
     let mut out = before;
@@ -74,7 +74,7 @@ pub fn written(alloc: Global, source: &TopologySource, before: Vec<u8>) -> Resul
     Ok(out)
 }
 
-/// The header of a block of one record, with so many bytes behind it.
+/// The header of a block of one record, with so many bytes after it.
 pub fn put_header(out: &mut Vec<u8>, kind: u32, bytes: u32) -> Result<(), Fail> {
     for word in [MAGIC, ABI, 0, kind, HEADER_BYTES, 0, bytes, 0, 1] {
         out.extend_from_slice(&word.to_le_bytes())?;

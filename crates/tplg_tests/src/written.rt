@@ -8,7 +8,7 @@ use std::test::Fail;
 use tplg_model::block_type;
 use tplg_write::write;
 
-// The bytes that are written of the topology whose file these are, behind one byte.
+// The bytes that are written of the topology whose file these are, after one byte.
 fn written_again(alloc: Global, bytes: &[u8]) -> Result<Vec<u8>, Fail> {
     let topology = topology_of(alloc, bytes).ok_or("it is a file")?;
     let mut out = Vec::from_slice(alloc, &[7])?;
@@ -32,7 +32,7 @@ fn a_thin_graph_is_written_as_it_was(rt: HostRuntime) -> Result<(), Fail> {
     is_written(&rt, rt.alloc(), &file, &file)
 }
 
-// A byte behind a name's end is dropped, and a size word is put right.
+// A byte after a name's end is dropped, and a size word is put right.
 #[test]
 fn what_readers_ignore_is_written_plainly(rt: HostRuntime) -> Result<(), Fail> {
     let file = thin_graph(rt.alloc())?;
@@ -42,7 +42,7 @@ fn what_readers_ignore_is_written_plainly(rt: HostRuntime) -> Result<(), Fail> {
     is_written(&rt, rt.alloc(), &changed, &file)
 }
 
-// The thin graph with a block of another type behind it.
+// The thin graph with a block of another type after it.
 fn with_kept_block(alloc: Global) -> Result<Vec<u8>, Fail> {
     let mut file = thin_graph(alloc)?;
     put_header(&mut file, block_type::BACKEND_LINK, 1656)?;

@@ -37,7 +37,7 @@ is_fault bytes (Err f) h g = fault_named bytes f h g
 
 -- ---- writing
 
--- an array's words and elements behind what is written
+-- an array's words and elements after what is written
 pub array_written : (a : TokenArray) (size kind count : ℕ) (old words : List ℕ) (new : List ℕ) (r : Result (Unit {0}) AllocError) → size ≡ array_size a → kind ≡ array_type a → count ≡ count_of a → words ≡ old ++ (to_le_bytes w32 size ++ (to_le_bytes w32 kind ++ to_le_bytes w32 count)) → OnOk r (new ≡ words ++ elements_spelling a) → OnOk r (new ≡ old ++ array_spelling a)
 unfolding array_spelling
 array_written a size kind count old words new (Err e) s k c w h = tt

@@ -101,7 +101,7 @@ fn array_words(array: &TokenArray) -> (u32, u32, u32)
     }
 }
 
-/// Appends an array's three words. Where memory is wanting, some of them may have been written.
+/// Appends an array's three words. Where there is no memory, some of them may have been written.
 fn write_words(size: u32, kind: u32, count: u32, out: &mut Vec<u8>) -> Result<(), AllocError>
     ensures ok { OnOk result (out.new.items ≡ out.old.items ++ (to_le_bytes w32 size ++ (to_le_bytes w32 kind ++ to_le_bytes w32 count))) }
     ensures kept { take (length out.old.items) out.new.items ≡ out.old.items }
@@ -123,7 +123,7 @@ fn write_elements_of(array: &TokenArray, out: &mut Vec<u8>) -> Result<(), AllocE
     }
 }
 
-/// Appends an array's bytes. Where memory is wanting, some of them may have been written.
+/// Appends an array's bytes. Where there is no memory, some of them may have been written.
 pub fn write_array(array: &TokenArray, out: &mut Vec<u8>) -> Result<(), AllocError>
     ensures ok { OnOk result (out.new.items ≡ out.old.items ++ array_spelling array.now) }
     ensures is { OnOk result (IsArray array.now) }

@@ -38,7 +38,7 @@ pub trait Element: Sized {
         requires { at + SIZE ≤ length bytes.now }
         ensures { result ≡ element bytes.now at };
 
-    /// Appends its bytes. Where memory is wanting, some of them may have been written.
+    /// Appends its bytes. Where there is no memory, some of them may have been written.
     fn write(&self, out: &mut Vec<u8>) -> Result<(), AllocError>
         ensures ok { OnOk result (out.new.items ≡ out.old.items ++ spelling self.now) }
         ensures is { OnOk result (is self.now) }
@@ -137,7 +137,7 @@ pub fn read_elements<E: Element + Drop>(
     Ok(elements)
 }
 
-/// Appends the bytes of elements, one after the other. Where memory is wanting, some of them may have been written.
+/// Appends the bytes of elements, one after the other. Where there is no memory, some of them may have been written.
 pub fn write_elements<E: Element>(elements: &[E], out: &mut Vec<u8>) -> Result<(), AllocError>
     ensures ok { OnOk result (out.new.items ≡ out.old.items ++ flat_map E.spelling elements.now) }
     ensures are { OnOk result (Each E.is elements.now) }

@@ -18,7 +18,7 @@ pub enum TokenFault {
     /// An array's type, this one, is above 5.
     #[error("array at byte {0}: type is {1}, above 5")]
     Kind(usize, u32),
-    /// Memory was wanting.
+    /// There was no memory.
     #[error("out of memory")]
     OutOfMemory,
 }

@@ -5,13 +5,13 @@ use Rattle.sof_base.specs.Slots.{Slot, Size, Word, Words, Raw, AreSlots, AreWord
 use Rattle.tplg_model.specs.Spelling.{BlockValue, block_type, count_of, AreRecords, IsBlock}
 use Rattle.tplg_model.specs.Storable.{IsStorable}
 
--- fields, and fields behind them
+-- fields, and fields after them
 are_append : (xs ys : List Slot) → AreSlots xs → AreSlots ys → AreSlots (xs ++ ys)
 unfolding AreSlots
 are_append [] ys are more = more
 are_append (x ∷ xs) ys are more = (are.0, are_append xs ys are.1 more)
 
--- a mixer's fields behind its head
+-- a mixer's fields after its head
 pub mixer_slots : (head : List Slot) (min max platform_max : ℤ) (invert num_channels : ℕ) (channels private : List ℕ) → AreSlots head → cast_unsigned w32 min < 2 ^ 32 → cast_unsigned w32 max < 2 ^ 32 → cast_unsigned w32 platform_max < 2 ^ 32 → invert < 2 ^ 32 → num_channels < 2 ^ 32 → AreWords channels → length private < 2 ^ 32
     → AreSlots (head ++ Size 360 ∷ Word (cast_unsigned w32 min) ∷ Word (cast_unsigned w32 max) ∷ Word (cast_unsigned w32 platform_max) ∷ Word invert ∷ Word num_channels ∷ Words channels ∷ Word (length private) ∷ Raw private ∷ [])
 unfolding AreSlots IsSlot

@@ -23,7 +23,7 @@ raw_behind old bytes = ap (λ (t : List ℕ). old ++ t) (written_bytes bytes)
 drop_past : (xs ys zs : List ℕ) (n : ℕ) → n ≡ length xs + length ys → drop n (xs ++ (ys ++ zs)) ≡ zs
 drop_past xs ys zs n is = ap (drop n) (sym (append_assoc xs ys zs)) ∙ drop_at (xs ++ ys) zs n (omega (arith, is, length-append xs ys))
 
--- the word that stands behind bytes is written over, whatever comes behind it
+-- the word that stands after bytes is written over, whatever comes after it
 pub patched_word : (old rest : List ℕ) (m n place : ℕ) → place ≡ length old → patched place n (wrote old (Word m) ++ rest) ≡ wrote old (Word n) ++ rest
 unfolding patched
 patched_word old rest m n place is =
@@ -37,7 +37,7 @@ pub patched_raw : (old bytes : List ℕ) (n place : ℕ) → place ≡ length ol
 patched_raw old bytes n place is size =
     patched_word old bytes 0 n place is ∙ ap (λ (k : ℕ). wrote old (Word k) ++ bytes) size ∙ sym (raw_behind (wrote old (Word (length bytes))) bytes)
 
--- two words and cells behind a word
+-- two words and cells after a word
 rest_behind : (x : List ℕ) (i c : ℕ) (cells : List Cell) → wrote_part (wrote (wrote x (Word i)) (Word c)) cells ≡ x ++ (to_le_bytes w32 i ++ (to_le_bytes w32 c ++ written cells))
 unfolding wrote_part
 rest_behind x i c cells =
@@ -57,7 +57,7 @@ header_length old i c m cells =
     ap length (rest_behind (wrote old (Word m)) i c cells)
     ∙ omega (arith, length-append (wrote old (Word m)) (to_le_bytes w32 i ++ (to_le_bytes w32 c ++ written cells)), word_length old m, length-append (to_le_bytes w32 i) (to_le_bytes w32 c ++ written cells), length-append (to_le_bytes w32 c) (written cells))
 
--- fields, and cells behind them
+-- fields, and cells after them
 pub slots_then : (old : List ℕ) (ss : List Slot) (cells : List Cell) → wrote_part (wrote_all old ss) cells ≡ wrote_part old (slots_cells ss ++ cells)
 unfolding wrote_part
 slots_then old ss cells =

@@ -1,4 +1,4 @@
--- Numbers written over bytes, and fields behind what was written.
+-- Numbers written over bytes, and fields after what was written.
 use Rattle.std.proofs.Common.{◌≡◌, ℕ, suc, ◌+◌, ◌<◌, ◌≤◌, ◌^◌, slice_index, List, [], ◌∷◌, ◌++◌, length, take, drop, sym, ap, ◌∙◌, arith, append-nil, append_assoc}
 use Rattle.std.proofs.Math.Seq.{take-add, take-append_seam, drop-append_seam}
 use Rattle.std.proofs.lemmas.List.{drop-drop, length-take-le}
@@ -11,7 +11,7 @@ use Rattle.sof_base.specs.Layouts.{wrote_part}
 use Rattle.tplg_model.specs.Spelling.{joined_cells}
 use Rattle.tplg_write.specs.Sinks.{Sunk, patched}
 
--- a number written over bytes behind those that are kept
+-- a number written over bytes after those that are kept
 pub patched_behind : (kept at n k : ℕ) (xs ys : List ℕ) → k ≡ 4 → ys ≡ to_le_bytes w32 n → put_mid (kept + at) k xs ys ≡ take kept xs ++ patched at n (drop kept xs)
 unfolding patched
 patched_behind kept at n k xs ys four is =
@@ -19,7 +19,7 @@ patched_behind kept at n k xs ys four is =
     let back : drop k (drop (kept + at) xs) ≡ drop (at + 4) (drop kept xs) = drop-drop k (kept + at) xs ∙ ap (λ (m : ℕ). drop m xs) (rw four (omega arith)) ∙ sym (drop-drop (at + 4) kept xs) in
     (λ i. front i ++ (is i ++ back i)) ∙ append_assoc (take kept xs) (take at (drop kept xs)) (to_le_bytes w32 n ++ drop (at + 4) (drop kept xs))
 
--- kept bytes and those behind them
+-- kept bytes and those after them
 abbrev pub sunk : List ℕ → List ℕ → Sunk
 sunk front added = record { front = front; added = added }
 

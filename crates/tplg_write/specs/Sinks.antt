@@ -1,11 +1,11 @@
--- What was written behind bytes that are kept.
+-- What was written after bytes that are kept.
 use Rattle.std.specs.Prelude.{ℕ, ◌+◌, List, ◌++◌, take, drop}
 use Rattle.std.specs.Int.{w32, to_le_bytes}
 use Rattle.sof_base.specs.Cells.{Cell}
 use Rattle.sof_base.specs.Slots.{Slot}
 use Rattle.sof_base.specs.Layouts.{wrote, wrote_all, wrote_part}
 
--- bytes that are kept, and those that were written behind them
+-- bytes that are kept, and those that were written after them
 pub record Sunk : Type 0 where
   pub front : List ℕ
   pub added : List ℕ

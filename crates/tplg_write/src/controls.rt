@@ -1,4 +1,4 @@
-// A widget's controls: a head, and what each kind has behind it.
+// A widget's controls: a head, and what each kind has after it.
 ghost use Rattle.std.specs.Prelude.{◌≡◌, ◌<◌, ◌^◌, OnOk, length};
 ghost use Rattle.sof_base.specs.Slots.{AreSlots};
 ghost use Rattle.tplg_model.specs.Spelling.{IsControl, HasLengths, control_head_slots, kcontrol_slots, control_cells};

@@ -9,7 +9,7 @@ use sof_base::NoMemory;
 use std::mem::replace;
 use tplg_model::Topology;
 
-/// Appends the bytes of a topology's file. Where memory is wanting, `out` stays as it was.
+/// Appends the bytes of a topology's file. Where there is no memory, `out` stays as it was.
 pub fn write(topology: &Topology, out: &mut Vec<u8>) -> Result<(), NoMemory>
     ensures ok { OnOk result (out.new.items ≡ out.old.items ++ spelling topology.now) }
     // The topology is one of the program, so that what is written is read as it.

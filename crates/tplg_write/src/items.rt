@@ -15,7 +15,7 @@ pub trait Spelled: Sized {
     /// Its numbers, names and lists are the program's.
     ghost is: { Self → Type 0 };
 
-    /// Writes its bytes, which are fewer than 2^32. Where memory is wanting, some of them may have been written.
+    /// Writes its bytes, which are fewer than 2^32. Where there is no memory, some of them may have been written.
     fn put(&self, sink: &mut Sink) -> Result<(), NoMemory>
         requires room { length (cells self.now) < 2 ^ 32 }
         ensures ok { OnOk result (sink.new ≡ with_cells sink.old (cells self.now)) }

@@ -1,4 +1,4 @@
-//! The writer of topology files, after the ALSA topology structures (ABI 5): each topology is written as it is spelled, behind
+//! The writer of topology files, after the ALSA topology structures (ABI 5): each topology is written as it is spelled, after
 //! the bytes that are there.
 #![tactic(auto)]
 

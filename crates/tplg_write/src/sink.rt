@@ -1,4 +1,4 @@
-// Bytes that grow behind others, which are kept whatever becomes of them.
+// Bytes that grow after others, which are kept whatever becomes of them.
 ghost use Rattle.std.specs.Prelude.{◌≡◌, ◌≤◌, ◌<◌, ◌+◌, ◌^◌, ◌++◌, [], Ok, OnOk, length};
 ghost use Rattle.sof_base.specs.Slots.{Word, Half, Long, Size, Label, Words, Raw, IsName, AreWords};
 ghost use Rattle.sof_base.specs.Layouts.{wrote};
@@ -13,7 +13,7 @@ use tplg_tokens::{word_bytes, write_arrays};
 
 static ZEROS: [u8; 44] = [0; 44];
 
-/// The bytes behind the first `kept` ones. Where memory is wanting, a part of a field may have been written, and `kept`
+/// The bytes after the first `kept` ones. Where there is no memory, a part of a field may have been written, and `kept`
 /// bytes stay as they were.
 #[derive(Drop)]
 pub struct Sink {
@@ -33,7 +33,7 @@ impl Model for Sink {
 }
 
 impl Sink {
-    /// Nothing written behind these bytes.
+    /// Nothing written after these bytes.
     pub fn behind(bytes: Vec<u8>) -> Sink
         ensures { result ≡ record { front = bytes.items; added = [] } }
     {
@@ -125,7 +125,7 @@ impl Sink {
         self.put(bytes)
     }
 
-    /// A name and zeros behind it, 44 bytes in all.
+    /// A name and zeros after it, 44 bytes in all.
     pub fn label(&mut self, name: &Name44) -> Result<(), NoMemory>
         ensures ok { OnOk result (self.new ≡ with_field self.old (Label name.now)) }
         ensures fits { IsName name.now }

@@ -14,7 +14,7 @@ fn add_input(inputs: &mut Inputs, slot: u32) -> Result<(), Fail> {
     Ok(())
 }
 
-// Puts a piece behind the bytes of a slot; whether it could.
+// Puts a piece after the bytes of a slot; whether it could.
 fn fill(inputs: &mut Inputs, slot: u32, piece: &[u8]) -> bool {
     if !inputs.has(slot) || inputs.ended(slot) {
         return false;

@@ -10,7 +10,7 @@ static SIZE_768: [u8; 20] = [
     20, 0, 0, 0, 4, 0, 0, 0, 1, 0, 0, 0, 100, 0, 0, 0, 0, 3, 0, 0,
 ];
 
-/// One array of texts: the token 402 with the text `s16le`, and a byte behind its 0.
+/// One array of texts: the token 402 with the text `s16le`, and a byte after its 0.
 fn format_s16le() -> [u8; 60] {
     let mut bytes = [0; 60];
     bytes[..12].copy_from_slice(&[60, 0, 0, 0, 1, 0, 0, 0, 1, 0, 0, 0]);
@@ -20,7 +20,7 @@ fn format_s16le() -> [u8; 60] {
     bytes
 }
 
-/// Two bytes, and behind them the arrays that bytes are, written again.
+/// Two bytes, and after them the arrays that bytes are, written again.
 fn written_again(rt: &HostRuntime, bytes: &[u8]) -> Result<Vec<u8>, Fail> {
     let Ok(arrays) = read_arrays(rt.alloc(), bytes) else {
         return Err(Fail::from("they are arrays"));

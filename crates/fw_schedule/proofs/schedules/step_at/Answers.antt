@@ -7,7 +7,7 @@ use Rattle.std.specs.Option.{option_map_or}
 use Rattle.sof_base.specs.declared.format.Params.{Params}
 use Rattle.stream_law.specs.declared.graph.Kind.{Kind}
 use Rattle.stream_law.specs.Ways.{rate_of, channels_of}
-use Rattle.stream_law.specs.Moves.{is_choosy, period, fed_by}
+use Rattle.stream_law.specs.Moves.{skips_idle_inputs, period, fed_by}
 use Rattle.stream_law.specs.Endpoints.{is_input}
 use Rattle.fw_units.specs.declared.component.Component.{Component}
 use Rattle.fw_components.specs.Tables.{view_by}
@@ -29,7 +29,7 @@ pub add_inlets-requires-clause-chooses : goal.add_inlets-requires-clause-chooses
 add_inlets-requires-clause-chooses c =
     let t = c.args.registry.now in let kept = c.comps-comps.ensures.kept in let at = c.args.at in let d = c.index-comps-at.result in
     let is : d ≡ get_or t.comps at d = c.index-comps-at.is ∙ ap (λ (cs : List Component). get_or cs at d) c.comps-comps.ensures.items in
-    c.chooses.ensures ∙ ap (λ (k : Kind). is_choosy k) c.kind_of-kind.ensures ∙ chooses-at t kept at c.requires.there d is
+    c.chooses.ensures ∙ ap (λ (k : Kind). skips_idle_inputs k) c.kind_of-kind.ensures ∙ chooses-at t kept at c.requires.there d is
 
 pub add_inlets-requires-clause-room : goal.add_inlets-requires-clause-room
 add_inlets-requires-clause-room c =

@@ -25,7 +25,7 @@ use Rattle.fw_schedule.proofs.Drained.{least-few, picks, in-some, in-of, drain-m
 use Rattle.fw_schedule.proofs.Growing.{grew-piece}
 use Rattle.fw_schedule.proofs.ticking.drain.Goals as goal
 
--- the bytes of frames and of zeros behind them
+-- the bytes of frames and of zeros after them
 total-few : (n least q m : ℕ) → n ≤ q → least ≤ q → q * m ≤ 61440 → n * m + (least - n) * m ≤ 61440
 total-few n least q m few low most =
     let both : (n + (least - n)) * m ≤ q * m = mul-le-mul_right m (let all : n + (least - n) ≤ q = omega (arith, few, low) in all) in

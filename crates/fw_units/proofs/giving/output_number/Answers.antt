@@ -7,7 +7,7 @@ use Rattle.fw_units.proofs.OutletLaws.{output-here, output-past, output-other}
 use Rattle.fw_units.proofs.giving.output_number.Goals as goal
 use Rattle.fw_units.proofs.giving.output_number.Goals.{then-join-id+else-join-outlet, else-join-id}
 
--- those from this join on are this one and those behind it
+-- those from this join on are this one and those after it
 rest-more : (joins : List Join) (i number id b : ℕ) → i < length joins → output_number joins id b ≡ number + output_number (drop i joins) id b → output_number joins id b ≡ number + output_number (get_or joins i (record { source = 0; sink = 0 }) ∷ drop (i + 1) joins) id b
 rest-more joins i number id b low is = is ∙ ap (λ (js : List Join). number + output_number js id b) (drop_more joins i (record { source = 0; sink = 0 }) low)
 

@@ -2,7 +2,7 @@ use Rattle.std.proofs.Common.{◌≡◌, ◌+◌, ◌≤◌, drop}
 use Rattle.fw_units.specs.Processed.{output_number}
 use Rattle.fw_units.proofs.giving.output_number.Given as goal
 
--- the number is that of those so far, and of the outputs behind them
+-- the number is that of those so far, and of the outputs after them
 abbrev pub invariant-loop-join : goal.invariant-loop-join
 invariant-loop-join l = record {
   within : l.number ≤ l.join-index;

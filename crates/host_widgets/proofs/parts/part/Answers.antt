@@ -12,7 +12,7 @@ use Rattle.host_widgets.proofs.parts.part.Goals.{in-Some, in-None}
 inside : (blob : List ℕ) → is_blob blob ≡ true → (k : ℕ) → k < parts blob → (32 + 260 * k < length blob) × (length blob ≤ 1024)
 inside blob is k low = let b = begins blob is k low in let d = length-drop 32 blob in (omega (arith, b, d), (blob-long blob is).1)
 
--- what is behind it is all that is left
+-- what is after it is all that is left
 behind : (blob : List ℕ) (k rest : ℕ) → rest ≡ length blob - (32 + 260 * k) → rest - min rest 260 ≡ length (payload blob) - 260 * (k + 1)
 behind blob k rest is = let d = length-drop 32 blob in omega (arith, is, d)
 

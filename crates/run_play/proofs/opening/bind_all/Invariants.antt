@@ -7,7 +7,7 @@ use Rattle.run_desk.specs.Bindings.{wrong_behind, bound_inputs, bound_outputs}
 use Rattle.run_play.proofs.Slots.{IsFresh}
 use Rattle.run_play.proofs.opening.bind_all.Given as goal
 
--- the bindings before have their places; those behind are right, and have none of these slots
+-- the bindings before have their places; those after are right, and have none of these slots
 abbrev pub invariant-loop-binding : goal.invariant-loop-binding
 invariant-loop-binding l =
     let before = bounds_of (take l.binding-index l.bindings) in

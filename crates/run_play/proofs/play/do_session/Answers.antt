@@ -14,7 +14,7 @@ use Rattle.run_desk.proofs.Steps.{free_on}
 use Rattle.run_play.proofs.Kept.{can_keep}
 use Rattle.run_play.proofs.play.do_session.Goals as goal
 
--- memory was wanting for the places of the bindings
+-- there was no memory for the places of the bindings
 pub returns-in_default : goal.returns-in_default
 returns-in_default g c =
     wanted_gave g.D.Desk.means g.K.Dsp.means (KeptTurn g.K.Dsp.means g.K.Keeps.holds g.K.Drain.empties) _ _ _ c.args.dsp _ _ c.end_wanting.ensures.same

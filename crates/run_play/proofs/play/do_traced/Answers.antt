@@ -13,7 +13,7 @@ returns-in-Ok g c =
     let name = named_as (λ name. name.now) c.args.form.trace c.requires.some in
     rw (c.into_dsp.ensures, name.1) (traced_gave g.P.Dsp.means g.D.Desk.means name.0 c.args.form.on_use c.requires.at_load c.args.form.heap c.args.ready.plan (script_read c.args.ready.script) _ _ _ _ _ (rw (c.in-Ok.ensures, name.1) at c.do_session-ended.ensures))
 
--- memory was wanting for the records
+-- there was no memory for the records
 pub returns-in-Err : goal.returns-in-Err
 returns-in-Err g c =
     wanted_kept g.D.Desk.means g.P.Dsp.means _ _ _ _ c.args.dsp _ _ (c.end_wanting.ensures.same ∙ c.in-Err.ensures)

@@ -7,7 +7,7 @@ use Rattle.fw_places.specs.WayCharts.{WayChart}
 use Rattle.fw_places.proofs.WayMarks.{way-marked, walks-alone, echoes-listed}
 use Rattle.fw_places.proofs.echoes.Ways.way.Goals as goal
 
--- what is behind the ids is not marked
+-- what is after the ids is not marked
 abbrev Past : List Bool → ℕ → WayChart → Type 0
 Past marks host w = is_among w.ids host ≡ true → get_or marks (length w.ids) false ≡ false
 

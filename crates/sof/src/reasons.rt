@@ -4,11 +4,12 @@ ghost use Rattle.std.specs.Prelude.{◌≤◌, length, IfOk, IfSome};
 use crate::{ROOM, tell};
 use fw_core::Firmware;
 use sof_base::NoMemory;
-use sof_desk::{Desk, LoadFault, OsDesk};
+use sof_desk::{Desk, LoadFault};
 use sof_faults::{
     Misfit, Wave, binding_sentence, misfit_sentence, no_source_sentence, script_sentence,
     source_sentence, topology_sentence, trace_sentence,
 };
+use sof_files::OsDesk;
 use sof_run::{ReplayFault, record_at_fault};
 use sof_script::parse;
 use std::fs;

@@ -12,25 +12,11 @@ use Rattle.sof_desk.specs.Edits.{changed_first}
 use Rattle.sof_desk.specs.OpenSlots.{can_open, with_opened, is_opened}
 use Rattle.sof_desk.specs.Shelf.{Shelf}
 use Rattle.sof_desk.specs.ShelfCalls.{shelf, shelf_does, shelf_with, counted, planned_passes, file_of_slot, ShelfActs, shelf_holds, shelf_uses, shelf_past, shelf_unread, ShelfReads}
-use Rattle.sof_desk.proofs.OpenSlots.{same_number}
+use Rattle.sof_desk.proofs.CountLaws.{same_number, le-one_more, rose-one_more, kept_faults, failed_faults}
 use Rattle.sof_desk.proofs.StillUnread.{left_same, same_loaded-piece, same_loaded-create, is_opened-opened, left-opened, is_opened-read, left-read, gets_front}
 use Rattle.sof_desk.proofs.Pieces.{taken_part}
 use Rattle.sof_desk.proofs.UsesOfNames.{uses_after_piece, creatable, written_after_create, others_after_create, loaded_read}
 use Rattle.sof_desk.proofs.TiedFiles.{loaded_after_piece, other_after_piece, file_after_piece, loaded_after_create, other_after_create, bytes_after_create, tied_after_create}
-
-pub le-one_more : (n : ℕ) → n ≤ one_more n
-le-one_more n = grind arith
-
-pub rose-one_more : (n : ℕ) → CountRose n (one_more n)
-rose-one_more n = grind arith
-
-pub kept_faults : (n : ℕ) (done : Bool) → n ≤ (if done then n else one_more n)
-kept_faults n true = omega arith
-kept_faults n false = le-one_more n
-
-pub failed_faults : (n : ℕ) (done : Bool) → done ≡ false → CountRose n (if done then n else one_more n)
-failed_faults n true is = cc
-failed_faults n false is = rose-one_more n
 
 -- what is said
 acted_say : (s : Shelf) (piece : List ℕ) → let done = shelf_does s (Put Spoken piece) in Acted shelf (Put Spoken piece) done s (counted (shelf_with s (Put Spoken piece)) done)

@@ -1,3 +1,4 @@
+pub mod CountLaws
 pub mod First
 pub mod FoundAfter
 pub mod TiedFiles
@@ -6,10 +7,3 @@ pub mod StillUnread
 pub mod Pieces
 pub mod ActsOfShelf
 pub mod CallSteps
-pub mod KnownTransfers
-pub mod OpenSlots
-pub mod OutFileLaws
-pub mod InFileLaws
-pub mod UsedFiles
-pub mod ActsOfReal
-pub mod LoadsOfReal

@@ -11,7 +11,7 @@ use Rattle.sof_desk.specs.HeldFiles.{HeldFile, named, tied, loaded_of, can_creat
 use Rattle.sof_desk.specs.OpenSlots.{is_under, is_opened, can_open, with_opened, with_read, read_on, read_of, rest_after, left_under}
 use Rattle.sof_desk.proofs.First.{is_first, find-at, find-none, changed_first-at, slice_get-first, find-put_first, find-put_first-beside}
 use Rattle.sof_desk.proofs.FoundAfter.{seen_past, find-changed_first-same, find-changed_first-seen, found_passes}
-use Rattle.sof_desk.proofs.OpenSlots.{same_number}
+use Rattle.sof_desk.proofs.CountLaws.{same_number}
 use Rattle.sof_desk.proofs.TiedFiles.{loaded_by_piece, loaded_by_create, loaded_by_leave}
 
 -- the file at each place is loaded as before

@@ -1,7 +1,6 @@
 pub mod Counts
 pub mod Desk
 pub mod FileUses
-pub mod UsedFiles
 pub mod Edits
 pub mod Room
 pub mod Plans
@@ -9,8 +8,3 @@ pub mod HeldFiles
 pub mod OpenSlots
 pub mod Shelf
 pub mod ShelfCalls
-pub mod OutFiles
-pub mod InFiles
-pub mod RealDesk
-pub mod Transfers
-pub mod Troubles

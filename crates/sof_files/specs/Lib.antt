@@ -1,0 +1,6 @@
+pub mod UsedFiles
+pub mod OutFiles
+pub mod InFiles
+pub mod RealDesk
+pub mod Transfers
+pub mod Troubles

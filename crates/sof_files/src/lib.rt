@@ -1,0 +1,15 @@
+//! The outside of a program over the files and the standard output of a machine: the desk that tells no content, and why a call on
+//! it failed.
+#![tactic(auto)]
+
+mod file_use;
+mod in_file;
+mod os;
+mod out_file;
+mod sink;
+mod transfer;
+mod trouble;
+mod troubles;
+
+pub use os::OsDesk;
+pub use trouble::{Subject, Trouble};

@@ -14,8 +14,8 @@ use Rattle.tplg_build.specs.WidgetForm.{placed, by_token}
 use Rattle.tplg_widgets.specs.Entries.{entries_of, interpreted}
 use Rattle.tplg_widgets.specs.WiringValue.{WiringValue, wiring_of}
 use Rattle.tplg_widgets.specs.GraphLists.{components_on, edges_on}
-use Rattle.tplg_rules.specs.Rules.{item_test, HoldsAll}
-use Rattle.tplg_rules.specs.Cycles.{are_joined, captures_at, EdgeWalk, Reaches}
+use Rattle.tplg_walks.specs.Rules.{item_test, HoldsAll}
+use Rattle.tplg_walks.specs.Cycles.{are_joined, captures_at, EdgeWalk, Reaches}
 use Rattle.tplg_rules.specs.declared.rule_name.RuleName.TheVariants as rule
 use Rattle.tplg_rules.specs.RuleTest.{Test, first_failing, ruled, ruling, rule_names, test_by}
 use Rattle.tplg_rules.specs.WellFormed.{IsWellFormed}

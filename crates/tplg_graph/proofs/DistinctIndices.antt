@@ -10,7 +10,7 @@ use Rattle.tplg_widgets.specs.declared.entry.Entry.{Entry}
 use Rattle.tplg_widgets.specs.Entries.{is_scheduler, interpreted}
 use Rattle.tplg_widgets.specs.Ends.{end_named}
 use Rattle.tplg_graph.specs.PlanLists.{component_end, pipeline_of, pipes_on}
-use Rattle.tplg_rules.specs.Rules.{HoldsAll}
+use Rattle.tplg_walks.specs.Rules.{HoldsAll}
 use Rattle.tplg_rules.specs.RuleTable.{is_of_index, schedules, is_scheduled, indices_rule}
 use Rattle.tplg_widgets.proofs.Indexed.{indexed, by-index}
 use Rattle.tplg_graph.proofs.Interpreted.{of-interpreted}

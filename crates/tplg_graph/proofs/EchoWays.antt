@@ -16,13 +16,13 @@ use Rattle.stream_law.proofs.Walking.{Path, Walks, path-of, leads-same, walk-on,
 use Rattle.tplg_widgets.specs.declared.entry.Entry.{Entry}
 use Rattle.tplg_widgets.specs.Entries.{interpreted}
 use Rattle.tplg_widgets.specs.GraphLists.{edge_at, components_on, edges_on, route_in, route_out}
-use Rattle.tplg_rules.specs.Rules.{HoldsAll}
+use Rattle.tplg_walks.specs.Rules.{HoldsAll}
 use Rattle.tplg_rules.specs.RuleTable.{buffers_rule}
-use Rattle.tplg_rules.specs.Cycles.{are_joined, EdgeWalk, Reaches, ReachesCapture, ways_rule}
-use Rattle.tplg_rules.specs.Echoes as rules
-use Rattle.tplg_rules.specs.Echoes.{plain_edges}
-use Rattle.tplg_rules.proofs.Among.{is_end-some}
-use Rattle.tplg_rules.proofs.Leading.{reaches-from, reaches-to, some-to}
+use Rattle.tplg_walks.specs.Cycles.{are_joined, EdgeWalk, Reaches, ReachesCapture, ways_rule}
+use Rattle.tplg_walks.specs.Echoes as rules
+use Rattle.tplg_walks.specs.Echoes.{plain_edges}
+use Rattle.tplg_walks.proofs.Among.{is_end-some}
+use Rattle.tplg_walks.proofs.Leading.{reaches-from, reaches-to, some-to}
 use Rattle.tplg_graph.proofs.KeyedLists.{all-made}
 use Rattle.tplg_graph.proofs.ByIds.{made_edge, of-edge}
 use Rattle.tplg_graph.proofs.NamedIds.{graph_of, edge-by-id, edge-there}

@@ -18,7 +18,7 @@ use Rattle.tplg_widgets.specs.declared.entry.Entry.{Entry}
 use Rattle.tplg_widgets.specs.declared.tokens.FormatToken.{FormatToken}
 use Rattle.tplg_widgets.specs.Entries.{is_component, interpreted}
 use Rattle.tplg_widgets.specs.GraphLists.{component_kind, is_sink, component_at, components_on, edge_at, edges_on}
-use Rattle.tplg_rules.specs.Rules.{HoldsAll}
+use Rattle.tplg_walks.specs.Rules.{HoldsAll}
 use Rattle.tplg_rules.specs.RuleTable.{ins_of, outs_of, are_routes, are_routes_of, buffers_rule, components_rule}
 use Rattle.tplg_graph.proofs.KeyedLists.{IsKeyed, all-made, all-at, at-all}
 use Rattle.tplg_graph.proofs.ByIds.{OfComponent, made_edge, of-component, of-edge, keyed-edges, at-id, implied}

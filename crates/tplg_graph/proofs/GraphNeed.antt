@@ -24,7 +24,7 @@ use Rattle.stream_law.specs.Sizes.{comp_bytes}
 use Rattle.tplg_plan.specs.HeapNeed.{components_need, edges_need, need_on}
 use Rattle.tplg_graph.specs.TopologyNeed.{stated_size, widget_need}
 use Rattle.tplg_graph.specs.PlanOf.{graph_on}
-use Rattle.tplg_rules.specs.Rules.{HoldsAll}
+use Rattle.tplg_walks.specs.Rules.{HoldsAll}
 use Rattle.tplg_rules.specs.RuleTable.{is_component_end, scheds_rule}
 use Rattle.tplg_widgets.proofs.Indexed.{indexed, by-index}
 use Rattle.tplg_graph.proofs.Interpreted.{of-interpreted, all-interpreted}

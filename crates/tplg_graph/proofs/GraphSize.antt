@@ -6,7 +6,7 @@ use Rattle.tplg_widgets.specs.declared.entry.Entry.{Entry}
 use Rattle.tplg_widgets.specs.declared.pcm_caps.PcmCaps.{PcmCaps}
 use Rattle.tplg_widgets.specs.Entries.{is_buffer_entry, is_component, is_scheduler}
 use Rattle.tplg_graph.specs.PlanLists.{pipeline_of, pipes_on}
-use Rattle.tplg_rules.specs.Rules.{HoldsAll}
+use Rattle.tplg_walks.specs.Rules.{HoldsAll}
 use Rattle.tplg_rules.specs.RuleTable.{counts_rule}
 use Rattle.tplg_graph.specs.PlanOf.{graph_on}
 use Rattle.tplg_plan.specs.HeapNeed.{IsSmall}

@@ -6,7 +6,7 @@ use Rattle.stream_law.specs.declared.graph.Edge.{Edge}
 use Rattle.stream_law.specs.declared.graph.Graph.{Graph}
 use Rattle.stream_law.specs.Ways.{is_end}
 use Rattle.stream_law.specs.Walks as law
-use Rattle.tplg_rules.specs.Cycles.{are_joined, EdgeWalk}
+use Rattle.tplg_walks.specs.Cycles.{are_joined, EdgeWalk}
 
 end_at : (o : Option ℕ) (c : ℕ) → o ≡ Some c → is_end o c ≡ true
 end_at o c e = ap (λ x. is_end x c) e ∙ eq-eqb c c refl

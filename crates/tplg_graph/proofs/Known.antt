@@ -8,8 +8,8 @@ use Rattle.stream_law.specs.declared.graph.Edge.{Edge}
 use Rattle.stream_law.specs.declared.graph.Graph.{Graph}
 use Rattle.stream_law.specs.Ways.{is_end, components, source_of, sink_of}
 use Rattle.stream_law.specs.Order.{is_among}
-use Rattle.tplg_rules.specs.Cycles.{are_joined}
-use Rattle.tplg_rules.proofs.Among.{is_end-some}
+use Rattle.tplg_walks.specs.Cycles.{are_joined}
+use Rattle.tplg_walks.proofs.Among.{is_end-some}
 
 abbrev pub ids_of : List Comp → List ℕ
 ids_of comps = map (λ c. c.id) comps

@@ -17,7 +17,7 @@ use Rattle.tplg_widgets.specs.Ends.{end_named}
 use Rattle.tplg_widgets.specs.GraphLists.{component_at, components_on, edge_at, edges_on}
 use Rattle.tplg_graph.specs.PlanLists.{component_end, pipeline_of}
 use Rattle.tplg_graph.specs.PlanOf.{graph_on}
-use Rattle.tplg_rules.specs.Rules.{HoldsAll}
+use Rattle.tplg_walks.specs.Rules.{HoldsAll}
 use Rattle.tplg_rules.specs.RuleTable.{is_of_index, schedules, is_scheduled, is_component_end, indices_rule, scheds_rule}
 use Rattle.tplg_graph.proofs.ByIds.{of-component, of-edge, implied}
 use Rattle.tplg_widgets.proofs.Indexed.{indexed, by-index}

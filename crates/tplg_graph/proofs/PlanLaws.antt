@@ -10,7 +10,7 @@ use Rattle.tplg_widgets.specs.Ends.{joins_of}
 use Rattle.tplg_graph.specs.PlanOf.{plan_of}
 use Rattle.tplg_plan.specs.HeapNeed.{IsSmall, need_on}
 use Rattle.tplg_graph.specs.TopologyNeed.{need_of}
-use Rattle.tplg_rules.specs.Cycles.{Reaches}
+use Rattle.tplg_walks.specs.Cycles.{Reaches}
 use Rattle.tplg_graph.specs.Orderable.{IsOrderable, IsAcyclic}
 use Rattle.tplg_rules.specs.WellFormed.{IsWellFormed}
 use Rattle.tplg_graph.proofs.GraphSize.{small}

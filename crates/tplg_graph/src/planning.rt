@@ -5,7 +5,7 @@ ghost use Rattle.tplg_plan.specs.Sound.{IsSound};
 ghost use Rattle.tplg_plan.specs.WidgetWords.{FitsWords};
 ghost use Rattle.tplg_widgets.specs.Entries.{entries_of};
 ghost use Rattle.tplg_widgets.specs.Ends.{ends_in};
-ghost use Rattle.tplg_rules.specs.Rules.{AllHold};
+ghost use Rattle.tplg_walks.specs.Rules.{AllHold};
 ghost use Rattle.tplg_rules.specs.WellFormed as rules;
 ghost use Rattle.tplg_rules.specs.RuleFaults as rule_faults;
 ghost use Rattle.tplg_graph.specs.Orderable.{IsOrderable, IsAcyclic};

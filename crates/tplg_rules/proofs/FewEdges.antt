@@ -6,7 +6,7 @@ use Rattle.tplg_widgets.specs.declared.entry.Entry.{Entry}
 use Rattle.tplg_widgets.specs.declared.pcm_caps.PcmCaps.{PcmCaps}
 use Rattle.tplg_widgets.specs.Entries.{is_buffer_entry}
 use Rattle.tplg_widgets.specs.GraphLists.{edges_on}
-use Rattle.tplg_rules.specs.Rules.{AllHold}
+use Rattle.tplg_walks.specs.Rules.{AllHold}
 use Rattle.tplg_rules.specs.RuleTable.{counts_rule}
 use Rattle.tplg_widgets.proofs.ListLengths.{length-edges}
 

@@ -1,9 +1,6 @@
 pub mod RuleLaws
 pub mod Places
-pub mod Among
-pub mod Reached
 pub mod RuleFaults
 pub mod FewEdges
-pub mod Leading
 pub mod RuleTests
 pub mod RuleTellings

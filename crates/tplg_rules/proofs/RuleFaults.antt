@@ -2,8 +2,8 @@
 use Rattle.std.proofs.Common.{◌≡◌, refl, sym, subst, ℕ, List, [], ◌∷◌, ◌++◌, Option, Some, None, Result, Ok, Err, OnOk, IfErr, IsOk, MatchOption, inl, inr}
 use Rattle.tplg_rules.specs.declared.plan_fault.PlanFault.{PlanFault}
 use Rattle.tplg_rules.specs.declared.plan_fault.PlanFault.TheVariants as fault
-use Rattle.tplg_rules.specs.Rules.{Rule, AllHold, BreaksOf}
-use Rattle.tplg_rules.specs.FirstFailing.{IsFirstFailing}
+use Rattle.tplg_walks.specs.Rules.{Rule, AllHold, BreaksOf}
+use Rattle.tplg_walks.specs.FirstFailing.{IsFirstFailing}
 use Rattle.tplg_rules.specs.RuleFaults.{IsFaultOf}
 
 pub told-ok : (r : Rule) (o : Option ℕ) (result : Result (Unit {0}) PlanFault) → IsFirstFailing r o → MatchOption o (IsOk result) (λ i. result ≡ Err (fault.Rule r.number i)) → OnOk result (AllHold (r ∷ []))

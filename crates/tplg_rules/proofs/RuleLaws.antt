@@ -2,8 +2,8 @@
 use Rattle.std.proofs.Common.{is_some, ◌↔◌, ◌≡◌, refl, sym, ap, ◌∙◌, ℕ, zero, suc, ◌+◌, ◌<◌, ◌≤◌, List, [], ◌∷◌, Bool, true, false, cond, not, Option, Some, None, ◌⊎◌, inl, inr, arith}
 use Rattle.std.specs.List.{find, range_with_len}
 use Rattle.std.proofs.lemmas.Bool.{true≢false, cases_order}
-use Rattle.tplg_rules.specs.Rules.{Rule, item_test, HoldsAll, FailsFirst, AllHold, BreaksOf}
-use Rattle.tplg_rules.specs.FirstFailing.{IsFirstFailing}
+use Rattle.tplg_walks.specs.Rules.{Rule, item_test, HoldsAll, FailsFirst, AllHold, BreaksOf}
+use Rattle.tplg_walks.specs.FirstFailing.{IsFirstFailing}
 
 -- where all rules hold, none is broken
 pub none_breaks : (rs : List Rule) (number item : ℕ) → AllHold rs → BreaksOf rs number item → ⊥

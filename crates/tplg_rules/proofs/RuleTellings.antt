@@ -2,8 +2,8 @@
 use Rattle.std.proofs.Common.{◌≡◌, refl, ℕ, List, Result, Ok, Err, OnOk, IfErr, inl, inr}
 use Rattle.tplg_rules.specs.declared.plan_fault.PlanFault.{PlanFault}
 use Rattle.tplg_rules.specs.declared.plan_fault.PlanFault.TheVariants as fault
-use Rattle.tplg_rules.specs.Rules.{AllHold, BreaksOf}
-use Rattle.tplg_rules.specs.Rules.{Rule as A_rule}
+use Rattle.tplg_walks.specs.Rules.{AllHold, BreaksOf}
+use Rattle.tplg_walks.specs.Rules.{Rule as A_rule}
 use Rattle.tplg_rules.specs.RuleFaults.{IsFaultOf, Tells}
 use Rattle.tplg_rules.proofs.RuleLaws.{none_breaks, one_breaks}
 

@@ -10,14 +10,14 @@ use Rattle.tplg_widgets.specs.PcmList.{pcms_of}
 use Rattle.tplg_widgets.specs.GraphLists.{components_on, edges_on}
 use Rattle.tplg_widgets.specs.Ends.{joins_of}
 use Rattle.tplg_widgets.specs.WiringValue.{WiringValue, wiring_of}
-use Rattle.tplg_rules.specs.Rules.{Rule, item_test, AllHold, BreaksOf}
-use Rattle.tplg_rules.specs.FirstFailing.{IsFirstFailing}
-use Rattle.tplg_rules.specs.Cycles.{Reaches, ReachesCapture, plays_at, cycles_rule, captures_rule}
+use Rattle.tplg_walks.specs.Rules.{Rule, item_test, AllHold, BreaksOf}
+use Rattle.tplg_walks.specs.FirstFailing.{IsFirstFailing}
+use Rattle.tplg_walks.specs.Cycles.{Reaches, ReachesCapture, plays_at, cycles_rule, captures_rule}
 use Rattle.tplg_rules.specs.WellFormed.{IsWellFormed, Breaks, rules_on}
-use Rattle.tplg_rules.specs.Echoes.{reaches, plain_edges}
+use Rattle.tplg_walks.specs.Echoes.{reaches, plain_edges}
 use Rattle.tplg_rules.specs.RuleTest.{leads_to_capture, Test, first_failing, ruled, ruling, tests_on, ruling_of}
 use Rattle.tplg_rules.proofs.RuleLaws.{none_breaks, one_breaks, first-found}
-use Rattle.tplg_rules.proofs.Leading.{reaches-from, reaches-to, capture-reached, reached-capture}
+use Rattle.tplg_walks.proofs.Leading.{reaches-from, reaches-to, capture-reached, reached-capture}
 
 -- a test says at each item what a rule says there
 pub record Same (r : Rule) (x : Test) : Type 0 where

@@ -1,10 +1,5 @@
 pub mod ControlRanges
-pub mod Rules
-pub mod FirstFailing
 pub mod RuleTable
-pub mod Cycles
-pub mod Echoes
-pub mod Reach
 pub mod WellFormed
 pub mod RuleFaults
 pub mod RuleTest

@@ -3,7 +3,7 @@ use Rattle.std.specs.Prelude.{◌≡◌, ℕ, List, ◌⊎◌, Result, Ok, Err}
 use Rattle.tplg_rules.specs.declared.plan_fault.PlanFault.{PlanFault}
 use Rattle.tplg_rules.specs.declared.plan_fault.PlanFault.TheVariants as fault
 use Rattle.tplg_widgets.specs.Entries.{interpreted}
-use Rattle.tplg_rules.specs.Rules.{BreaksOf, Rule as A_rule}
+use Rattle.tplg_walks.specs.Rules.{BreaksOf, Rule as A_rule}
 use Rattle.tplg_widgets.specs.WiringValue.{WiringValue}
 use Rattle.tplg_rules.specs.WellFormed.{way_rules, middle_rules}
 

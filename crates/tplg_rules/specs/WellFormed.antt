@@ -9,10 +9,10 @@ use Rattle.tplg_widgets.specs.declared.pcm_caps.PcmCaps.{PcmCaps}
 use Rattle.tplg_widgets.specs.declared.route_end.Ends.{Ends}
 use Rattle.tplg_widgets.specs.Entries.{interpreted}
 use Rattle.tplg_widgets.specs.GraphLists.{components_on, edges_on}
-use Rattle.tplg_rules.specs.Rules.{AllHold, BreaksOf}
-use Rattle.tplg_rules.specs.Rules.{Rule as A_rule}
+use Rattle.tplg_walks.specs.Rules.{AllHold, BreaksOf}
+use Rattle.tplg_walks.specs.Rules.{Rule as A_rule}
 use Rattle.tplg_rules.specs.RuleTable.{counts_rule, names_rule, ends_rule, routes_rule, buffers_rule, components_rule, indices_rule, scheds_rule, periods_rule, dais_rule, hosts_rule, sizes_rule, controls_rule}
-use Rattle.tplg_rules.specs.Cycles.{cycles_rule, ways_rule}
+use Rattle.tplg_walks.specs.Cycles.{cycles_rule, ways_rule}
 use Rattle.tplg_widgets.specs.WiringValue.{WiringValue, wiring_of}
 
 -- rules 2 to 4, over the widgets and the ends of routes

@@ -3,7 +3,7 @@ ghost use Rattle.std.specs.Prelude.{◌≡◌, ◌<◌, ◌^◌, ℕ, [], ◌∷
 ghost use Rattle.tplg_widgets.specs.Entries.{interpreted, entries_of};
 ghost use Rattle.tplg_widgets.specs.Ends.{ends_in};
 ghost use Rattle.tplg_widgets.specs.GraphLists.{components_on, edges_on};
-ghost use Rattle.tplg_rules.specs.Rules.{AllHold};
+ghost use Rattle.tplg_walks.specs.Rules.{AllHold};
 ghost use Rattle.tplg_rules.specs.RuleTable.{counts_rule};
 ghost use Rattle.tplg_rules.specs.WellFormed as rules;
 ghost use Rattle.tplg_rules.specs.RuleFaults as rule_faults;

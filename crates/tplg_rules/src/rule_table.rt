@@ -2,7 +2,7 @@
 ghost use Rattle.std.specs.Prelude.{◌≡◌, ◌↔◌, [], ◌∷◌, not, true, find, OnOk, IfErr};
 ghost use Rattle.std.specs.List.{range_with_len};
 ghost use Rattle.tplg_widgets.specs.Entries.{interpreted};
-ghost use Rattle.tplg_rules.specs.Rules.{AllHold, HoldsAll};
+ghost use Rattle.tplg_walks.specs.Rules.{AllHold, HoldsAll};
 ghost use Rattle.tplg_rules.specs.RuleTest as law;
 ghost use Rattle.tplg_rules.specs.RuleTable.{counts_rule};
 ghost use Rattle.tplg_rules.specs.WellFormed as groups;

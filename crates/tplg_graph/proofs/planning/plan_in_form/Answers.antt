@@ -1,6 +1,6 @@
 use Rattle.std.proofs.Common.{subst, OnOk, IfErr}
 use Rattle.tplg_widgets.specs.WiringValue.{WiringValue}
-use Rattle.tplg_rules.specs.Rules.{AllHold}
+use Rattle.tplg_walks.specs.Rules.{AllHold}
 use Rattle.tplg_rules.specs.WellFormed.{rules_by}
 use Rattle.tplg_rules.specs.RuleFaults.{IsFaultOf}
 use Rattle.tplg_graph.proofs.planning.plan_in_form.Goals as goal

@@ -2,7 +2,7 @@ use Rattle.std.proofs.Common.{ap, ◌∙◌, List, subst, OnOk, IfErr}
 use Rattle.stream_law.specs.declared.graph.Join.{Join}
 use Rattle.tplg_widgets.specs.EntryValue.{EntryValue}
 use Rattle.tplg_widgets.specs.Entries.{interpreted}
-use Rattle.tplg_rules.specs.Rules.{AllHold}
+use Rattle.tplg_walks.specs.Rules.{AllHold}
 use Rattle.tplg_rules.specs.WellFormed.{way_rules}
 use Rattle.tplg_rules.specs.RuleFaults.{IsFaultOf}
 use Rattle.tplg_rules.proofs.checking.check_counted.Goals as goal

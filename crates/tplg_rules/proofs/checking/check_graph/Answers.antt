@@ -1,7 +1,7 @@
 use Rattle.std.proofs.Common.{List, subst, length, ap, OnOk, IfErr, arith}
 use Rattle.stream_law.specs.declared.graph.Comp.{Comp}
 use Rattle.stream_law.specs.declared.graph.Edge.{Edge}
-use Rattle.tplg_rules.specs.Rules.{AllHold}
+use Rattle.tplg_walks.specs.Rules.{AllHold}
 use Rattle.tplg_rules.specs.WellFormed.{walk_rules}
 use Rattle.tplg_rules.specs.RuleFaults.{IsFaultOf}
 use Rattle.tplg_rules.proofs.FewEdges.{few-edges}

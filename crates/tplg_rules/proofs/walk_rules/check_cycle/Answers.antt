@@ -1,4 +1,4 @@
-use Rattle.tplg_rules.specs.Cycles.{cycles_rule}
+use Rattle.tplg_walks.specs.Cycles.{cycles_rule}
 use Rattle.tplg_rules.proofs.RuleFaults.{told-ok, told-err}
 use Rattle.tplg_rules.proofs.walk_rules.check_cycle.Goals as goal
 

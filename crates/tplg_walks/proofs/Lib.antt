@@ -1,0 +1,3 @@
+pub mod Among
+pub mod Reached
+pub mod Leading

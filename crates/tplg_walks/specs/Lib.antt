@@ -1,0 +1,5 @@
+pub mod Rules
+pub mod FirstFailing
+pub mod Cycles
+pub mod Echoes
+pub mod Reach

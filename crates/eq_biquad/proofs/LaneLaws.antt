@@ -9,7 +9,7 @@ use Rattle.sof_base.proofs.SampleLaws.{map-range_same}
 use Rattle.stream_law.specs.Equaliser.{sections_of, passed_frames, numbers_after}
 use Rattle.eq_biquad.specs.Lanes.{lane}
 use Rattle.eq_biquad.specs.Passing.{passed_samples, numbers_passed, in_turn}
-use Rattle.eq_biquad.proofs.Cases.{by_less}
+use Rattle.eq_blob.proofs.Cases.{by_less}
 use Rattle.eq_biquad.proofs.PassLaws.{HasNumbers, channel_of, after, frames-numbers, frames-sample, length-frames, are-frames}
 
 pub length-lane : (c k n : ℕ) (xs : List ℤ) → length (lane c k n xs) ≡ n

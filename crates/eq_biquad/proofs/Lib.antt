@@ -1,8 +1,5 @@
 pub mod ArithLaws
-pub mod ByteLaws
-pub mod Cases
 pub mod LaneLaws
-pub mod Lookups
 pub mod NearLaws
 pub mod NumberLaws
 pub mod PairLaws

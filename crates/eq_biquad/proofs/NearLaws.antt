@@ -8,7 +8,7 @@ use Rattle.std.proofs.Math.Facts.{to_z-neg}
 use Rattle.std.proofs.Math.Nat.{mod-eq_of_lt, mod-lt}
 use Rattle.sof_base.specs.Samples.{sat}
 use Rattle.eq_biquad.proofs.ArithLaws.{shr-is, shr-low, abs-below, abs-times, abs-sum, same-128, fits-128}
-use Rattle.eq_biquad.proofs.Cases.{by_less}
+use Rattle.eq_blob.proofs.Cases.{by_less}
 
 -- a number that fits is held as it is
 pub sat-fits : (z : ℤ) → FitsSigned w32 z → sat 32 z ≡ z

@@ -6,7 +6,7 @@ use Rattle.stream_law.specs.Equaliser.{sections_of}
 use Rattle.stream_law.specs.Seen.{fresh_from}
 use Rattle.eq_biquad.specs.PieceWords.{wide_number, wide_at, numbers_at, AreNumbers}
 use Rattle.eq_biquad.specs.Passing.{in_turn, channel_numbers}
-use Rattle.eq_biquad.proofs.Cases.{by_less}
+use Rattle.eq_blob.proofs.Cases.{by_less}
 use Rattle.eq_biquad.proofs.PassLaws.{HasNumbers}
 
 pub wide-same : (xs ys : List ℤ) (p : ℕ) → ((i : ℕ) → p ≤ i → i < p + 4 → sample_of xs i ≡ sample_of ys i) → wide_at xs p ≡ wide_at ys p

@@ -10,7 +10,7 @@ use Rattle.std.proofs.lemmas.Int.{ints, to_z-of_z, of_z-to_z, to_z_pos, int_wrap
 use mir.Syntax.{Width}
 use Rattle.eq_biquad.specs.Pairs.{left_number, right_number, BothAre, inner_of_sum}
 use Rattle.eq_biquad.proofs.ArithLaws.{abs-below, abs-times, shr-low}
-use Rattle.eq_biquad.proofs.Cases.{by_less}
+use Rattle.eq_blob.proofs.Cases.{by_less}
 
 -- ---- sums of 64 bits that wrap
 

@@ -9,7 +9,7 @@ use Rattle.stream_law.specs.Equaliser.{next_inner, passed_sections}
 use Rattle.eq_biquad.specs.Pairs.{left_number, right_number, BothAre, inner_of_sum, HasRoomToRound}
 use Rattle.eq_biquad.specs.declared.stages.NearPair.{NearPair}
 use Rattle.eq_biquad.specs.PairForms.{FitsBeside, HasUnitGain, IsNear, AreNear, GoesThrough, left_numbers, right_numbers}
-use Rattle.eq_biquad.specs.Sections.{IsNarrow}
+use Rattle.eq_biquad.specs.NarrowSections.{IsNarrow}
 use Rattle.eq_biquad.proofs.ArithLaws.{shr-is, shr-low, abs-sum}
 use Rattle.eq_biquad.proofs.NearLaws.{sat-fits, fits}
 use Rattle.eq_biquad.proofs.PairLaws.{known-again, product-low}

@@ -10,7 +10,7 @@ use Rattle.eq_biquad.specs.Passing.{passed_samples, numbers_passed}
 use Rattle.eq_biquad.specs.Stretches.{OnlyChannels}
 use Rattle.eq_biquad.proofs.PassLaws.{numbers_passed-more, get-passed, length-passed}
 use Rattle.eq_biquad.proofs.LaneLaws.{length-lane, get-lane, other-place, other-frame}
-use Rattle.eq_biquad.proofs.Cases.{by_less}
+use Rattle.eq_blob.proofs.Cases.{by_less}
 
 -- one channel after j of n frames, whatever the others are
 pub record Runs (ss : List Section) (ns : List ℤ) (c k n : ℕ) (old now : List ℤ) (numbers : List ℤ) (j : ℕ) : Type 0 where

@@ -11,7 +11,7 @@ use Rattle.eq_biquad.specs.Passing.{passed_samples, numbers_passed, in_turn, cha
 use Rattle.eq_biquad.specs.Stretches.{LaneGoes, OnlyChannels}
 use Rattle.eq_biquad.proofs.PassLaws.{numbers_passed-more, get-passed, length-passed}
 use Rattle.eq_biquad.proofs.LaneLaws.{length-lane, get-lane, same-lane, place-within, other-place, other-frame, passed-whole, numbers-whole}
-use Rattle.eq_biquad.proofs.Cases.{by_less}
+use Rattle.eq_blob.proofs.Cases.{by_less}
 use Rattle.eq_biquad.proofs.NumberLaws.{numbers_at-same, has-numbers}
 
 -- ---- a section, after j of n frames

@@ -7,11 +7,11 @@ use Rattle.stream_law.specs.Equaliser.{next_inner, Passed, passed_sections}
 use Rattle.eq_biquad.specs.Lanes.{lane}
 use Rattle.eq_biquad.specs.Passing.{passed_samples, numbers_passed}
 use Rattle.eq_biquad.specs.PieceWords.{wide_at, numbers_at, AreNumbers}
-use Rattle.eq_biquad.specs.declared.section.Found.{Found}
-use Rattle.eq_biquad.specs.Sections.{sections_in, AreWithin}
+use Rattle.eq_blob.specs.declared.section.Found.{Found}
+use Rattle.eq_blob.specs.Sections.{sections_in, AreWithin}
 use Rattle.eq_biquad.specs.Stretches.{LaneGoes, IsElsewhere, OnlyChannel, OnlyChannels}
 use Rattle.eq_biquad.proofs.LaneLaws.{same-lane}
-use Rattle.eq_biquad.proofs.Lookups.{length-sections}
+use Rattle.eq_blob.proofs.Lookups.{length-sections}
 use Rattle.eq_biquad.proofs.NumberLaws.{numbers_at-same, length-numbers_at}
 use Rattle.eq_biquad.proofs.PassLaws.{passed-none, numbers-none, length-numbers}
 

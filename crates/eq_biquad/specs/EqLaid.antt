@@ -2,7 +2,8 @@
 use Rattle.std.specs.Prelude.{◌≡◌, ◌<◌, ◌≤◌, length, take, drop}
 use Rattle.sof_base.specs.BlobParts.{IsBlob}
 use Rattle.eq_biquad.specs.declared.equaliser.Eq.TheInside.{Inside}
-use Rattle.eq_biquad.specs.PieceWords.{bytes_of_words, words_from, AreNumbers}
+use Rattle.eq_blob.specs.WordBytes.{bytes_of_words}
+use Rattle.eq_biquad.specs.PieceWords.{words_from, AreNumbers}
 use Rattle.eq_biquad.specs.EqState.{EqState}
 
 -- the blob stands in the bytes from byte 64 of the piece on

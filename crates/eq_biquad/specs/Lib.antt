@@ -1,11 +1,10 @@
 pub mod EpochLaws
 pub mod EqLaid
 pub mod EqState
-pub mod Faults
 pub mod Lanes
+pub mod NarrowSections
 pub mod PairForms
 pub mod Pairs
 pub mod Passing
 pub mod PieceWords
-pub mod Sections
 pub mod Stretches

@@ -11,7 +11,7 @@ use Rattle.eq_biquad.specs.declared.stages.NearPair.{NearPair}
 use Rattle.eq_biquad.specs.Lanes.{lane}
 use Rattle.eq_biquad.specs.Pairs.{left_number, right_number, BothAre}
 use Rattle.eq_biquad.specs.Passing.{passed_samples, numbers_passed}
-use Rattle.eq_biquad.specs.Sections.{law_section}
+use Rattle.eq_blob.specs.Sections.{law_section}
 use Rattle.eq_biquad.specs.Stretches.{OnlyChannels}
 
 -- ---- sections

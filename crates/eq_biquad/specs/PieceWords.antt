@@ -1,20 +1,11 @@
--- How an equaliser's piece keeps bytes and numbers in its words.
+-- How an equaliser's piece keeps numbers in its words.
 use Rattle.std.specs.Prelude.{ℕ, zero, suc, ◌+◌, ◌*◌, ◌^◌, ◌<◌, ◌≤◌, List, [], ◌∷◌, take, drop, ℤ, pos, ◌+ℤ◌, ◌*ℤ◌, nat_abs}
-use Rattle.std.specs.Int.{w32, cast_unsigned}
-use Rattle.sof_base.specs.declared.format.Format.TheVariants.{S32}
-use Rattle.sof_base.specs.Samples.{sample_of, frame_out}
-
--- the bytes of words, four for each, the low one first
-abbrev pub bytes_of_words : List ℤ → List ℕ
-bytes_of_words words = frame_out S32 words
+use Rattle.sof_base.specs.Samples.{sample_of}
+use Rattle.eq_blob.specs.WordBytes.{bits_at}
 
 -- n words from a place on
 abbrev pub words_from : ℕ → ℕ → List ℤ → List ℤ
 words_from place n words = take n (drop place words)
-
--- a word as 32 bits
-abbrev pub bits_at : List ℤ → ℕ → ℕ
-bits_at words i = cast_unsigned w32 (sample_of words i)
 
 -- a number, and 32 bits below it
 abbrev pub wide_number : ℤ → ℕ → ℤ

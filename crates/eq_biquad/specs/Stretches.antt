@@ -3,11 +3,11 @@ use Rattle.std.specs.Prelude.{◌≡◌, ◌≢◌, ℕ, ◌+◌, ◌*◌, ◌<�
 use Rattle.sof_base.specs.Equations as law
 use Rattle.sof_base.specs.Samples.{sample_of}
 use Rattle.eq_biquad.specs.declared.lane.Lane.{Lane}
-use Rattle.eq_biquad.specs.declared.section.Stretch.{Stretch}
+use Rattle.eq_biquad.specs.declared.stretch.Stretch.{Stretch}
 use Rattle.eq_biquad.specs.Lanes.{lane}
 use Rattle.eq_biquad.specs.PieceWords.{numbers_at}
 use Rattle.eq_biquad.specs.Passing.{passed_samples, numbers_passed}
-use Rattle.eq_biquad.specs.Sections.{sections_in}
+use Rattle.eq_blob.specs.Sections.{sections_in}
 
 -- the sections of a stretch
 abbrev pub sections_at : List ℕ → Stretch → List law.Section

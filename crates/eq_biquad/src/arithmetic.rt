@@ -4,11 +4,12 @@ ghost use Rattle.std.specs.Int.{w32};
 ghost use Rattle.sof_base.specs.Samples.{sat, rounded};
 ghost use Rattle.sof_base.specs.Blob.{is_shift};
 ghost use Rattle.stream_law.specs.Equaliser.{next_inner};
-ghost use Rattle.eq_biquad.specs.Sections.{law_section, IsNarrow};
+ghost use Rattle.eq_blob.specs.Sections.{law_section};
+ghost use Rattle.eq_biquad.specs.NarrowSections.{IsNarrow};
 ghost use Rattle.eq_biquad.specs.PairForms.{FitsBeside, HasUnitGain};
 
 use crate::numbers::{Near, Numbers};
-use crate::section::Section;
+use eq_blob::Section;
 use sof_base::{Sample, sat32};
 
 /// The product of two numbers of 32 bits.

@@ -3,13 +3,14 @@ ghost use Rattle.std.specs.Prelude.{◌≡◌, ℕ, [], ◌+◌, ◌/◌, ◌%�
 ghost use Rattle.sof_base.specs.BlobParts.{IsBlob};
 ghost use Rattle.stream_law.specs.Equaliser.{passed_frames, numbers_after};
 ghost use Rattle.stream_law.specs.Seen.{fresh_numbers};
-ghost use Rattle.eq_biquad.specs.PieceWords.{bytes_of_words, words_from, AreNumbers};
+ghost use Rattle.eq_blob.specs.WordBytes.{bytes_of_words};
+ghost use Rattle.eq_biquad.specs.PieceWords.{words_from, AreNumbers};
 ghost use Rattle.eq_biquad.specs.EqState.{staged_of, numbers_of, OnlyNumbers};
 ghost use Rattle.sof_base.specs.FrameLists.{frames_of, samples_of};
 ghost use Rattle.eq_biquad.specs.Passing.{in_turn, channel_numbers};
 
-use crate::bytes::{copy_out, put_bytes};
 use crate::passing::pass_channels;
+use eq_blob::{copy_out, put_bytes};
 use fw_heap::Piece;
 use sof_base::Sample;
 use std::marker::Model;

@@ -4,12 +4,13 @@ ghost use Rattle.sof_base.specs.Samples.{sample_of};
 ghost use Rattle.sof_base.specs.Blob as form;
 ghost use Rattle.eq_biquad.specs.Lanes.{lane};
 ghost use Rattle.eq_biquad.specs.Passing.{passed_samples, numbers_passed};
-ghost use Rattle.eq_biquad.specs.Sections.{law_section, IsNarrow};
+ghost use Rattle.eq_blob.specs.Sections.{law_section};
+ghost use Rattle.eq_biquad.specs.NarrowSections.{IsNarrow};
 
 use crate::arithmetic::{bits_of, inner, inner_near, is_narrow, next_near, products, scaled};
 use crate::lane::Lane;
 use crate::numbers::{Near, Numbers};
-use crate::section::Section;
+use eq_blob::Section;
 use sof_base::Sample;
 
 /// Passes one channel through a section with these numbers. Those after the last frame come back.

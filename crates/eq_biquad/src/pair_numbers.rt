@@ -3,7 +3,7 @@ ghost use Rattle.std.specs.Prelude.{◌≡◌, ℕ, [], ◌∷◌, ◌+◌, ◌-
 ghost use Rattle.sof_base.specs.Blob as form;
 ghost use Rattle.sof_base.specs.Samples.{sample_of};
 ghost use Rattle.eq_biquad.specs.PieceWords.{numbers_at, AreNumbers};
-ghost use Rattle.eq_biquad.specs.Sections.{law_section};
+ghost use Rattle.eq_blob.specs.Sections.{law_section};
 ghost use Rattle.eq_biquad.specs.Stretches.{IsElsewhere};
 ghost use Rattle.eq_biquad.specs.Pairs.{left_number, right_number};
 ghost use Rattle.eq_biquad.specs.PairForms.{FitsBeside, AreBeside, ArePartsOf, AreNear, AreNearSeries, left_first, right_first, left_numbers, right_numbers, left_series, right_series};
@@ -11,9 +11,9 @@ ghost use Rattle.eq_biquad.specs.PairForms.{FitsBeside, AreBeside, ArePartsOf, A
 use crate::arithmetic::fits_beside;
 use crate::numbers::{Numbers, numbers_in, put_numbers};
 use crate::pair_arithmetic::{wide_both, wide_parts};
-use crate::section::Section;
 use crate::side_by_side::{NearSeries, Series};
 use crate::stages::NearPair;
+use eq_blob::Section;
 
 /// The parts of the numbers of two sections of each of two channels, where 64 bits hold all that comes of them. Those of the left
 /// channel stand from a slot on, those of the right one eight slots after.

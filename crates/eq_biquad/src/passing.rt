@@ -4,18 +4,19 @@ ghost use Rattle.sof_base.specs.Samples.{sample_of};
 ghost use Rattle.sof_base.specs.FrameLists.{frames_of, samples_of};
 ghost use Rattle.sof_base.specs.BlobParts as blob_parts;
 ghost use Rattle.stream_law.specs.Equaliser.{sections_of, passed_frames, numbers_after};
-ghost use Rattle.eq_biquad.specs.PieceWords.{bytes_of_words, AreNumbers};
+ghost use Rattle.eq_blob.specs.WordBytes.{bytes_of_words};
+ghost use Rattle.eq_biquad.specs.PieceWords.{AreNumbers};
 ghost use Rattle.eq_biquad.specs.Passing.{in_turn, channel_numbers};
-ghost use Rattle.eq_biquad.specs.Sections.{sections_in, AreWithin};
+ghost use Rattle.eq_blob.specs.Sections.{sections_in, AreWithin};
 ghost use Rattle.eq_biquad.specs.Stretches.{LaneGoes, StretchGoes, IsElsewhere, OnlyChannel, OnlyChannels};
 
 use crate::lane::Lane;
-use crate::lookup::find_sections;
 use crate::numbers::{numbers_in, put_numbers};
 use crate::one_section::pass_section;
 use crate::pair_numbers::{near_series, put_series};
-use crate::section::{Found, Stretch, section_at};
 use crate::side_by_side::{pass_both, series_at};
+use crate::stretch::Stretch;
+use eq_blob::{Found, find_sections, section_at};
 use sof_base::Sample;
 
 /// Passes frames through the sections of their channels. A channel without sections passes unchanged.

@@ -3,16 +3,16 @@ ghost use Rattle.std.specs.Prelude.{◌≡◌, ◌≢◌, ℕ, [], ◌∷◌, �
 ghost use Rattle.std.specs.Int.{w32};
 ghost use Rattle.sof_base.specs.Blob as form;
 ghost use Rattle.sof_base.specs.Samples.{sample_of};
-ghost use Rattle.eq_biquad.specs.PieceWords.{bytes_of_words};
-ghost use Rattle.eq_biquad.specs.Sections.{law_section, sections_in};
+ghost use Rattle.eq_blob.specs.WordBytes.{bytes_of_words};
+ghost use Rattle.eq_blob.specs.Sections.{law_section, sections_in};
 ghost use Rattle.eq_biquad.specs.Pairs.{left_number, right_number, BothAre};
 ghost use Rattle.eq_biquad.specs.PairForms.{HaveUnitGains, AreBeside, AreNearSeries, BothGo, GoesThrough, series_of, left_series, right_series};
 
 use crate::arithmetic::has_unit_gain;
 use crate::lane::Lane;
 use crate::pair_arithmetic::{both, parts};
-use crate::section::{Section, section_at};
 use crate::stages::{NearPair, stage};
+use eq_blob::{Section, section_at};
 use sof_base::Sample;
 use std::simd::prelude::*;
 

@@ -4,13 +4,13 @@ ghost use Rattle.std.specs.Int.{w32, w64};
 ghost use Rattle.sof_base.specs.Blob as form;
 ghost use Rattle.sof_base.specs.Equations.{section_output};
 ghost use Rattle.stream_law.specs.Equaliser.{next_inner};
-ghost use Rattle.eq_biquad.specs.Sections.{law_section};
+ghost use Rattle.eq_blob.specs.Sections.{law_section};
 ghost use Rattle.eq_biquad.specs.Pairs.{left_number, right_number, BothAre};
 ghost use Rattle.eq_biquad.specs.PairForms.{FitsBeside, HaveUnitGains, AreNear, GoesThrough, left_first, right_first, left_numbers, right_numbers};
 
 use crate::arithmetic::{bits_of, rescaled};
 use crate::pair_arithmetic::{ahead_both, both, inner_both, parts, second_both, times_both};
-use crate::section::Section;
+use eq_blob::Section;
 use std::simd::prelude::*;
 
 /// The parts of two sections' numbers in 64 bits, as `Near` has those of one: the left ones are of a channel, the right ones of

@@ -9,7 +9,8 @@ ghost use Rattle.stream_law.specs.Seen.{fresh_numbers};
 ghost use Rattle.mbox_link.specs.Step.{bytes_left, keeps_order, is_next as is_next_of, staged_bytes};
 ghost use Rattle.fw_parts.specs.Staged.{staging_in, fits_behind, CanBeStaged};
 
-use eq_biquad::{Eq, check};
+use eq_biquad::Eq;
+use eq_blob::check;
 use sof_base::{Bounded, Part};
 
 // How many bytes come with a part and after it.

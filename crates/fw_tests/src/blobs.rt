@@ -1,6 +1,6 @@
 // Blobs that stand in the source.
 use crate::same::same;
-use eq_biquad::{EqFault, check};
+use eq_blob::{EqFault, check};
 use std::process::Abort;
 use std::test::Fail;
 

@@ -1,7 +1,8 @@
 // An equaliser in its piece.
 ghost use Rattle.std.specs.Prelude.{◌≡◌};
 
-use eq_biquad::{Eq, check};
+use eq_biquad::Eq;
+use eq_blob::check;
 use fw_heap::Region;
 use sof_base::NoMemory;
 use std::alloc::Global;

@@ -3,7 +3,7 @@ ghost use Rattle.std.specs.Prelude.{◌≡◌, ◌<◌, ◌^◌, IfOk, IfErr, So
 ghost use Rattle.host_ctl.specs.ControlAsks as asks;
 ghost use Rattle.host_ctl.specs.ControlPlaces.{control_place};
 
-use eq_biquad::check;
+use eq_blob::check;
 use host_widgets::{HostFault, Power, Record, is_named};
 use sof_base::Name44;
 use tplg_plan::{ControlKind, Plan};

@@ -5,7 +5,7 @@ ghost use Rattle.sof_base.specs.BlobFaults.{is_blob};
 ghost use Rattle.tplg_plan.specs.Ranges.{is_initial};
 ghost use Rattle.tplg_rules.specs.ControlRanges as ranges;
 
-use eq_biquad::check;
+use eq_blob::check;
 use tplg_model::Control;
 use tplg_widgets::{Role, is_demux};
 

@@ -1,7 +1,7 @@
 use Rattle.std.proofs.Common.{◌≡◌, ap, sym, ◌∙◌, subst, rules, ◌^◌, ◌≤◌, pos, ◌+ℤ◌, ◌-ℤ◌, nat_abs, w32, w64, FitsSigned, to_z, of_z}
 use Rattle.std.proofs.lemmas.Int.{to_z-of_z}
 use Rattle.stream_law.specs.Equaliser.{next_inner}
-use Rattle.eq_biquad.specs.Sections.{law_section}
+use Rattle.eq_blob.specs.Sections.{law_section}
 use Rattle.eq_biquad.proofs.NearLaws.{joined_parts, joined-is, less-half, less-within, wider}
 use Rattle.eq_biquad.proofs.arithmetic.inner_again.Goals as goal
 

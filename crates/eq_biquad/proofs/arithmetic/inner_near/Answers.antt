@@ -3,7 +3,7 @@ use Rattle.std.specs.Int.{int_div_euclid}
 use Rattle.std.proofs.lemmas.Int.{ints, to_z-of_z}
 use Rattle.sof_base.specs.Samples.{sat}
 use Rattle.stream_law.specs.Equaliser.{next_inner}
-use Rattle.eq_biquad.specs.Sections.{law_section}
+use Rattle.eq_blob.specs.Sections.{law_section}
 use Rattle.eq_biquad.proofs.NearLaws.{shifted, near-inner, wider, fits, product-within}
 use Rattle.eq_biquad.proofs.arithmetic.inner_near.Goals as goal
 

@@ -1,5 +1,5 @@
 use Rattle.std.proofs.Common.{◌≡◌, refl, ap, ◌∙◌, ◌+◌, List, ℕ, ℤ, length, take, drop, arith, take_at, length-take, length-drop}
-use Rattle.eq_biquad.specs.PieceWords.{bytes_of_words}
+use Rattle.eq_blob.specs.WordBytes.{bytes_of_words}
 use Rattle.eq_biquad.proofs.PartLaws.{own-put, from-after, from-same, drop-put}
 use Rattle.eq_biquad.proofs.equaliser.install_words.Goals as goal
 

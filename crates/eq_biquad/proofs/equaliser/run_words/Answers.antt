@@ -2,7 +2,8 @@ use Rattle.std.proofs.Common.{◌≡◌, ap, sym, subst, ◌∙◌, ◌/◌, ℤ
 use Rattle.std.proofs.lemmas.List.{take-take}
 use Rattle.sof_base.specs.BlobParts.{IsBlob}
 use Rattle.stream_law.specs.Equaliser.{passed_frames, numbers_after}
-use Rattle.eq_biquad.specs.PieceWords.{bytes_of_words, words_from, AreNumbers}
+use Rattle.eq_blob.specs.WordBytes.{bytes_of_words}
+use Rattle.eq_biquad.specs.PieceWords.{words_from, AreNumbers}
 use Rattle.sof_base.specs.FrameLists.{frames_of, samples_of}
 use Rattle.eq_biquad.specs.Passing.{in_turn, channel_numbers}
 use Rattle.eq_biquad.proofs.PartLaws.{from-same}

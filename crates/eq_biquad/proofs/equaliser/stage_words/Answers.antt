@@ -1,5 +1,5 @@
 use Rattle.std.proofs.Common.{◌≡◌, ap, ◌∙◌, length, drop, arith, length-take, length-drop}
-use Rattle.eq_biquad.specs.PieceWords.{bytes_of_words}
+use Rattle.eq_blob.specs.WordBytes.{bytes_of_words}
 use Rattle.eq_biquad.proofs.PartLaws.{own-put, from-before, drop-put}
 use Rattle.eq_biquad.proofs.equaliser.stage_words.Goals as goal
 

@@ -1,8 +1,9 @@
 use Rattle.std.proofs.Common.{◌≡◌, ap, ◌∙◌, subst, sym, ◌+◌, ◌^◌, ◌≤◌, ℤ, pos, nat_abs, get_or, arith, rules, w32, FitsSigned, to_z, of_z}
 use mir.Syntax.{w128}
 use Rattle.std.proofs.lemmas.Int.{to_z-of_z}
-use Rattle.eq_biquad.specs.PieceWords.{wide_number, bits_at}
-use Rattle.eq_biquad.proofs.ByteLaws.{bits-below}
+use Rattle.eq_blob.specs.WordBytes.{bits_at}
+use Rattle.eq_biquad.specs.PieceWords.{wide_number}
+use Rattle.eq_blob.proofs.ByteLaws.{bits-below}
 use Rattle.eq_biquad.proofs.ArithLaws.{abs-below, same-128, joined-high}
 use Rattle.eq_biquad.proofs.numbers.wide.Goals as goal
 

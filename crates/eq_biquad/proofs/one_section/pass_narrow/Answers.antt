@@ -4,7 +4,7 @@ use Rattle.std.proofs.lemmas.Int.{to_z-of_z}
 use Rattle.sof_base.specs.Samples.{sat, rounded}
 use Rattle.sof_base.specs.Equations.{section_output}
 use Rattle.stream_law.specs.Equaliser.{next_inner}
-use Rattle.eq_biquad.specs.Sections.{law_section}
+use Rattle.eq_blob.specs.Sections.{law_section}
 use Rattle.eq_biquad.proofs.ArithLaws.{same-128}
 use Rattle.eq_biquad.proofs.NearLaws.{wider, kept-64, first-is, first-within, joined_parts, joined-is, joined-fits, less-half, with-half, less-within}
 use Rattle.eq_biquad.proofs.StepLaws.{Passes, passes-none, passes-more, passes-all}

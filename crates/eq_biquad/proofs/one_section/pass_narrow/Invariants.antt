@@ -1,5 +1,5 @@
 use Rattle.std.proofs.Common.{◌+◌, ◌*◌, ◌<◌, ◌≤◌, ◌^◌, [], ◌∷◌, pos, ◌+ℤ◌, ◌-ℤ◌, nat_abs}
-use Rattle.eq_biquad.specs.Sections.{law_section}
+use Rattle.eq_blob.specs.Sections.{law_section}
 use Rattle.eq_biquad.proofs.StepLaws.{Passes}
 use Rattle.eq_biquad.proofs.one_section.pass_narrow.Given as goal
 

@@ -4,7 +4,7 @@ use Rattle.std.proofs.lemmas.Int.{to_z-of_z}
 use Rattle.sof_base.specs.Samples.{sat, rounded}
 use Rattle.sof_base.specs.Equations.{section_output}
 use Rattle.stream_law.specs.Equaliser.{next_inner}
-use Rattle.eq_biquad.specs.Sections.{law_section}
+use Rattle.eq_blob.specs.Sections.{law_section}
 use Rattle.eq_biquad.proofs.ArithLaws.{same-128, abs-sum}
 use Rattle.eq_biquad.proofs.StepLaws.{passes-more, passes-all}
 use Rattle.eq_biquad.proofs.one_section.pass_wide.Goals as goal

@@ -1,5 +1,5 @@
 use Rattle.std.proofs.Common.{◌∙◌, [], ◌∷◌, arith}
-use Rattle.eq_biquad.specs.Sections.{law_section}
+use Rattle.eq_blob.specs.Sections.{law_section}
 use Rattle.eq_biquad.proofs.NumberLaws.{slot-bound, slot-bound-at}
 use Rattle.eq_biquad.proofs.PairNumbers.{begun-left, begun-right, begun-both}
 use Rattle.eq_biquad.proofs.pair_numbers.near_pair.Goals as goal

@@ -1,6 +1,6 @@
 use Rattle.std.proofs.Common.{◌≡◌, ◌*◌, take, arith}
 use Rattle.stream_law.specs.Equaliser.{sections_of}
-use Rattle.eq_biquad.specs.PieceWords.{bytes_of_words}
+use Rattle.eq_blob.specs.WordBytes.{bytes_of_words}
 use Rattle.eq_biquad.proofs.StretchLaws.{goes-of, outside-all}
 use Rattle.eq_biquad.proofs.passing.pass_alone.Goals as goal
 

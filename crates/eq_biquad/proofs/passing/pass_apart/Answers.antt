@@ -1,5 +1,5 @@
 use Rattle.std.proofs.Common.{◌*◌, inl, inr, ◌∙◌, take, arith}
-use Rattle.eq_biquad.specs.PieceWords.{bytes_of_words}
+use Rattle.eq_blob.specs.WordBytes.{bytes_of_words}
 use Rattle.eq_biquad.specs.Stretches.{sections_at}
 use Rattle.eq_biquad.proofs.StretchLaws.{stays-left, was-right, only-two}
 use Rattle.eq_biquad.proofs.passing.pass_apart.Goals as goal

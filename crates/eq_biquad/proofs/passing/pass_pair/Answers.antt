@@ -1,7 +1,7 @@
 use Rattle.std.proofs.Common.{◌≡◌, subst, ◌+◌, ◌-◌, ◌*◌, ℕ, min, take, arith}
 use Rattle.stream_law.specs.Equaliser.{sections_of}
-use Rattle.eq_biquad.specs.PieceWords.{bytes_of_words}
-use Rattle.eq_biquad.proofs.ByteLaws.{length-blob}
+use Rattle.eq_blob.specs.WordBytes.{bytes_of_words}
+use Rattle.eq_blob.proofs.ByteLaws.{length-blob}
 use Rattle.eq_biquad.proofs.StretchLaws.{PairPasses, goes-moved, goes-of, part-within, outside-part, outside-pair, pair-none, pair-more}
 use Rattle.eq_biquad.proofs.passing.pass_pair.Goals as goal
 

@@ -1,5 +1,5 @@
 use Rattle.std.proofs.Common.{◌*◌, min, take}
-use Rattle.eq_biquad.specs.PieceWords.{bytes_of_words}
+use Rattle.eq_blob.specs.WordBytes.{bytes_of_words}
 use Rattle.eq_biquad.proofs.StretchLaws.{PairPasses}
 use Rattle.eq_biquad.proofs.passing.pass_pair.Given as goal
 

@@ -2,9 +2,9 @@ use Rattle.std.proofs.Common.{◌≡◌, ap, sym, subst, ◌∙◌, ◌+◌, ◌
 use Rattle.sof_base.specs.Blob as form
 use Rattle.sof_base.specs.Blob.{section_at}
 use Rattle.eq_biquad.specs.Lanes.{lane}
-use Rattle.eq_biquad.specs.PieceWords.{bytes_of_words}
+use Rattle.eq_blob.specs.WordBytes.{bytes_of_words}
 use Rattle.eq_biquad.specs.Passing.{passed_samples, numbers_passed}
-use Rattle.eq_biquad.specs.Sections.{law_section}
+use Rattle.eq_blob.specs.Sections.{law_section}
 use Rattle.eq_biquad.proofs.NumberLaws.{slot-bound, slot-put}
 use Rattle.eq_biquad.proofs.StretchLaws.{goes-moved, outside-fewer, stretch-none, stretch-more}
 use Rattle.eq_biquad.proofs.passing.pass_stretch.Goals as goal

@@ -1,5 +1,5 @@
 use Rattle.std.proofs.Common.{◌*◌, take}
-use Rattle.eq_biquad.specs.PieceWords.{bytes_of_words}
+use Rattle.eq_blob.specs.WordBytes.{bytes_of_words}
 use Rattle.eq_biquad.proofs.StretchLaws.{StretchPasses}
 use Rattle.eq_biquad.proofs.passing.pass_stretch.Given as goal
 

@@ -1,8 +1,9 @@
 use Rattle.std.proofs.Common.{◌≡◌, sym, ap, subst, ◌∙◌, ◌+◌, ◌*◌, ℕ, true, take, arith}
 use Rattle.eq_biquad.specs.PairForms.{series_of, left_series, right_series}
-use Rattle.eq_biquad.specs.PieceWords.{bytes_of_words, numbers_at}
+use Rattle.eq_blob.specs.WordBytes.{bytes_of_words}
+use Rattle.eq_biquad.specs.PieceWords.{numbers_at}
 use Rattle.eq_biquad.specs.Stretches.{IsElsewhere}
-use Rattle.eq_biquad.proofs.ByteLaws.{length-blob}
+use Rattle.eq_blob.proofs.ByteLaws.{length-blob}
 use Rattle.eq_biquad.proofs.StretchLaws.{goes-known, shift-within}
 use Rattle.eq_biquad.proofs.passing.pass_two.Goals as goal
 

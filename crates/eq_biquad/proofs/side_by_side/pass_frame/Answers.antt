@@ -1,7 +1,7 @@
 use Rattle.std.proofs.Common.{ap, sym, subst, ◌∙◌, w32, FitsSigned}
 use Rattle.eq_biquad.specs.PairForms.{left_first, right_first}
 use Rattle.eq_biquad.specs.Pairs.{left_number, right_number, BothAre}
-use Rattle.eq_biquad.specs.Sections.{law_section}
+use Rattle.eq_blob.specs.Sections.{law_section}
 use Rattle.eq_biquad.proofs.PairLaws.{pair-again}
 use Rattle.eq_biquad.proofs.PairNumbers.{goes-two}
 use Rattle.eq_biquad.proofs.side_by_side.pass_frame.Goals as goal

@@ -1,6 +1,6 @@
 use Rattle.std.proofs.Common.{◌≡◌, ap, ◌∙◌, ◌+◌, ◌*◌, [], ◌∷◌, take, arith, ℕ}
 use Rattle.sof_base.specs.Blob.{signed_at, section_at}
-use Rattle.eq_biquad.specs.PieceWords.{bytes_of_words}
+use Rattle.eq_blob.specs.WordBytes.{bytes_of_words}
 use Rattle.eq_biquad.proofs.side_by_side.series_at.Goals as goal
 
 pub returns-clause-sections : goal.returns-clause-sections

@@ -3,7 +3,7 @@ use Rattle.sof_base.specs.Samples.{rounded}
 use Rattle.stream_law.specs.Equaliser.{next_inner}
 use Rattle.eq_biquad.specs.PairForms.{left_first, right_first}
 use Rattle.eq_biquad.specs.Pairs.{left_number, right_number, BothAre, BothMeet, inner_of_sum}
-use Rattle.eq_biquad.specs.Sections.{law_section}
+use Rattle.eq_blob.specs.Sections.{law_section}
 use Rattle.eq_biquad.proofs.PairLaws.{pair-again, known-again}
 use Rattle.eq_biquad.proofs.PairNumbers.{coefficients-again, held-fits, inner-next}
 use Rattle.eq_biquad.proofs.stages.next_inners.Goals as goal

@@ -2,7 +2,7 @@ use Rattle.std.proofs.Common.{◌≡◌, ap, sym, subst, ◌∙◌, [], ◌∷�
 use Rattle.std.proofs.lemmas.Int.{to_z-of_z}
 use Rattle.sof_base.specs.Equations.{section_output}
 use Rattle.eq_biquad.specs.Pairs.{left_number, right_number, BothAre}
-use Rattle.eq_biquad.specs.Sections.{law_section}
+use Rattle.eq_blob.specs.Sections.{law_section}
 use Rattle.eq_biquad.proofs.PairLaws.{pair-again, pair-is}
 use Rattle.eq_biquad.proofs.PairNumbers.{plain-output, coefficients-again}
 use Rattle.eq_biquad.proofs.stages.outputs.Goals as goal

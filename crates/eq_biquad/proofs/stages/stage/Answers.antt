@@ -3,7 +3,7 @@ use Rattle.sof_base.specs.Equations.{section_output}
 use Rattle.stream_law.specs.Equaliser.{next_inner}
 use Rattle.eq_biquad.specs.PairForms.{left_first, right_first}
 use Rattle.eq_biquad.specs.Pairs.{left_number, right_number, BothAre}
-use Rattle.eq_biquad.specs.Sections.{law_section}
+use Rattle.eq_blob.specs.Sections.{law_section}
 use Rattle.eq_biquad.proofs.PairLaws.{pair-again}
 use Rattle.eq_biquad.proofs.PairNumbers.{inners-fit, outputs-fit, ahead_next, fed_next, second_next, stage-near, stage-left, stage-right}
 use Rattle.eq_biquad.proofs.stages.stage.Goals as goal

@@ -3,7 +3,8 @@ use Rattle.std.specs.List.{refill}
 use Rattle.sof_base.specs.BlobParts.{IsBlob}
 use Rattle.stream_law.specs.Equaliser.{numbers_after}
 use Rattle.sof_base.specs.FrameLists.{frames_of}
-use Rattle.eq_biquad.specs.PieceWords.{bytes_of_words, words_from, AreNumbers}
+use Rattle.eq_blob.specs.WordBytes.{bytes_of_words}
+use Rattle.eq_biquad.specs.PieceWords.{words_from, AreNumbers}
 use Rattle.eq_biquad.specs.Passing.{in_turn, channel_numbers}
 use Rattle.eq_biquad.proofs.PartLaws.{from-same}
 use Rattle.eq_biquad.proofs.equaliser.Eq.run.Goals as goal

@@ -1,7 +1,7 @@
 use Rattle.std.proofs.Common.{◌≡◌, ap, ◌∙◌, ℤ, List, length, take, drop, arith, rules, length-take}
 use Rattle.std.proofs.lemmas.List.{take_all}
-use Rattle.eq_biquad.specs.PieceWords.{bytes_of_words}
-use Rattle.eq_biquad.proofs.ByteLaws.{length-bytes}
+use Rattle.eq_blob.specs.WordBytes.{bytes_of_words}
+use Rattle.eq_blob.proofs.ByteLaws.{length-bytes}
 use Rattle.eq_biquad.proofs.equaliser.Eq.staged.Goals as goal
 
 pub returns : goal.returns

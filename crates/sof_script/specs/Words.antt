@@ -1,5 +1,6 @@
 -- The words that lines begin with, and the lines that begin with one.
-use Rattle.std.specs.Prelude.{ℕ, Bool, true, false, if◌then◌else◌, List, codes, Option, Some, None, Result, Ok, Err}
+use Rattle.std.specs.Prelude.{ℕ, Bool, true, false, if◌then◌else◌, List, [], ◌∷◌, codes, Option, Some, None, Result, Ok, Err}
+use Rattle.std.specs.Borrow.{Bor}
 use Rattle.std.specs.Str.{bytes_eq}
 use Rattle.sof_script.specs.declared.words.Word.{Word}
 use Rattle.sof_script.specs.declared.words.Word.TheVariants as word
@@ -11,33 +12,28 @@ use Rattle.sof_script.specs.declared.fault_causes.Cause.TheVariants as causes
 use Rattle.sof_script.specs.Commands.{◌⊛◌, alone, params_item, values_item}
 use Rattle.sof_script.specs.ArgumentForms.{one_name, one_number, bound, hex_item, error_item, lag_item}
 
+-- each word by its text
+abbrev pub word_texts : List (List ℕ × Word)
+word_texts =
+    (codes "in", word.In) ∷ (codes "out", word.Out) ∷ (codes "load", word.Load) ∷ (codes "unload", word.Unload) ∷ (codes "suspend", word.Suspend)
+    ∷ (codes "resume", word.Resume) ∷ (codes "show", word.Show) ∷ (codes "open", word.Open) ∷ (codes "start", word.Start) ∷ (codes "stop", word.Stop)
+    ∷ (codes "pause", word.Pause) ∷ (codes "release", word.Release) ∷ (codes "close", word.Close) ∷ (codes "get", word.Get) ∷ (codes "read", word.Read)
+    ∷ (codes "params", word.Params) ∷ (codes "set", word.Set) ∷ (codes "bytes", word.Bytes) ∷ (codes "tick", word.Tick) ∷ (codes "refuse", word.Refuse)
+    ∷ (codes "drop", word.Drop) ∷ (codes "lose", word.Lose) ∷ (codes "lag", word.Lag) ∷ []
+
+-- the word that a token is, of these
+abbrev pub named_in : List ℕ → List (List ℕ × Word) → Option Word
+named_in token [] = None
+named_in token ((text, w) ∷ rows) = if bytes_eq token text then Some w else named_in token rows
+
 -- the word that a token is
 abbrev pub word_named : List ℕ → Option Word
-word_named token =
-    if bytes_eq token (codes "in") then Some word.In
-    else if bytes_eq token (codes "out") then Some word.Out
-    else if bytes_eq token (codes "load") then Some word.Load
-    else if bytes_eq token (codes "unload") then Some word.Unload
-    else if bytes_eq token (codes "suspend") then Some word.Suspend
-    else if bytes_eq token (codes "resume") then Some word.Resume
-    else if bytes_eq token (codes "show") then Some word.Show
-    else if bytes_eq token (codes "open") then Some word.Open
-    else if bytes_eq token (codes "start") then Some word.Start
-    else if bytes_eq token (codes "stop") then Some word.Stop
-    else if bytes_eq token (codes "pause") then Some word.Pause
-    else if bytes_eq token (codes "release") then Some word.Release
-    else if bytes_eq token (codes "close") then Some word.Close
-    else if bytes_eq token (codes "get") then Some word.Get
-    else if bytes_eq token (codes "read") then Some word.Read
-    else if bytes_eq token (codes "params") then Some word.Params
-    else if bytes_eq token (codes "set") then Some word.Set
-    else if bytes_eq token (codes "bytes") then Some word.Bytes
-    else if bytes_eq token (codes "tick") then Some word.Tick
-    else if bytes_eq token (codes "refuse") then Some word.Refuse
-    else if bytes_eq token (codes "drop") then Some word.Drop
-    else if bytes_eq token (codes "lose") then Some word.Lose
-    else if bytes_eq token (codes "lag") then Some word.Lag
-    else None
+word_named token = named_in token word_texts
+
+-- the words of a table of the program
+abbrev pub words_of : List (Bor (List ℕ) × Word) → List (List ℕ × Word)
+words_of [] = []
+words_of ((text, w) ∷ rows) = (text.now, w) ∷ words_of rows
 
 -- what a word and the tokens after it are
 abbrev pub worded_item : Word → List (List ℕ) → Result Item Cause

@@ -1,6 +1,6 @@
 // The words that lines begin with.
 ghost use Rattle.std.specs.Prelude.{◌≡◌};
-ghost use Rattle.sof_script.specs.Words.{word_named};
+ghost use Rattle.sof_script.specs.Words.{word_named, named_in, words_of};
 
 /// The first token of a line that is not skipped.
 #[derive(Clone, Copy, Debug, PartialEq, Eq)]
@@ -30,36 +30,50 @@ pub enum Word {
     Lag,
 }
 
+// The words, each by its text.
+const WORDS: [(&str, Word); 23] = [
+    ("in", Word::In),
+    ("out", Word::Out),
+    ("load", Word::Load),
+    ("unload", Word::Unload),
+    ("suspend", Word::Suspend),
+    ("resume", Word::Resume),
+    ("show", Word::Show),
+    ("open", Word::Open),
+    ("start", Word::Start),
+    ("stop", Word::Stop),
+    ("pause", Word::Pause),
+    ("release", Word::Release),
+    ("close", Word::Close),
+    ("get", Word::Get),
+    ("read", Word::Read),
+    ("params", Word::Params),
+    ("set", Word::Set),
+    ("bytes", Word::Bytes),
+    ("tick", Word::Tick),
+    ("refuse", Word::Refuse),
+    ("drop", Word::Drop),
+    ("lose", Word::Lose),
+    ("lag", Word::Lag),
+];
+
+// The word that a token is, of these.
+fn word_in(words: &[(&str, Word)], token: &[u8]) -> Option<Word>
+    ensures { result ≡ named_in token.now (words_of words.now) }
+{
+    for (text, word) in words {
+        if token == text.as_bytes() {
+            return Some(*word);
+        }
+    }
+    None
+}
+
 impl Word {
     /// The word that a token is; none where it is none of them.
     pub fn of(token: &[u8]) -> Option<Word>
         ensures { result ≡ word_named token.now }
     {
-        match token {
-            b"in" => Some(Word::In),
-            b"out" => Some(Word::Out),
-            b"load" => Some(Word::Load),
-            b"unload" => Some(Word::Unload),
-            b"suspend" => Some(Word::Suspend),
-            b"resume" => Some(Word::Resume),
-            b"show" => Some(Word::Show),
-            b"open" => Some(Word::Open),
-            b"start" => Some(Word::Start),
-            b"stop" => Some(Word::Stop),
-            b"pause" => Some(Word::Pause),
-            b"release" => Some(Word::Release),
-            b"close" => Some(Word::Close),
-            b"get" => Some(Word::Get),
-            b"read" => Some(Word::Read),
-            b"params" => Some(Word::Params),
-            b"set" => Some(Word::Set),
-            b"bytes" => Some(Word::Bytes),
-            b"tick" => Some(Word::Tick),
-            b"refuse" => Some(Word::Refuse),
-            b"drop" => Some(Word::Drop),
-            b"lose" => Some(Word::Lose),
-            b"lag" => Some(Word::Lag),
-            _ => None,
-        }
+        word_in(&WORDS, token)
     }
 }

@@ -4,7 +4,6 @@ pub mod Results
 pub mod ValueForm
 pub mod ProgramValues
 pub mod KeyTables
-pub mod KindTexts
 pub mod Entries
 pub mod DocumentLists
 pub mod NumberedEntries

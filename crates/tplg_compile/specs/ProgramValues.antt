@@ -5,6 +5,7 @@ use Rattle.std.specs.Borrow.{Bor}
 use Rattle.toml.specs.Data.{Data}
 use Rattle.toml.specs.View.{view}
 use Rattle.toml.specs.declared.value.Value.{Value}
+use Rattle.tplg_build.specs.declared.source.WidgetKind.{WidgetKind}
 use Rattle.tplg_compile.specs.declared.keys.TokenKey.{TokenKey}
 use Rattle.tplg_compile.specs.KeyTables.{Keyed}
 
@@ -22,6 +23,11 @@ slice_texts (r ∷ rs) = r.now ∷ slice_texts rs
 abbrev pub keyed_by : List TokenKey → List Keyed
 keyed_by [] = []
 keyed_by (k ∷ ks) = (k.key.now, k.token) ∷ keyed_by ks
+
+-- the kinds of a table of the program
+abbrev pub kinds_of : List (Bor (List ℕ) × WidgetKind) → List (List ℕ × WidgetKind)
+kinds_of [] = []
+kinds_of ((text, kind) ∷ kinds) = (text.now, kind) ∷ kinds_of kinds
 
 -- the keys of a document
 abbrev pub document_keys : List (List ℕ)

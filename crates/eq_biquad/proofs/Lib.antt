@@ -1,5 +1,6 @@
 pub mod ArithLaws
 pub mod LaneLaws
+pub mod Lookups
 pub mod NearLaws
 pub mod NumberLaws
 pub mod PairLaws

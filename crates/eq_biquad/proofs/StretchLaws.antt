@@ -11,7 +11,7 @@ use Rattle.eq_blob.specs.declared.section.Found.{Found}
 use Rattle.eq_blob.specs.Sections.{sections_in, AreWithin}
 use Rattle.eq_biquad.specs.Stretches.{LaneGoes, IsElsewhere, OnlyChannel, OnlyChannels}
 use Rattle.eq_biquad.proofs.LaneLaws.{same-lane}
-use Rattle.eq_blob.proofs.Lookups.{length-sections}
+use Rattle.eq_biquad.proofs.Lookups.{length-sections}
 use Rattle.eq_biquad.proofs.NumberLaws.{numbers_at-same, length-numbers_at}
 use Rattle.eq_biquad.proofs.PassLaws.{passed-none, numbers-none, length-numbers}
 

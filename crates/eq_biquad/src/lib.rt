@@ -5,6 +5,7 @@ mod arithmetic;
 mod equaliser;
 mod lane;
 mod laws;
+mod lookup;
 mod numbers;
 mod one_section;
 mod pair_arithmetic;

@@ -11,12 +11,13 @@ ghost use Rattle.eq_blob.specs.Sections.{sections_in, AreWithin};
 ghost use Rattle.eq_biquad.specs.Stretches.{LaneGoes, StretchGoes, IsElsewhere, OnlyChannel, OnlyChannels};
 
 use crate::lane::Lane;
+use crate::lookup::find_sections;
 use crate::numbers::{numbers_in, put_numbers};
 use crate::one_section::pass_section;
 use crate::pair_numbers::{near_series, put_series};
 use crate::side_by_side::{pass_both, series_at};
 use crate::stretch::Stretch;
-use eq_blob::{Found, find_sections, section_at};
+use eq_blob::{Found, section_at};
 use sof_base::Sample;
 
 /// Passes frames through the sections of their channels. A channel without sections passes unchanged.

@@ -1,7 +1,7 @@
 use Rattle.std.proofs.Common.{◌≡◌, subst, ◌+◌, ◌-◌, ◌*◌, ◌/◌, ◌≤◌, ℕ, length, take, arith}
 use Rattle.std.proofs.Math.Nat.{mod-add-div}
 use Rattle.eq_blob.specs.WordBytes.{bytes_of_words}
-use Rattle.eq_blob.proofs.Lookups.{few-all}
+use Rattle.eq_biquad.proofs.Lookups.{few-all}
 use Rattle.eq_biquad.proofs.StepLaws.{Passed_lanes, lanes-none, lanes-more, lanes-both, lanes-samples, lanes-numbers}
 use Rattle.eq_biquad.proofs.passing.pass_channels.Goals as goal
 

@@ -6,8 +6,8 @@ use Rattle.sof_base.specs.Blob as form
 use Rattle.eq_blob.specs.WordBytes.{bytes_of_words}
 use Rattle.eq_blob.proofs.ByteLaws.{length-blob}
 use Rattle.sof_base.proofs.BlobLaws.{sound}
-use Rattle.eq_blob.proofs.Lookups.{empty-blob, no-channel, a-channel, word-assigned, is-assigned, negative-none, response-found, found-within}
-use Rattle.eq_blob.proofs.lookup.find_sections.Goals as goal
+use Rattle.eq_biquad.proofs.Lookups.{empty-blob, no-channel, a-channel, word-assigned, is-assigned, negative-none, response-found, found-within}
+use Rattle.eq_biquad.proofs.lookup.find_sections.Goals as goal
 
 pub returns-then-len-eq0-clause-sections : goal.returns-then-len-eq0-clause-sections
 returns-then-len-eq0-clause-sections c = sym (ap (λ n. sections_of (take n (bytes_of_words c.args.blob.now)) c.args.channel) c.if-len-eq0.true ∙ empty-blob c.args.channel)

@@ -7,7 +7,7 @@ ghost use Rattle.stream_law.specs.Equaliser.{sections_of};
 ghost use Rattle.eq_blob.specs.WordBytes.{bytes_of_words};
 ghost use Rattle.eq_blob.specs.Sections.{found_in, AreWithin};
 
-use crate::section::Found;
+use eq_blob::Found;
 
 /// The sections of a channel: none where no blob is in force, and where the channel has no assignment or a negative one.
 pub fn find_sections(blob: &[i32], len: usize, channel: usize) -> Option<Found>

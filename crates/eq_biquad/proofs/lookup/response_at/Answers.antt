@@ -3,8 +3,8 @@ use Rattle.sof_base.specs.Slots.{word_at}
 use Rattle.eq_blob.specs.WordBytes.{bytes_of_words}
 use Rattle.eq_blob.proofs.ByteLaws.{length-blob}
 use Rattle.sof_base.proofs.BlobLaws.{sound}
-use Rattle.eq_blob.proofs.Lookups.{place-more}
-use Rattle.eq_blob.proofs.lookup.response_at.Goals as goal
+use Rattle.eq_biquad.proofs.Lookups.{place-more}
+use Rattle.eq_biquad.proofs.lookup.response_at.Goals as goal
 
 pub count_at-place-requires : goal.count_at-place-requires
 count_at-place-requires c =

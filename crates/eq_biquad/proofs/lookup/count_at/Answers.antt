@@ -2,7 +2,7 @@ use Rattle.std.proofs.Common.{ap, sym, ◌∙◌, ◌<◌, length, get_or, arith
 use Rattle.std.specs.Int.{cast_unsigned}
 use Rattle.std.proofs.lemmas.Int.{to_z-of_z}
 use Rattle.eq_blob.proofs.ByteLaws.{word-bytes}
-use Rattle.eq_blob.proofs.lookup.count_at.Goals as goal
+use Rattle.eq_biquad.proofs.lookup.count_at.Goals as goal
 
 pub returns : goal.returns
 returns c =

@@ -76,7 +76,7 @@ module _ (t : Tables) (id : ℕ) (part : Part) (words : List ℤ) where
   unfolding set-row
   part-done there taken = ap (λ (p : Bool × Bool). set-row p.0 p.1) (λ i. (sym there i, sym taken i))
 
--- what is told of the bytes that were taken
+-- what is stated of the bytes that were taken
 pub not-taken : (h : Bool) (bytes : List ℕ) → ◌≡◌ {A = Option (List ℕ)} None (cond h (Some bytes) None) → h ≡ false
 not-taken true bytes e = cc e
 not-taken false bytes e = refl

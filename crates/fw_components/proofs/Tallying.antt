@@ -65,7 +65,7 @@ module _ (is : Phase → Bool) (way : ℕ → ℕ → Bool) (x : ℕ) where
   host-told id (Buffer size ring source sink) ss = refl
   host-told id u ss = refl
 
--- what is told of streams tells of one more, host by host
+-- what is stated of streams is stated of one more, host by host
 module _ (way : ℕ → ℕ → Bool) (ids : List ℕ) (ss : List StreamView) (id : ℕ) (unit : units.Unit) (old new : Tallies) (told_of : AreTold way ids ss old) where
   pub one-more : ((x : ℕ) → is_among ids x ≡ true → get_or new.running (place_in ids x) 0 ≡ cond (has_phase is_running_phase unit && way id x) (get_or old.running (place_in ids x) 0 + 1) (get_or old.running (place_in ids x) 0))
       → ((x : ℕ) → is_among ids x ≡ true → get_or new.live (place_in ids x) 0 ≡ cond (has_phase is_live_phase unit && way id x) (get_or old.live (place_in ids x) 0 + 1) (get_or old.live (place_in ids x) 0))

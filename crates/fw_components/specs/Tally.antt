@@ -34,7 +34,7 @@ pub record AreTold (way : ℕ → ℕ → Bool) (ids : List ℕ) (streams : List
 abbrev pub IsTallied : Tables → Tallies → Type 0
 IsTallied t s = AreTold (on_way (graph_of t)) (ids_of t) (streams_of t) s
 
--- nothing is told yet
+-- nothing is counted yet
 pub record AreBare (s : Tallies) : Type 0 where
   pub running : (k : ℕ) → slice_index_or s.running k 0 ≡ 0
   pub live : (k : ℕ) → slice_index_or s.live k 0 ≡ 0

@@ -10,7 +10,7 @@ use Rattle.fw_components.specs.Parts.{part_or, part_got}
 use Rattle.fw_components.specs.States.{state_over}
 use Rattle.fw_core.proofs.Values.{there-used}
 
--- what a call told is what the row answers, and the part is that of the row
+-- what a call gave is what the row answers, and the part is that of the row
 pub record IsPartGot (f : FwState) (id index : ℕ) (o : Result Part ℤ) : Type 0 where
   pub done : (part : Part) → o ≡ Ok part → (rows.get_data f id index ≡ Ok f) × (rows.part_at f.graph id index ≡ Some part)
   pub refused : (e : ℤ) → o ≡ Err e → rows.get_data f id index ≡ Err e

@@ -1,4 +1,4 @@
--- The rows of streams: their states are told by the calls themselves.
+-- The rows of streams: their states are stated by the calls themselves.
 use Rattle.std.proofs.Common.{◌≡◌, refl, ap, subst, ℕ, Bool, cond, Result, Ok, Err, ℤ}
 use Rattle.std.specs.Prelude.{OnErr, OnOk}
 use Rattle.sof_base.specs.declared.errno.Errno.{Errno}

@@ -93,7 +93,7 @@ values-found t id command = ap (λ (o : Option Comp). option_and_then (λ c. row
     by None = refl
     by (Some c) = sym (same-values c.unit command)
 
--- what a call told is what the row answers, and the values are those of the row
+-- what a call gave is what the row answers, and the values are those of the row
 pub record IsGot (f : FwState) (id command : ℕ) (o : Result (List ℕ) ℤ) : Type 0 where
   pub done : (values : List ℕ) → o ≡ Ok values → (rows.get_value f id command ≡ Ok f) × (rows.control_values_at f.graph id command ≡ Some values)
   pub refused : (e : ℤ) → o ≡ Err e → rows.get_value f id command ≡ Err e

@@ -13,7 +13,7 @@ tells Nothing = false
 tells (Values values) = true
 tells (Part part) = true
 
--- whether a message with this answer changed nothing: it was refused, or it told something
+-- whether a message with this answer changed nothing: it was refused, or it only asked for something
 abbrev pub changes_nothing : Result Body Errno → Bool
 changes_nothing (Ok body) = tells body
 changes_nothing (Err error) = true

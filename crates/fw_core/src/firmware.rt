@@ -124,7 +124,7 @@ fn keeps_steps(message: &Result<Message, CodecFault>) -> bool
     }
 }
 
-// Whether a message with this answer changed nothing: it was refused, or it told something.
+// Whether a message with this answer changed nothing: it was refused, or it only asked for something.
 fn changes_nothing(answer: &Result<Body, Errno>) -> bool
     ensures { result ≡ changes_nothing answer.now }
 {

@@ -10,7 +10,7 @@ use sof_base::{Errno, Format, NoMemory, Params};
 use std::alloc::Global;
 use stream_law::Phase;
 
-// Nothing is found, told or set in an empty registry.
+// Nothing is found, read or set in an empty registry.
 fn nothing(alloc: Global) -> Result<bool, NoMemory> {
     let mut registry = Registry::new(alloc)?;
     let mut right = registry.len() == 0 && registry.find(1).is_none();

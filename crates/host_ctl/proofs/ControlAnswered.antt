@@ -150,7 +150,7 @@ module _ (plan : Plan) (sound : IsSound plan) (kept : Record) (is : IsRecordOf p
       installs-twice = ap (λ (rs : List ControlRec). record { power = kept.power; streams = kept.streams; controls = rs }) (sym (twice k.comp blob plan.controls kept.controls))
 
       module _ (kept' : Record) (sent v : World D) where
-        -- what is left, by what all came to
+        -- what is left, by the result of all
         abbrev LeftSo : Outcome → Type 0
         LeftSo (Ok done) = (kept' ≡ installs kept) × (v ≡ sent)
         LeftSo (Err fault) = PlainEnd means heap (Err fault) kept kept' sent v

@@ -72,7 +72,7 @@ installing_fault name bytes (Some k) = bytes_fault_by name bytes k.kind
 abbrev pub bytes_fault : Plan → Record → List ℕ → List ℕ → Option HostFault
 bytes_fault plan kept name bytes = loaded_fault kept.power (installing_fault name bytes (named_control plan name))
 
--- ---- what is told
+-- ---- what is answered
 
 -- a control of any kind is known by its name
 abbrev pub name_fault : List ℕ → Option ControlPlan → Option HostFault → Option HostFault

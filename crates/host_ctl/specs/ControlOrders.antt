@@ -1,4 +1,4 @@
--- What is done with a control, and what is told of it.
+-- What is done with a control, and what is answered of it.
 use Rattle.std.specs.Prelude.{◌≡◌, ℕ, List, [], ◌∷◌, map, unwrap_or, Option, Some, None, Ok, Err}
 use Rattle.std.specs.Option.{option_and_then}
 use Rattle.tplg_plan.specs.declared.plans.Plan.{Plan}

@@ -75,7 +75,7 @@ module _ {D S A : Type 0} (means : Meaning D) (rules : ActRules S A) where
 
   -- ---- jobs
 
-  -- acts were sent from here, and came to this
+  -- acts were sent from here, with this result
   pub record HasGone (kept : S) (acts : List A) (goes_on : Bool) (w v : World D) (left : S) (outcome : Outcome) : Type 0 where
     pub meetings : List Meeting
     pub did : ActsDid means rules goes_on kept acts meetings w v

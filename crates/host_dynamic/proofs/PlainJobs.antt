@@ -42,7 +42,7 @@ module _ (plan : Plan) (heap : ℕ) where
 
   -- ---- walks
 
-  -- two walks came to the same, with one record
+  -- two walks had the same result, with one record
   pub record IsAlike {Q : Type 0} (u : Walked UpState DynamicAct Q) (p : Walked Record Act Q) : Type 0 where
     pub outcome : u.outcome ≡ p.outcome
     pub record_is : u.kept.kept ≡ p.kept

@@ -9,7 +9,7 @@ abbrev pub told : Result FwState ℤ → Result There ℤ
 told (Ok f) = Ok (there_in f)
 told (Err e) = Err e
 
--- what is told to be there after it is there
+-- what is stated to be there after it is there
 pub left-told : (t : There) (r : Result FwState ℤ) (now : There) → told r ≡ Ok now → row_left t r ≡ now
 left-told t (Ok f) now is = cc is
 left-told t (Err e) now is = absurd (cc is)

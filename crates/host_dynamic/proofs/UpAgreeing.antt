@@ -89,14 +89,14 @@ module _ {D : Type 0} (means : Meaning D) (plan : Plan) where
 -- ---- a call, by its test
 
 module _ {D S A : Type 0} (means : Meaning D) (rules : ActRules S A) (heap : ℕ) where
-  -- a fault was told, with nothing changed and no call made
+  -- a fault was reported, with nothing changed and no call made
   pub early-tested : (test : Option HostFault) (job : Job S A) (kept : S) (w : World D) (result : Outcome) (fault : HostFault) → test ≡ Some fault → result ≡ Err fault → JobTested means rules heap test job kept kept w w result
   early-tested test job kept w result fault at is = record {
     early = λ other same. (let one : fault ≡ other = cc (sym at ∙ same) in (is ∙ ap (λ (f : HostFault). Err f) one, refl, refl));
     late = λ none. absurd (cc (sym at ∙ none));
   }
 
-  -- no test told a fault
+  -- no test reported a fault
   pub late-tested : (test : Option HostFault) (job : Job S A) (kept kept' : S) (w v : World D) (result : Outcome) → test ≡ None → JobDone means rules heap job kept' w v result → JobTested means rules heap test job kept kept' w v result
   late-tested test job kept kept' w v result none done = record { early = λ fault at. absurd (cc (sym none ∙ at)); late = λ same. done }
 
@@ -107,7 +107,7 @@ pub record IsCalled {D : Type 0} (means : Meaning D) (plan : Plan) (heap : ℕ) 
   pub agree : UpAgrees means plan kept' up' v.device
 
 module _ {D : Type 0} (means : Meaning D) (plan : Plan) (heap : ℕ) (kept : Record) (up : List ℕ) (w : World D) where
-  -- a fault was told before any message
+  -- a fault was reported before any message
   pub called-early : IsUpState plan (up_state_in means kept up w.device) → UpAgrees means plan kept up w.device → (test : Option HostFault) (job : Job UpState DynamicAct) (fault : HostFault) (result : Outcome) → test ≡ Some fault → result ≡ Err fault →
       IsCalled means plan heap test job (up_state_in means kept up w.device) kept up w w result
   called-early is agree test job fault result at told =

@@ -60,7 +60,7 @@ module _ (plan : Plan) where
   all-up (act ∷ acts) u = all-up acts ((up_act_rules plan).after (Ordinary act) u)
 
   module _ {D : Type 0} (means : Meaning D) (heap : ℕ) (done : Record → Record) where
-    -- what is left of a record, by what all came to
+    -- what is left of a record, by the result of all
     abbrev LeftSo : Record → Record → World D → World D → Outcome → Type 0
     LeftSo now kept' sent v result = let end = plain_end done now result in (kept' ≡ end.0) × Led means sent (calls_of heap end.1) v
 

@@ -68,7 +68,7 @@ module _ {D : Type 0} (means : Meaning D) (plan : Plan) (sound : IsSound plan) (
   abbrev pub Called : Option HostFault → Job UpState DynamicAct → Record → List ℕ → World D → Outcome → Type 0
   Called test job kept' up' v result = IsCalled means plan heap test job s kept' up' w v result
 
-  -- its test told a fault
+  -- its test reported a fault
   pub early-called : (test : Option HostFault) (job : Job UpState DynamicAct) (r : Result ℕ HostFault) (fault : HostFault) (result : Outcome) → IfErr r (λ f. test ≡ Some f) → r ≡ Err fault → result ≡ Err fault → Called test job kept up w result
   early-called test job r fault result told failed this =
       called-early means plan heap kept up w is agree test job fault result (subst (λ (x : Result ℕ HostFault). IfErr x (λ f. test ≡ Some f)) failed told) this

@@ -1,4 +1,4 @@
--- Closing a stream over any device: what its messages came to, and those that unmake, is what the rules say.
+-- Closing a stream over any device: the results of its messages, and of those that unmake, are what the rules say.
 use Rattle.std.proofs.Common.{◌≡◌, refl, sym, ap, subst, ◌∙◌, ℕ, List, [], ◌∷◌, map, filter, Bool, true, false, not, ◌==◌, ◌&&◌, Some, None, Ok, Err}
 use Rattle.std.specs.Prelude.{Option, find, is_some}
 use Rattle.std.specs.List.{zip, IsDistinct}
@@ -105,7 +105,7 @@ module _ {D : Type 0} (means : Meaning D) (plan : Plan) (sound : IsSound plan) (
   abbrev acts : List DynamicAct
   acts = map Ordinary (close_by host p.1.found)
 
-  -- what is kept after a call that came to this at its first part
+  -- what is kept after a call with this result at its first part
   pub record HasClosed (up' : List ℕ) (kept' : Record) (w v : World D) (result : Outcome) : Type 0 where
     pub done : JobDone means (up_act_rules plan) heap (closing_job plan s host p.1.found) (record { kept = kept'; up = up'; there = there_on (means.on v.device) }) w v result
     pub switched : IsSwitched kept'.power (means.on v.device)

@@ -72,7 +72,7 @@ module _ (plan : Plan) (u : UpState) (act : DynamicAct) where
     abbrev pub before : FwState
     before = (ticks n (f, w.io)).0
 
-    -- what it came to leaves the device so
+    -- its result leaves the device so
     abbrev pub Left : Outcome → Type 0
     Left (Ok done) = (g : FwState) × (means.on v.device ≡ Some g) × (row before (dynamic_message plan act) ≡ Ok g) × (there_in g ≡ there_after plan act u.there)
     Left (Err faults.LinkDown) = is_some (means.on v.device) ≡ true

@@ -1,5 +1,5 @@
--- A suspend is a job that is done by the rules of a host that makes pipelines on use: what moves is stopped whatever the messages before it
--- came to, and then the device is cut.
+-- A suspend is a job that is done by the rules of a host that makes pipelines on use: what moves is stopped whatever the results of the
+-- messages before it, and then the device is cut.
 use Rattle.std.proofs.Common.{◌≡◌, refl, sym, ap, subst, ◌∙◌, ℕ, ◌-◌, ◌<◌, Bool, true, false, cond, List, [], ◌∷◌, ◌++◌, map, zip, Option, Some, None, Result, Ok, Err, ◌==◌, arith}
 use Rattle.std.specs.Prelude.{find, is_some}
 use Rattle.std.specs.List.{AllByRecursion, flat_map}
@@ -81,7 +81,7 @@ module _ (plan : Plan) where
       abbrev came_so : Outcome
       came_so = outcome_by m.fate (up_own plan u (Ordinary act))
 
-      -- what it came to, by whether acts go on
+      -- its result, by whether acts go on
       abbrev Then : List Meeting → Outcome → Bool → Type 0
       Then ms o goes =
           let a = performed (up_act_rules plan) (Ordinary act) u (lag_of met) o in

@@ -134,7 +134,7 @@ adds-ok id bytes h f same t is x =
     let one : there_in f ≡ t = cc is in
     ap (λ (y : There). is_among (ids_there y) x) (sym one) ∙ ap (λ (y : HeapView). is_among (map (λ (p : PieceView). p.id) y.pieces) x) same ∙ placed-among _ h.pieces x
 
--- what is told
+-- what is stated
 adds-told : (id : ℕ) (h : HeapView) (r : Result FwState ℤ) (t : There) → AddsPiece id h r → told r ≡ Ok t → (x : ℕ) → is_among (ids_there t) x ≡ ((id == x) || is_among (map (λ (p : PieceView). p.id) h.pieces) x)
 unfolding AddsPiece
 adds-told id h r t adds is = adds t is

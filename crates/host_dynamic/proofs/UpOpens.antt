@@ -1,4 +1,4 @@
--- Opening a stream over any device: what the messages that make and unmake came to is what the rules say.
+-- Opening a stream over any device: the results of the messages that make and unmake are what the rules say.
 use Rattle.std.proofs.Common.{◌≡◌, refl, sym, ap, subst, ◌∙◌, ℕ, List, [], ◌∷◌, ◌++◌, map, false, not, Some, None, Ok, Err}
 use Rattle.std.specs.Prelude.{is_some}
 use Rattle.std.specs.List.{filter_map}
@@ -74,7 +74,7 @@ module _ {D : Type 0} (means : Meaning D) (plan : Plan) (sound : IsSound plan) (
     abbrev Any : There → Type 0
     Any t = Unit {0}
 
-    -- what is kept after a call that came to this
+    -- what is kept after a call with this result
     abbrev pub opened_state : Outcome → Record → World D → UpState
     opened_state (Ok done) kept' v = with_stream_open plan host n (record { kept = kept'; up = s.up; there = there_on (means.on v.device) })
     opened_state (Err fault) kept' v = record { kept = kept'; up = s.up; there = there_on (means.on v.device) }
@@ -216,7 +216,7 @@ module _ {D : Type 0} (means : Meaning D) (plan : Plan) (sound : IsSound plan) (
           unmade-then kept' v (Ok done) un = unmade-all un.passed un.sent (Ok tt) un.did kept' v refl un.ends.0 un.ends.1
           unmade-then kept' v (Err fault) un = unmade-cut un.passed un.sent (Err fault) un.did kept' v fault refl un.ends
 
-        -- ---- by what making came to
+        -- ---- by the result of making
 
         opens-by : (o : Outcome) → outcome ≡ o → (made : List ℕ) → made ≡ filter_map widget_made passed → (kept' : Record) (v : World D) (result : Outcome) → AfterMaking means plan heap made o s.kept kept' mid v result → HasOpened kept' w v result
         opens-by (Ok done) is_o made are kept' v result (said, kept_same, stays) = subst (HasOpened kept' w v) (sym said) (all-made kept' v is_o kept_same stays)

@@ -1,4 +1,4 @@
--- Resuming over any device: what the messages came to is what the rules say.
+-- Resuming over any device: the results of the messages are what the rules say.
 use Rattle.std.proofs.Common.{◌≡◌, refl, sym, ap, subst, ◌∙◌, ℕ, List, [], ◌∷◌, ◌++◌, map, false, Some, None, Ok, Err}
 use Rattle.std.specs.Prelude.{is_some}
 use Rattle.std.specs.List.{zip, flat_map}

@@ -88,7 +88,7 @@ module _ (plan : Plan) where
       abbrev came_so : Outcome
       came_so = outcome_by m.fate (up_own plan u act)
 
-      -- what it came to, by whether acts go on
+      -- its result, by whether acts go on
       abbrev Behind : List Meeting → Outcome → Bool → Type 0
       Behind ms o goes =
           let a = performed (up_act_rules plan) act u (lag_of met) o in

@@ -1,4 +1,4 @@
--- What is told where only a part is up: a control whose component is up is set there as the record says; and a suspend and a `get`, by their
+-- What is sent or read where only a part is up: a control whose component is up is set there as the record says; and a suspend and a `get`, by their
 -- tests.
 use Rattle.std.proofs.Common.{◌≡◌, refl, sym, ap, subst, ◌∙◌, ℕ, ◌<◌, List, [], length, true, Option, Some, None, Err}
 use Rattle.std.specs.Option.{option_map}

@@ -41,7 +41,7 @@ module _ (plan : Plan) where
   runs-on Mid End Last s (act ∷ acts) more runs then =
       (runs.0, runs.1, λ free. runs-on Mid End Last (with_there s (there_after plan (Ordinary act) s.there)) acts more (runs.2 free) (λ t end. then t end))
 
-  -- what a walk came to
+  -- the result of a walk
   abbrev pub Met : (There → Type 0) → (There → Type 0) → Outcome → There → Type 0
   Met Mid End (Ok passed) t = End t
   Met Mid End (Err fault) t = Mid t

@@ -11,7 +11,7 @@ use Rattle.host_widgets.specs.Host.{Outcome, verdict}
 use Rattle.host_widgets.specs.HostActs.{Act, Make}
 use Rattle.host_dynamic.specs.DynamicActs.{DynamicAct, Ordinary, is_control_of, dynamic_message}
 
--- these were sent, one exchange each, up to the first that did not pass, and came to this; those in front of it passed
+-- these were sent, one exchange each, up to the first that did not pass, with this result; those in front of it passed
 abbrev pub DynamicSent : {D : Type 0} → Meaning D → Plan → List DynamicAct → List DynamicAct → World D → World D → Outcome → Type 0
 DynamicSent means plan [] passed w v result = (passed ≡ []) × (v ≡ w) × (result ≡ Ok tt)
 DynamicSent {D} means plan (act ∷ acts) passed w v result =

@@ -30,7 +30,7 @@ pub record Unmade {D : Type 0} (means : Meaning D) (plan : Plan) (heap : ℕ) (i
   pub did : DynamicSent means plan (unmaking_acts plan ids) passed w sent result
   pub ends : CutAtFailure means heap result kept kept' sent v
 
--- what comes after what was made, by what making came to
+-- what comes after what was made, by the result of making
 abbrev pub AfterMaking : {D : Type 0} → Meaning D → Plan → ℕ → List ℕ → Outcome → Record → Record → World D → World D → Outcome → Type 0
 AfterMaking means plan heap made (Ok passed) kept kept' w v result = (result ≡ Ok tt) × (kept' ≡ kept) × (v ≡ w)
 AfterMaking means plan heap made (Err (Refused e)) kept kept' w v result =

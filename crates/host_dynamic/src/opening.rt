@@ -151,7 +151,7 @@ fn unmake_or_cut<P: Dsp>(side: &mut Side<'_, P>, made: &[u32]) -> Result<(), Hos
     }
 }
 
-// What a refusal comes to whose pipelines were unmade: a failed link is told before it.
+// The result of a refusal whose pipelines were unmade: a failed link is reported before it.
 fn first_told(refusal: HostFault, done: Result<(), HostFault>) -> Result<(), HostFault>
     ensures { result ≡ first_of (Err refusal) done }
 {

@@ -244,7 +244,7 @@ module _ (plan : Plan) (heap : ℕ) where
     here-by [] each = tt
     here-by (s ∷ ss) each = (each 0 (omega arith), here-by ss (λ k low. each (suc k) (omega (arith, low))))
 
-    -- all that moves is stopped, and the firmware is told
+    -- all that moves is stopped, and the message that the power will be cut is sent
     pub going-down : (kept : Record) → IsRecordOf plan kept → AreDown kept (go_down plan kept)
     going-down kept is = downwards plan.streams kept.streams kept is (streams-ascend plan sound) (here-by plan.streams (place-has plan sound))
         (stand-by kept plan.streams kept.streams (λ k low. place-all plan sound k low (λ x. x.found ≡ (get_or kept.streams k closed).found) kept.streams refl))

@@ -147,7 +147,7 @@ module _ {D : Type 0} (means : Meaning D) (plan : Plan) (goes_on : Bool) where
       by true (r, more, is) go = go r more
       by false (same, is) go = subst Ready (sym same) then_ready
 
-  -- ---- the turns of a loop: what is to come decides what all came to
+  -- ---- the turns of a loop: what is to come decides the result of all
 
   abbrev pub Ahead : List Act → World D → List Act → World D → Outcome → Type 0
   Ahead all w acts m so_far = (v : World D) (o : Outcome) → Turn acts m v o → Turn all w v (first_of so_far o)

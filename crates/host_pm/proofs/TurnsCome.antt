@@ -120,7 +120,7 @@ module _ (plan : Plan) (heap : ℕ) (goes_on : Bool) (End : View → Type 0) (So
             rest) rest)
             (exchange-came means (message_spelling (act_message plan act)) answer w mid f on x).way
 
-        -- what is left to say, by what the act came to and whether acts go on after it
+        -- what is left to say, by the result of the act and whether acts go on after it
         Left : Outcome → Bool → Type 0
         Left p b =
             let a = performed (act_rules plan heap) act kept (lag_of met.0) p in

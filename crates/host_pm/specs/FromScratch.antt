@@ -1,4 +1,4 @@
--- A record told to a fresh firmware: all acts that lead from nothing to what it says.
+-- A record sent to a fresh firmware: all acts that lead from nothing to what it says.
 use Rattle.std.specs.Prelude.{◌≡◌, ℕ, List, [], ◌∷◌, ◌++◌, Ok}
 use Rattle.std.specs.List.{zip, flat_map}
 use Rattle.stream_law.specs.State.{FwState, view_of}

@@ -20,7 +20,7 @@ use mbox_link::Dsp;
 use sof_io::{Inputs, Outputs};
 use tplg_plan::Plan;
 
-// Whether messages go on after one that came to this: also after a refusal.
+// Whether messages go on after one with this result: also after a refusal.
 fn goes_on(done: &Result<(), HostFault>) -> bool
     ensures { result ≡ goes_past true done.now }
 {
@@ -101,7 +101,7 @@ fn send_down<P: Dsp>(
     first_of(so_far, saved)
 }
 
-// Sends all messages, and cuts the device whatever they came to.
+// Sends all messages, and cuts the device whatever their results.
 fn go_down<P: Dsp>(side: &mut Side<'_, P>) -> Result<(), HostFault>
     requires ready { IsReady P.means side.old }
     requires power { side.old.kept.now.power ≡ Power.On }
@@ -116,7 +116,7 @@ fn go_down<P: Dsp>(side: &mut Side<'_, P>) -> Result<(), HostFault>
     sent
 }
 
-/// Suspends the device: each stream that runs or is paused is stopped, in the order of the plan, then the firmware is told
+/// Suspends the device: each stream that runs or is paused is stopped, in the order of the plan, then a message says
 /// that the power will be cut, and it is cut. The record says that the power is off, and streams that ran or were paused are
 /// prepared. It takes no memory.
 ///

@@ -104,7 +104,7 @@ module _ {D : Type 0} (means : Meaning D) (plan : Plan) (heap : ℕ) (goes_on : 
             (stands-by (Some f) (Some before.0) (Some next) w.io before.1 before.1 (replicate m.lag Tick) now ticked-on (still-stands (Some before.0) (Some next) now tt l.stands before.1));
       }
 
-  -- ---- by what the exchange came to
+  -- ---- by the result of the exchange
 
   abbrev by_said : Outcome → Type 0
   by_said o = Then o

@@ -1,4 +1,4 @@
--- One act, over any device: what its exchange came to, and that the two sides agree after it.
+-- One act, over any device: the result of its exchange, and that the two sides agree after it.
 use Rattle.std.proofs.Common.{◌≡◌, ⊎_elim, ℕ, ◌-◌, List, Option, Some, None, Ok, Err, refl, sym, ap, subst, ◌∙◌}
 use Rattle.std.specs.Option.{option_map}
 use Rattle.sof_base.specs.Ports.{Io}

@@ -1,4 +1,4 @@
--- What an act's exchange came to, where the firmware answers the act as the record says.
+-- The result of an act's exchange, where the firmware answers the act as the record says.
 use Rattle.std.proofs.Common.{◌≡◌, ⊎_elim, refl, sym, ap, ◌∙◌, ℕ, zero, suc, ◌-◌, List, Option, Some, None, Result, Ok, Err, ℤ}
 use Rattle.std.specs.Prelude.{is_some}
 use Rattle.sof_base.specs.declared.errno.Errno.{Errno}
@@ -124,7 +124,7 @@ pub record IsAnswered (plan : Plan) (heap : ℕ) (kept : Record) (act : Act) : T
   pub passes : (f : FwState) → came_to (verdict (Some (done_reply (body_of f (decoded (message_spelling (act_message plan act))))))) ≡ Ok tt
   pub answers : (f : FwState) → view_of f ≡ record_view plan kept → (next : FwState) × (row f (act_message plan act) ≡ answer_by (own plan heap kept act) next)
 
--- so its exchange came to what the record says
+-- so the result of its exchange is what the record says
 pub act-comes : {D : Type 0} (means : Meaning D) (plan : Plan) (heap : ℕ) (kept : Record) (act : Act) → IsAnswered plan heap kept act → (w v : World D) (f : FwState) (on : means.on w.device ≡ Some f) → view_of f ≡ record_view plan kept →
     (answer : Option (List ℕ)) (x : Exchanged means (message_spelling (act_message plan act)) answer w v) → Did means plan heap kept act w v f on answer x
 act-comes means plan heap kept act is w v f on shows answer x =

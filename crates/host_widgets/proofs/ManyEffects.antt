@@ -96,7 +96,7 @@ module _ {D : Type 0} (means : Meaning D) (plan : Plan) (heap : ℕ) (kept : Rec
 
   -- ---- acts that leave the record, one after another
 
-  -- an act that came to this, and those after it
+  -- an act with this result, and those after it
   abbrev pub GoesOn : Act → List Act → Meeting → List Meeting → World D → World D → Outcome → Type 0
   GoesOn act acts m ms mid v o = let a = came_by (act_rules plan heap) act kept (lag_of m) o in Onwards (goes_past false a.outcome) ms mid v (ActsDid means (act_rules plan heap) false a.kept acts ms mid v)
 
@@ -104,7 +104,7 @@ module _ {D : Type 0} (means : Meaning D) (plan : Plan) (heap : ℕ) (kept : Rec
   abbrev pub outcome_from : Act → List Act → Meeting → List Meeting → Outcome → Outcome
   outcome_from act acts m ms o = let a = came_by (act_rules plan heap) act kept (lag_of m) o in (followed_by act a ms (goes_past false a.outcome) (walk (act_rules plan heap) false next_of a.kept ms acts)).outcome
 
-  -- what they met, what they came to, and where all passed the state that they leave
+  -- what they met, their results, and where all passed the state that they leave
   pub record Followed (acts : List Act) (w v : World D) (g : FwState) (t : ℕ) (result : Outcome) : Type 0 where
     pub meetings : List Meeting
     pub did : ActsDid means (act_rules plan heap) false kept acts meetings w v

@@ -1,4 +1,4 @@
--- What one message came to.
+-- The result of one message.
 use Rattle.std.proofs.Common.{◌≡◌, ℕ, true, false, List, Result, Ok, Err, refl, sym, ap, subst, ◌∙◌}
 use Rattle.ipc3_model.specs.declared.reply.Reply.{Reply}
 use Rattle.mbox_link.specs.Calls.{World, Meaning, Cut, Exchanged, Did}

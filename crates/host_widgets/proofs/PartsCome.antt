@@ -1,4 +1,4 @@
--- The parts of a blob over any device that shows a record: what their exchanges came to, and what the device shows then.
+-- The parts of a blob over any device that shows a record: the results of their exchanges, and what the device shows then.
 use Rattle.std.proofs.Common.{◌≡◌, ⊎_elim, refl, sym, ap, subst, ◌∙◌, ℕ, zero, suc, ◌+◌, ◌-◌, ◌<◌, ◌≤◌, ◌^◌, Bool, true, false, cond, ◌==◌, List, [], ◌∷◌, map, Option, Some, Result, Ok, Err, MatchResult, arith}
 use Rattle.std.specs.Prelude.{find}
 use Rattle.std.specs.List.{range_with_len}
@@ -157,7 +157,7 @@ module _ {D : Type 0} (means : Meaning D) (plan : Plan) (heap : ℕ) (kept : Rec
     pub left : (walk (act_rules plan heap) false next_of kept meetings acts).kept ≡ left_by result
     pub ends : Ending v result
 
-  -- an act that came to this, and those after it
+  -- an act with this result, and those after it
   abbrev GoesOn : Act → List Act → Meeting → List Meeting → World D → World D → Outcome → Type 0
   GoesOn act acts m ms mid v o = let a = came_by (act_rules plan heap) act kept (lag_of m) o in Onwards (goes_past false a.outcome) ms mid v (ActsDid means (act_rules plan heap) false a.kept acts ms mid v)
 

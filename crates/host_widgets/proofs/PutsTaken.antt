@@ -259,7 +259,7 @@ put-one plan sound heap kept id (Blob most initial) r ks live there set takes ap
     before : Graph
     before = put_graph plan kept ((with_kind id (Blob most initial), r) ∷ ks)
 
-    -- one without a blob is told nothing
+    -- one without a blob is sent nothing
     none : r.blob ≡ [] → Goes plan heap kept (standing plan heap before) then h
     none bare = subst (λ (g : Graph). Goes plan heap kept (standing plan heap g) then h)
         (sym (kept-graph plan sound kept id (Blob most initial) r live there set ks apart (λ w kind is. ap (λ (x : Kind). first_setting (component_words x (Some (with_kind id (Blob most initial))) w)) is.0 ∙ ap settings.Blob (sym bare)))) more

@@ -49,7 +49,7 @@ still-bytes whole (Tick ∷ ms) all p q led = absurd all
 abbrev pub with_more : (ℕ → List ℕ) → OutputView → OutputView
 with_more more o = record { slot = o.slot; bytes = o.bytes ++ more o.slot }
 
--- Between two pasts these bytes came to each slot, and the outputs gained them.
+-- Between two pasts each slot got these bytes, and the outputs gained them.
 pub record Gained (old new : List OutputView) (p q : Past) : Type 0 where
   pub more : ℕ → List ℕ
   pub bytes : (slot : ℕ) → list_of q.bytes slot ≡ list_of p.bytes slot ++ more slot

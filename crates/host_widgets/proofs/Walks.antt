@@ -38,7 +38,7 @@ failing fault = Err fault
 -- ---- acts that were sent, with their calls
 
 module _ {D : Type 0} (means : Meaning D) (plan : Plan) where
-  -- one act, by what its exchange came to
+  -- one act, by the result of its exchange
   one_came : (m v : World D) (r : Result Reply HostFault) → v ≡ m → MatchResult r (λ reply. (v ≡ m) × (came_to r ≡ Ok tt)) (λ fault. (v ≡ m) × (came_to r ≡ Err fault))
   one_came m v (Ok reply) same = (same, refl)
   one_came m v (Err fault) same = (same, refl)

@@ -18,7 +18,7 @@ use Rattle.host_widgets.specs.Walk.{goes_past}
 
 -- ---- one act
 
--- what an exchange came to, without its reply
+-- the result of an exchange, without its reply
 abbrev pub came_to : Result Reply HostFault → Outcome
 came_to (Ok reply) = Ok tt
 came_to (Err fault) = Err fault

@@ -15,7 +15,7 @@ use Rattle.host_widgets.specs.Host.{Outcome, verdict}
 use Rattle.ipc3_model.specs.Messages.{message_spelling}
 use Rattle.host_widgets.specs.ActMessages.{act_message}
 
--- these were sent, up to the first that did not pass, and came to this
+-- these were sent, up to the first that did not pass, with this result
 abbrev pub ActsSent : {D : Type 0} → Meaning D → Plan → List Act → World D → World D → Outcome → Type 0
 ActsSent means plan [] w v result = (v ≡ w) × (result ≡ Ok tt)
 ActsSent {D} means plan (act ∷ acts) w v result =
@@ -27,7 +27,7 @@ abbrev pub is_down : {T : Type 0} → Result T HostFault → Bool
 is_down (Err LinkDown) = true
 is_down answer = false
 
--- what came to this leaves the record so far; a failed link takes it down, and cuts the device
+-- acts with this result leave the record so far; a failed link takes it down, and cuts the device
 abbrev pub PlainEnd : {D : Type 0} → Meaning D → ℕ → Outcome → Record → Record → World D → World D → Type 0
 PlainEnd means heap result kept kept' w v =
     let end = plain_end (λ now. now) kept result in (kept' ≡ end.0) × Led means w (calls_of heap end.1) v

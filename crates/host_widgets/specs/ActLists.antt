@@ -62,7 +62,7 @@ stop_by host found = []
 abbrev pub stop_acts : StreamPlan × StreamRec → List Act
 stop_acts (s, r) = stop_by s.host r.found
 
--- all that moves is stopped, and the firmware is told that the power will be cut
+-- all that moves is stopped, and a message says that the power will be cut
 abbrev pub go_down : Plan → Record → List Act
 go_down plan kept = flat_map stop_acts (zip plan.streams kept.streams) ++ Save ∷ []
 

@@ -27,7 +27,7 @@ IsBare request = (f : FwState) → body_of f (decoded request) ≡ Nothing
 abbrev pub IsRead : Option (List ℕ) → Reply → Type 0
 IsRead answer reply = (option_map decoded_reply answer ≡ Some (Ok reply)) ⊎ ((fault : CodecFault) × (option_map decoded_reply answer ≡ Some (Err fault)) × (reply ≡ plainly_done))
 
--- What one exchange of these bytes, and no other call, came to. It passes with a reply whose error is 0, it is refused
+-- The result of one exchange of these bytes, and no other call. It passes with a reply whose error is 0, it is refused
 -- exactly with a reply whose error is negative, and the link is down exactly where it failed. A reply without a body is read.
 pub record Sent {D : Type 0} (means : Meaning D) (request : List ℕ) (w v : World D) (result : Result Reply HostFault) : Type 0 where
   pub answer : Option (List ℕ)

@@ -53,7 +53,7 @@ abbrev pub brought_end : (Record → Record) → Record → Record → Outcome �
 brought_end done failed now (Ok passed) = (done now, [])
 brought_end done failed now (Err fault) = (failed, Cut ∷ [])
 
--- by the record at the command's start, the record so far, and what its acts came to
+-- by the record at the command's start, the record so far, and the result of its acts
 abbrev pub end_by : Manner → Plan → (Record → Record) → Record → Record → Outcome → Record × List Moment
 end_by Plain plan done start now outcome = plain_end done now outcome
 end_by Loading plan done start now outcome = brought_end done (first_record plan) now outcome
@@ -100,7 +100,7 @@ Ends means plan heap o kept kept' w v walked =
     let end = end_by o.manner plan o.done kept walked.kept walked.outcome in (kept' ≡ end.0) × Led means w (calls_of heap end.1) v
 
 -- Its calls were made and no others: those of its first moments, one exchange for each act up to the end of the walk, and those of
--- its last moments. By what the messages met there, it came to this, and left this record.
+-- its last moments. By what the messages met there, its result is this, and it left this record.
 pub record Carried {D : Type 0} (means : Meaning D) (plan : Plan) (heap : ℕ) (o : Order) (kept kept' : Record) (w v : World D) (result : Outcome) : Type 0 where
   pub meetings : List Meeting
   pub begun : World D

@@ -1,4 +1,4 @@
--- What a command does step by step: acts are sent, and by what they came to it goes on.
+-- What a command does step by step: acts are sent, and by their results it goes on.
 use Rattle.std.specs.Prelude.{◌≡◌, ℕ, List, [], ◌++◌, Bool, Option, Some, None, Ok, Err}
 use Rattle.stream_law.specs.Past.{Moment}
 use Rattle.mbox_link.specs.Calls.{World, Meaning, Led}
@@ -15,7 +15,7 @@ use Rattle.host_widgets.specs.ActCalls.{ActsDid, next_of, calls_of}
 use Rattle.host_widgets.specs.Orders.{Order, goes_on_after_refusal, end_by}
 
 -- A routine is finished, with this kept and these last moments; or acts are sent, up to the first after which they do not go on, and
--- by what is kept then and what they came to there is another routine.
+-- by what is kept then and their result there is another routine.
 pub data Routine (S A : Type 0) : Type 0 where
   Finished : (kept : S) (moments : List Moment) → Routine S A
   Sending : (acts : List A) (goes_on : Bool) (then : S → Outcome → Routine S A) → Routine S A
@@ -24,7 +24,7 @@ pub data Routine (S A : Type 0) : Type 0 where
 abbrev pub not_begun : {S A Q : Type 0} → S → Q → Walked S A Q
 not_begun kept q = record { outcome = Ok tt; kept = kept; moments = []; sent = []; queue = q }
 
--- of all that was sent a failed link is told first, and else the first refusal
+-- of all that was sent a failed link is reported first, and else the first refusal
 abbrev pub followed : {S A Q : Type 0} → Walked S A Q → Walked S A Q → Walked S A Q
 followed before later = record {
   outcome = first_of before.outcome later.outcome;
@@ -71,7 +71,7 @@ RoutineDid {D} means rules heap kept (Sending acts goes_on then) ms w v =
     (let now = walk rules goes_on next_of kept early acts in RoutineDid means rules heap now.kept (then now.kept now.outcome) late mid v)
 
 -- A job's calls were made and no others: those of its first moments, one exchange for each act up to the end of each walk, and those
--- of its last moments. By what the messages met there, it came to this, and this is kept.
+-- of its last moments. By what the messages met there, its result is this, and this is kept.
 pub record JobDone {D S A : Type 0} (means : Meaning D) (rules : ActRules S A) (heap : ℕ) (job : Job S A) (kept' : S) (w v : World D) (result : Outcome) : Type 0 where
   pub meetings : List Meeting
   pub begun : World D

@@ -1,4 +1,4 @@
--- What a call does by its test, and what acts came to.
+-- What a call does by its test, and the result of acts.
 use Rattle.std.specs.Prelude.{◌≡◌, ℕ, List, Bool, Option, Some, None, Err}
 use Rattle.mbox_link.specs.Calls.{World, Meaning}
 use Rattle.tplg_plan.specs.declared.plans.Plan.{Plan}
@@ -13,7 +13,7 @@ use Rattle.host_widgets.specs.ActCalls.{ActsDid, next_of}
 use Rattle.host_widgets.specs.Orders.{Order, Carried}
 
 -- These acts were sent by one exchange each, up to the end of the walk, and no other call was made. By what the messages met there,
--- they came to this, and left this record.
+-- they had this result, and left this record.
 pub record ActsCame {D : Type 0} (means : Meaning D) (plan : Plan) (heap : ℕ) (past_refusals : Bool) (acts : List Act) (kept kept' : Record) (w v : World D) (result : Outcome) : Type 0 where
   pub meetings : List Meeting
   pub did : ActsDid means (act_rules plan heap) past_refusals kept acts meetings w v

@@ -7,7 +7,7 @@ use Rattle.mbox_link.specs.Meetings.{Meeting}
 use Rattle.host_widgets.specs.ActRules.{ActRules}
 use Rattle.host_widgets.specs.OneAct.{Performed, one_act}
 
--- What acts came to: the first fault, or that the link is down; what is kept after them; the moments of the device; the acts
+-- The result of acts: the first fault, or that the link is down; what is kept after them; the moments of the device; the acts
 -- whose messages were sent; and what gives the meetings of later messages.
 pub record Walked (S A Q : Type 0) : Type 0 where
   pub outcome : Outcome
@@ -22,7 +22,7 @@ goes_past goes_on (Ok done) = true
 goes_past goes_on (Err (Refused e)) = goes_on
 goes_past goes_on (Err fault) = false
 
--- a failed link is told before a refusal, and the first refusal before later ones
+-- a failed link is reported before a refusal, and the first refusal before later ones
 abbrev pub first_of : Outcome → Outcome → Outcome
 first_of (Ok done) rest = rest
 first_of (Err fault) (Err LinkDown) = Err LinkDown

@@ -178,7 +178,7 @@ pub fn bring_up<P: Dsp>(
     requires controls { AreControls plan.now.controls kept.old.controls }
     requires booted { P.means.on dsp.old ≡ Some (fresh heap) }
     requires room { HasRoom (61440 * P.means.pending dsp.old) out.old }
-    // What its messages met, and what they came to.
+    // What its messages met, and their results.
     ensures acts { ActsCame P.means plan.now heap false (bring_up plan.now kept.old) kept.old kept.new (world dsp.old io.old out.old) (world dsp.new io.new out.new) result }
     // Once all have passed, the device keeps the plan with what the record sets.
     ensures left { BroughtUp P.means plan.now heap kept.old dsp.old result dsp.new }

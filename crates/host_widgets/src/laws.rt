@@ -11,8 +11,8 @@ ghost use Rattle.host_widgets.specs.WalkRows.{closing, going_down, meets, one_st
 /// Rows of walks over a plan of one stream that runs; nothing runs here.
 /// - A close that is refused at its second message: the stream was stopped, and stays prepared.
 /// - A close whose first message is lost: no second is sent, and the record stays.
-/// - Going down with a first message that is refused: the second is sent, and the first refusal is told; where that one is
-///   dropped, the failed link is told in its place.
+/// - Going down with a first message that is refused: the second is sent, and the first refusal is reported; where that one is
+///   dropped, the failed link is reported in its place.
 pub fn walk_rows()
     ensures refused { (closing (meets 2 (fates.Refuse (negsuc 4)) ∷ [])).outcome ≡ Err (Refused (errno (negsuc 4))) }
     ensures stopped { (closing (meets 2 (fates.Refuse (negsuc 4)) ∷ [])).kept ≡ one_stream Prepared }

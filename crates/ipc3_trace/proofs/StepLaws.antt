@@ -21,7 +21,7 @@ use Rattle.ipc3_trace.specs.Steps.{Quiescent, quiescent}
 abbrev playing : Quiescent → ℕ → List RingView → List History → FwState
 playing q clock rings histories = record { heap = q.heap; clock = clock; graph = q.graph; streams = q.streams; rings = rings; histories = histories; staging = q.staging }
 
--- what a row came to, without audio
+-- the result of a row, without audio
 unfoldable quieted : Result FwState ℤ → Result Quiescent ℤ
 quieted (Ok f) = Ok (quiescent f)
 quieted (Err e) = Err e

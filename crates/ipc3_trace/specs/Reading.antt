@@ -52,6 +52,6 @@ unfoldable pub found_from : ℕ → List ℕ → ℕ → List Entry × Option Tr
 found_from zero bytes at = ([], None)
 found_from (suc n) bytes at = found_then (next_in bytes at) (λ next. found_from n bytes next)
 
--- the records of bytes up to their end or their first fault, which is told; each takes eight bytes at least
+-- the records of bytes up to their end or their first fault, which is reported; each takes eight bytes at least
 abbrev pub trace_in : List ℕ → List Entry × Option TraceFault
 trace_in bytes = found_from (suc (length bytes)) bytes 0

@@ -1,4 +1,4 @@
-//! Traces: what a device was told and what it answered, as records in bytes; how bytes are read as records, what is said of a record,
+//! Traces: what a device was sent and what it answered, as records in bytes; how bytes are read as records, what is said of a record,
 //! and a device that keeps the records of its calls.
 #![tactic(auto)]
 

@@ -63,7 +63,7 @@ fn a_trace_that_is_cut_is_told(rt: HostRuntime) {
     }
 }
 
-// What is told of the trace with this word, which is no kind's number and no size, at a place.
+// What is reported of the trace with this word, which is no kind's number and no size, at a place.
 fn told(at: usize, word: u32) -> (usize, Option<TraceFault>) {
     let (count, start) = record_of(at);
     match at.saturating_sub(start) {

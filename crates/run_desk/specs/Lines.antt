@@ -30,7 +30,7 @@ topology_fault_words OutOfMemory = []
 abbrev pub script_line : ℕ → List ℕ → List ℕ
 script_line line cause = with_newline (codes "script " ++ decimal line ++ codes " " ++ cause)
 
--- what is said where the files make no run; a rule that fails is told with its least item
+-- what is said where the files make no run; a rule that fails is reported with its least item
 abbrev pub halt_line : Halt → List ℕ
 halt_line (halts.Script line cause) = script_line line (cause_words cause)
 halt_line (halts.Ticks sum) = with_newline (codes "ticks " ++ decimal sum)

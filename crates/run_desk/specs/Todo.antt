@@ -24,7 +24,7 @@ pub data Todo : Type 0 where
   Refill : (next : Todo) → Todo
   -- a message is given to a device outside a session, and what comes next is by its reply
   Send : (message : List ℕ) (next : Option (List ℕ) → Todo) → Todo
-  -- memory may be wanting here
+  -- memory may be missing here
   Free : (next : Todo) → Todo
 
 -- a line is said and no other call is made; where the desk fails, the status is 3

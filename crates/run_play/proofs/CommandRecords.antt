@@ -184,7 +184,7 @@ module _ {P : Type 0} (device : Meaning P) (C : Type 0) (plan : Plan) (heap : �
     abbrev deeds_at : Record → Queue → List Act → List Deed
     deeds_at kept q acts = walk_deeds plan heap goes_on (next_meeting calm) kept q acts
 
-    -- what comes after an act, by what it came to and what is due then
+    -- what comes after an act, by its result and what is due then
     abbrev behind : List Act → Performed Record × Queue → List Deed
     behind acts x = if goes_past goes_on x.0.outcome then deeds_at x.0.kept x.1 acts else []
 
@@ -193,7 +193,7 @@ module _ {P : Type 0} (device : Meaning P) (C : Type 0) (plan : Plan) (heap : �
       abbrev a : Performed Record
       a = one_act R kept act m
 
-      -- where the device does nothing of its own accord, the act came to what was due
+      -- where the device does nothing of its own accord, the result of the act is what was due
       same : C → ◌≡◌ {A = Performed Record × Queue} (a, queue_of mid.device) (one_act R kept act (next_due w.device).0, (next_due w.device).1)
       same c =
           let next = next-is T R kept act m w mid did none fated.held calm (so c) in

@@ -320,7 +320,7 @@ kept_on means holds empties command seat left seat' inputs inputs' outputs outpu
   rest = rest;
 }
 
--- the same slots, told otherwise
+-- the same slots, stated otherwise
 module _ {D P : Type 0} (means : DeskMeaning D) (by : Turning (Life P)) where
   pub same_slots : (phase : Todo → Todo) (done : Bool) (old new : D) (p : Life P) (seat : Seat P) (inputs : List InputView) (slots slots' : List ℕ) → slots' ≡ slots → Phase means by phase done old p new (Seated seat inputs slots) → Phase means by phase done old p new (Seated seat inputs slots')
   same_slots phase done old new p seat inputs slots slots' same made = subst (λ (xs : List ℕ). Phase means by phase done old p new (Seated seat inputs xs)) (sym same) made

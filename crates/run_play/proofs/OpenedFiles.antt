@@ -126,7 +126,7 @@ module _ {D : Type 0} (means : DeskMeaning D) where
     pub goes : DoneBy todo turns calls status
     pub led : DeskLed means mid calls new
 
-  -- one that told the same, where nothing was written
+  -- one that gave the same, where nothing was written
   pub record Onwards (todo : Todo) (turns : List Turn) (status : ℕ) (old new : D) : Type 0 where
     pub mid : D
     pub next : Next todo turns status mid new
@@ -140,7 +140,7 @@ module _ {D : Type 0} (means : DeskMeaning D) where
       by calls (inl goes) led = inl record { calls = calls; goes = goes; led = led }
       by calls (inr says) led = inr (wanting turns calls status old new says led)
 
-  -- a load of a file that is told and fits
+  -- a load of a file whose bytes are stated and fit
   module _ (name : List ℕ) (limit : ℕ) (line : List ℕ) (rest : List ℕ → Todo) (turns : List Turn) (status : ℕ) (old new : D) (bytes : List ℕ) (told : means.holds old name ≡ Some bytes) (short : length bytes ≤ limit) where
     asks : (calls : List DeskCall) → DoneBy (Ask name limit line rest) turns calls status → DeskLed means old calls new → Onwards (rest bytes) turns status old new ⊎ Stopped turns status old new
     asks [] goes led = absurd goes

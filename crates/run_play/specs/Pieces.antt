@@ -27,7 +27,7 @@ BreaksOff (part ∷ parts) (piece ∷ pieces) =
     ⊎ ((part ≡ piece) × BreaksOff parts pieces)
 BreaksOff _ _ = ⊥
 
--- Units, by what each came to: the pieces of each were written in their order, and the status is 0 after the last; or the desk
+-- Units, by the result of each: the pieces of each were written in their order, and the status is 0 after the last; or the desk
 -- failed at a piece of the last that was made, or at a read before the next, and the status is 3.
 abbrev pub AreWritten : List Round → List Out → List Piece → ℕ → Type 0
 AreWritten [] [] made status = (made ≡ []) × (status ≡ 0)

@@ -76,7 +76,7 @@ prepared_todo on_use heap trace (Halted why) = Stop (halt_line why) (halt_status
 
 -- ---- the words
 
--- the topology is loaded, and then the script; memory for all that comes after may be wanting, before any file is opened
+-- the topology is loaded, and then the script; memory for all that comes after may be missing, before any file is opened
 abbrev pub play : Form → Todo
 play form =
     Ask form.topology 1048576 (codes "too long topology\n") (λ topology.

@@ -282,7 +282,7 @@ module _ {D P : Type 0} (means : DeskMeaning D) (dsp : Meaning P) (es : List Ent
       let all = went.1 (λ on. lines_todo (replay_lines (tally_of es) on) End) [] said.calls status (Bare q) refl goes in
       record { turns = all.0; turned = all.1; played = record { calls = said.calls; led = said.led; goes = all.2 } }
 
-  -- it was told why no more were given
+  -- it was reported why no more were given
   pub replayed-stopped : (old new : D) (p q : P) (why : Stopped) (status : ℕ) → WentThrough dsp es end p (Err why) q → Played means (stopped_todo why) old [] status new →
       RanOn means (Turned dsp) (replayed_todo (dsp.most p) es end) old (Bare p) status new (Bare q)
   replayed-stopped old new p q why status went said =

@@ -111,11 +111,11 @@ module _ {P : Type 0} (dsp : Meaning P) (p : P) (last : Life P) (turns : List Tu
       want (inr five) = inr (inl (five.0, over, λ i. is i ∷ five.1 i))
 
   module _ (none : dsp.pending p ≡ 0) (calm : Calm dsp p (device_of last)) where
-    -- what the records came to
+    -- the result of the records
     came : (made : List DeskCall) (status : ℕ) → DoneBy (replayed_todo room es end) turns made status → Came dsp room end (last_lines es) (last_alone es) (replay_fault room es end) (steps_of es) made status last
     came made status goes = walk dsp room end (last_lines es) (last_alone es) es p turns made status last None None 0 turned goes (ap (option_map quiescent) off) none calm
 
-    -- the bytes are told
+    -- the bytes are stated
     tells : AreBytes bytes → length bytes ≤ 16777216 → (call : DeskCall) → call ≡ Load name 16777216 (Ok bytes) → (made : List DeskCall) (status : ℕ) → DoneBy (replayed_todo room es end) turns made status → Verdict (call ∷ made) status
     tells are short call loads made status goes = by (replay_fault room es end) refl (came made status goes)
       where

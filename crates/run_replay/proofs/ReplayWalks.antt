@@ -1,4 +1,4 @@
--- Records that are given to a device whose counts do not rise: the first at fault is told, or none is and they lead where the device is.
+-- Records that are given to a device whose counts do not rise: the first at fault is reported, or none is and they lead where the device is.
 use Rattle.std.proofs.Common.{◌≡◌, refl, sym, ap, subst, ℕ, Bool, true, List, [], ◌∷◌, ◌++◌, Option, Some, None}
 use Rattle.std.specs.Prelude.{is_some, option_map}
 use Rattle.std.specs.Option.{option_or}
@@ -30,7 +30,7 @@ use Rattle.run_replay.proofs.ReplayTurns.{Given, first-given, first-calm, later-
 
 module _ {P : Type 0} (dsp : Meaning P) where
   module _ (room : ℕ) (end : Option TraceFault) (final : Bool → Todo) (alone : (on : Bool) (turns : List Turn) (made : List DeskCall) (status : ℕ) → DoneBy (final on) turns made status → turns ≡ []) where
-    -- the first record at fault was told, or none was and all were given
+    -- the first record at fault was reported, or none was and all were given
     abbrev pub Came : Option ReplayFault → Option FwState → List DeskCall → ℕ → Life P → Type 0
     Came None s made status last = DoneBy (final (is_some s)) [] made status × AreAlike (dsp.on (device_of last)) s
     Came (Some fault) s made status last = DoneBy (stopped_todo (At fault)) [] made status

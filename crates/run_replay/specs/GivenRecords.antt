@@ -1,4 +1,4 @@
--- What giving records to a device came to.
+-- The result of giving records to a device.
 use Rattle.std.specs.Prelude.{◌≡◌, ◌⊎◌, ℕ, ◌<◌, true, false, Bool, List, [], Option, Some, None, is_some, Result, Ok, Err}
 use Rattle.sof_desk.specs.Desk.{DeskCall}
 use Rattle.mbox_link.specs.Calls as calls

@@ -14,12 +14,12 @@ use Rattle.run_desk.specs.LinesTodo.{lines_todo}
 use Rattle.run_replay.specs.ReplayLines.{replay_fault_line}
 use Rattle.run_replay.specs.Replaying.{next_place, record_fault, end_fault, on_after, tally_of, replay_lines, device_line}
 
--- why no more records are given is told
+-- why no more records are given is reported
 abbrev pub stopped_todo : Stopped → Todo
 stopped_todo (At fault) = Stop (replay_fault_line fault) 2
 stopped_todo Device = Stop device_line 10
 
--- the first fault is told, where there is one
+-- the first fault is reported, where there is one
 abbrev pub without_fault : Option ReplayFault → Todo → Todo
 without_fault None rest = rest
 without_fault (Some fault) rest = stopped_todo (At fault)

@@ -77,7 +77,7 @@ module _ (lines : Topology → List (List ℕ)) (name bytes : List ℕ) where
       want (inr five) = inr (inl (five.0, over, λ i. is i ∷ five.1 i))
 
   module _ (are : AreBytes bytes) (short : length bytes ≤ 1048576) (call : DeskCall) (loads : call ≡ Load name 1048576 (Ok bytes)) (turns : List Turn) (calls : List DeskCall) (status : ℕ) where
-    -- why it is not right is told with status 2
+    -- why it is not right is reported with status 2
     two : (why : Halt) → IsWrong bytes why → halt_status why ≡ 2
     two (halts.Broken fault) is = refl
     two (halts.Rule rule item) is = refl
@@ -109,7 +109,7 @@ module _ (lines : Topology → List (List ℕ)) (name bytes : List ℕ) where
     free (inr says) = wanting turns calls (call ∷ calls) status says
 
   module _ {D : Type 0} (means : DeskMeaning D) where
-    -- the file is told
+    -- the file's bytes are stated
     judge : (turns : List Turn) (calls : List DeskCall) (status : ℕ) (d e : D) → means.holds d name ≡ Some bytes → DoneBy (check lines name) turns calls status → DeskLed means d calls e → CheckVerdict lines name bytes calls status
     judge turns [] status d e told goes led = absurd goes
     judge turns (Did act done ∷ calls) status d e told goes led = absurd goes

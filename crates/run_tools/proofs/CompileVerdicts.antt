@@ -90,7 +90,7 @@ module _ (names : CompileNames) (text : List ℕ) where
       want (inr five) = inr (inl (five.0, over, λ i. is i ∷ five.1 i))
 
   module _ (short : length text ≤ 1048576) (call : DeskCall) (loads : call ≡ Load names.source 1048576 (Ok text)) (turns : List Turn) (calls : List DeskCall) (status : ℕ) where
-    -- why it is refused is told with status 4
+    -- why it is refused is reported with status 4
     refused : (f : SourceFault) → source_status f ≡ 4 → IsCompileFault text f → Says (source_line f) (source_status f) turns calls status → CompileVerdict names text (call ∷ calls) status
     refused f four is says = want (said (source_line f) (source_status f) turns calls status says)
       where
@@ -117,7 +117,7 @@ module _ (names : CompileNames) (text : List ℕ) where
     free (inr says) = wanting turns calls (call ∷ calls) status says
 
   module _ {D : Type 0} (means : DeskMeaning D) where
-    -- the source is told
+    -- the source's bytes are stated
     judge : (turns : List Turn) (calls : List DeskCall) (status : ℕ) (d e : D) → means.holds d names.source ≡ Some text → DoneBy (compile names) turns calls status → DeskLed means d calls e → CompileVerdict names text calls status
     judge turns [] status d e told goes led = absurd goes
     judge turns (Did act done ∷ calls) status d e told goes led = absurd goes

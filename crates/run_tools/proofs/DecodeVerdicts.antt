@@ -83,7 +83,7 @@ module _ (name bytes : List ℕ) where
       want (inl three) = inl (inl three)
       want (inr five) = inr (inl (five.0, over, λ i. is i ∷ five.1 i))
 
-  -- the bytes are told
+  -- the bytes are stated
   tells : (es : List Entry) (fault : Option TraceFault) → IsTraceOf bytes es fault → length bytes ≤ 16777216 → (call : DeskCall) → call ≡ Load name 16777216 (Ok bytes) → (turns : List Turn) (calls : List DeskCall) (status : ℕ) → DoneBy (decoded_todo es fault) turns calls status → DecodeVerdict name bytes (call ∷ calls) status
   tells es fault is short call loads turns calls status goes = want (lines_told es fault turns calls status goes)
     where
@@ -100,7 +100,7 @@ module _ (name bytes : List ℕ) where
         tells (trace_in bytes).0 (trace_in bytes).1 (has-trace bytes (subst (λ xs. AreBytes xs) same goes.3)) short (Load n l (Ok got)) (λ i. Load (goes.0 i) (goes.1 i) (Ok (same i))) turns calls status
         (subst (λ xs. ToTell xs turns calls status) same goes.2)
 
-    -- the file is told
+    -- the file's bytes are stated
     judge : (turns : List Turn) (calls : List DeskCall) (status : ℕ) (d e : D) → means.holds d name ≡ Some bytes → DoneBy (decode name) turns calls status → DeskLed means d calls e → DecodeVerdict name bytes calls status
     judge turns [] status d e told goes led = absurd goes
     judge turns (Did act done ∷ calls) status d e told goes led = absurd goes

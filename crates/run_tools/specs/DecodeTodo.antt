@@ -8,7 +8,7 @@ use Rattle.run_desk.specs.Todo.{Todo, End, Stop, Ask}
 use Rattle.run_desk.specs.LinesTodo.{lines_todo}
 use Rattle.run_desk.specs.TraceFaults.{trace_fault_line}
 
--- the first fault is told, where there is one
+-- the first fault is reported, where there is one
 abbrev pub fault_todo : Option TraceFault → Todo
 fault_todo None = End
 fault_todo (Some fault) = Stop (trace_fault_line fault) 2
@@ -17,6 +17,6 @@ fault_todo (Some fault) = Stop (trace_fault_line fault) 2
 abbrev pub decoded_todo : List Entry → Option TraceFault → Todo
 decoded_todo es fault = lines_todo (map entry_line es) (fault_todo fault)
 
--- the file is loaded and told
+-- the file is loaded and described
 abbrev pub decode : List ℕ → Todo
 decode name = Ask name 16777216 (codes "too long trace\n") (λ bytes. decoded_todo (trace_in bytes).0 (trace_in bytes).1)

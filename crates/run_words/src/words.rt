@@ -261,7 +261,7 @@ pub enum Request<'a> {
     Source(SourceFiles<'a>),
     /// What this number draws, from 1 to 1000, is carried out.
     Stress(u32),
-    /// The trace of this name is told in words.
+    /// The trace of this name is described in words.
     Decode(&'a str),
     /// The trace of this name is given to the device.
     Replay(&'a str),

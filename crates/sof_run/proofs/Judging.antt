@@ -80,7 +80,7 @@ module _ (topology script : List ℕ) where
       free (inr says) = wanting turns calls status says
 
   module _ {D : Type 0} (means : DeskMeaning D) where
-    -- a load of a file that is told
+    -- a load of a file whose bytes are stated
     module _ (name line bytes : List ℕ) (next : List ℕ → Todo) (too_long : IsLong bytes → IsLong topology ⊎ IsLong script) where
       asked : (turns : List Turn) (calls : List DeskCall) (status : ℕ) (d e : D) → means.holds d name ≡ Some bytes → DoneBy (Ask name 1048576 line next) turns calls status → DeskLed means d calls e
           → (length bytes ≤ 1048576 → AreBytes bytes → (later : List DeskCall) (m : D) → ((other : List ℕ) → means.holds m other ≡ means.holds d other) → DoneBy (next bytes) turns later status → DeskLed means m later e → Verdict topology script later status)
@@ -99,7 +99,7 @@ module _ (topology script : List ℕ) where
       asked turns (Load n l (Err OutOfMemory) ∷ calls) status d e told goes led rest = more (Load n l (Err OutOfMemory)) calls status (wanting turns calls status goes.2)
       asked turns (Load n l (Err Failed) ∷ calls) status d e told goes led rest = inl (inl goes.2.2)
 
-    -- both files are told
+    -- the bytes of both files are stated
     pub judge : (form : Form) (turns : List Turn) (calls : List DeskCall) (status : ℕ) (d e : D) → means.holds d form.topology ≡ Some topology → means.holds d form.script ≡ Some script → DoneBy (play form) turns calls status → DeskLed means d calls e → Verdict topology script calls status
     judge form turns calls status d e first second goes led =
         asked form.topology (codes "too long topology\n") topology (λ xs. Ask form.script 1048576 (codes "too long script\n") (λ ys. Free (prepared_todo form.on_use form.heap form.trace (prepared xs ys)))) (λ is. inl is) turns calls status d e first goes led (λ short bytes later m held goes led.

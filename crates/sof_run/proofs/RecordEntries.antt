@@ -50,7 +50,7 @@ records-each means (turn ∷ turns) p q turned records kept = by (λ rs left. re
 pub trace-written : (bytes : List ℕ) (es : List Entry) → bytes ≡ records_bytes es → AllByRecursion IsEntry es → IsTraceOf bytes es None
 trace-written bytes es is each = subst (λ (b : List ℕ). IsTraceOf b es None) (sym is) (written-stand es each)
 
--- ---- what is told was heard, where the status is 0
+-- ---- what is stated was read, where the status is 0
 
 abbrev AnyStatus : ℕ → Type 0
 AnyStatus n = Unit {0}
@@ -95,7 +95,7 @@ not_said line n turns (Did act true ∷ calls) says other = other (sym says.3)
 not_said line n turns (Did act false ∷ calls) says other = cc says.3
 
 module _ {D : Type 0} (means : DeskMeaning D) (turns : List Turn) where
-  -- the load of a file that is told brought its bytes
+  -- the load of a file whose bytes are stated brought them
   record Brought (next : Todo) (bytes : List ℕ) (calls : List DeskCall) (d e : D) : Type 0 where
     later : List DeskCall
     mid : D

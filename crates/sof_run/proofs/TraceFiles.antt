@@ -156,7 +156,7 @@ all-bytes slots (round ∷ rounds) (es ∷ records) (out ∷ outs) none are as_m
     ++ all-bytes slots rounds records outs none are.1 (omega (arith, as_many)) (omega (arith, each)) i)
     ∙ sym (flat_map-append record_bytes es (all_records records))
 
--- what is told to be there
+-- what is stated to be there
 told_bytes : (o : Option (List ℕ)) (bytes all : List ℕ) → with_more (with_nothing o) bytes ≡ Some all → all ≡ bytes
 told_bytes None bytes all is = absurd (cc is)
 told_bytes (Some was) bytes all is = cc is

@@ -51,7 +51,7 @@ pub record Findings : Type 0 where
 
 -- ---- the list
 
--- a call on the desk, a turn on the device, or a place where memory may be wanting
+-- a call on the desk, a turn on the device, or a place where memory may be missing
 pub data Item : Type 0 where
   Calls : (call : DeskCall) → Item
   Turns : (task : Task) → Item
@@ -79,7 +79,7 @@ load_course name limit line (Err TooLong ∷ heard) next = before_course (Calls 
 load_course name limit line (Err OutOfMemory ∷ heard) next = before_course (Calls (Load name limit (Err OutOfMemory)) ∷ []) (last_line no_memory_line 7)
 load_course name limit line _ next = record { items = Calls (Load name limit (Err Failed)) ∷ []; status = 3 }
 
--- a turn, and what comes next by what it came to and by the turns after it
+-- a turn, and what comes next by its result and by the turns after it
 abbrev pub turning : Task → List Turn → (Out → List Turn → Course) → Course
 turning task [] next = record { items = Turns task ∷ []; status = 0 }
 turning task (turn ∷ turns) next = before_course (Turns task ∷ []) (next turn.out turns)
@@ -165,12 +165,12 @@ recounting trace = record { items = map saying (trace_lines trace.0 trace.1); st
 
 -- ---- `replay`
 
--- the first record at fault is told, where there is one
+-- the first record at fault is reported, where there is one
 abbrev pub faulting : Option ReplayFault → Course → Course
 faulting None rest = rest
 faulting (Some fault) rest = last_line (replay_fault_line fault) 2
 
--- a device that failed is told
+-- a device that failed is reported
 abbrev pub replying : Option (List ℕ) → Course → Course
 replying None rest = last_line device_line 10
 replying (Some reply) rest = rest

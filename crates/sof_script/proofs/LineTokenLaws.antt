@@ -37,7 +37,7 @@ many_none : (tokens : Option (List (List ℕ))) → tokens ≡ many [] tokens
 many_none None = refl
 many_none (Some tokens) = refl
 
--- tokens that were told, and what is left of a line
+-- tokens that were given, and what is left of a line
 pub record Collected (line rest : List ℕ) (kept : List (List ℕ)) : Type 0 where
   pub told : List (List ℕ)
   pub whole : tokens_of line ≡ many told (tokens_of rest)

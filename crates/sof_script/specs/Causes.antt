@@ -3,7 +3,7 @@ use Rattle.std.specs.Prelude.{ℕ, ◌==◌, nat_le, if◌then◌else◌, List, 
 use Rattle.sof_script.specs.declared.fault_causes.Cause.{Cause}
 use Rattle.sof_script.specs.declared.fault_causes.Cause.TheVariants.{Byte, Quote, Word, Count, Number, Hex, Name}
 
--- the number that is told of a cause
+-- the number that is reported of a cause
 abbrev pub cause_number : Cause → ℕ
 cause_number Byte = 1
 cause_number Quote = 2

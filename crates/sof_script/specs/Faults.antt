@@ -1,4 +1,4 @@
--- What it means that a line of a script is told.
+-- What it means that a line of a script is reported.
 use Rattle.std.specs.Prelude.{◌≡◌, ℕ, ◌+◌, List, [], ◌∷◌, ◌++◌, length, Ok, Err}
 use Rattle.sof_script.specs.declared.fault_causes.Cause.{Cause}
 use Rattle.sof_script.specs.declared.items.Item.{Item}

@@ -1,4 +1,4 @@
--- A script of the program as it is told.
+-- A script of the program as it is stated.
 use Rattle.std.specs.Prelude.{ℕ, ◌+◌, List, [], ◌∷◌, ◌++◌, Result, Ok, Err, string_bytes}
 use Rattle.sof_script.specs.declared.script.Command.{Command}
 use Rattle.sof_script.specs.declared.script.Numbered.{Numbered}
@@ -8,7 +8,7 @@ use Rattle.sof_script.specs.declared.reading.ScriptFault.{ScriptFault}
 use Rattle.sof_script.specs.Commands.{Bound, Read}
 use Rattle.sof_script.specs.Ticks.{command_ticks}
 
--- a script as it is told here
+-- a script as it is stated here
 abbrev pub bound_of : Binding → Bound
 bound_of b = record { line = b.line; input = b.input; endpoint = b.endpoint; file = string_bytes b.file }
 

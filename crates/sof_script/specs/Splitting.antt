@@ -34,7 +34,7 @@ unfoldable pub is_skipped : List ℕ → Bool
 is_skipped [] = true
 is_skipped (b ∷ bytes) = if is_blank b then is_skipped bytes else nat_eq b 35
 
--- how tokens are told apart: by blanks, by double quotes (34), and all other bytes are alike
+-- how tokens are separated: by blanks, by double quotes (34), and all other bytes are alike
 pub data Kind : Type 0 where
   Blank : Kind
   Quote : Kind

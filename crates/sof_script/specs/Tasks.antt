@@ -1,4 +1,4 @@
--- What a program has a session do, turn by turn, and what each turn came to.
+-- What a program has a session do, turn by turn, and the result of each turn.
 use Rattle.std.specs.Prelude.{◌≡◌, ℕ, Bool, List, [], ◌∷◌, Option}
 use Rattle.sof_base.specs.Ports.{InputView}
 use Rattle.mbox_link.specs.Calls.{Call}

@@ -1,4 +1,4 @@
-// What can be wrong with a line. Where several causes hold, the one with the least number is told.
+// What can be wrong with a line. Where several causes hold, the one with the least number is reported.
 ghost use Rattle.std.specs.Prelude.{◌≡◌, ◌≤◌, length};
 ghost use Rattle.sof_script.specs.Causes.{cause_number, cause_words};
 

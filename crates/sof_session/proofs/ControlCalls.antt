@@ -1,4 +1,4 @@
--- Calls on controls as calls that send acts: values or a blob that are set, told by the record, or asked of the firmware.
+-- Calls on controls as calls that send acts: values or a blob that are set, read from the record, or asked of the firmware.
 use Rattle.std.proofs.Common.{◌≡◌, refl, sym, ap, subst, ◌∙◌, ℕ, ◌≤◌, false, List, [], ◌∷◌, length, Option, Some, None, Result, Ok, Err, unwrap_or, arith}
 use Rattle.std.specs.Prelude.{IfOk}
 use Rattle.std.specs.Option.{option_and_then}

@@ -26,7 +26,7 @@ use Rattle.sof_session.proofs.Carrying.{Quietly, quietly}
 use Rattle.sof_session.proofs.JobCalm.{routine-calm}
 use Rattle.sof_session.proofs.StayedCounts.{Stayed, Stayed-between}
 
--- what a walk came to, with other meetings for later messages
+-- the result of a walk, with other meetings for later messages
 abbrev with_queue : {S A Q R : Type 0} → Walked S A Q → R → Walked S A R
 with_queue w q = record { outcome = w.outcome; kept = w.kept; moments = w.moments; sent = w.sent; queue = q }
 
@@ -87,7 +87,7 @@ module _ {P S A : Type 0} (means : Meaning P) (rules : ActRules S A) (goes_on : 
       by false on rest = before-none ms did.0 v on.0 on.1 now
 
 module _ {P S A : Type 0} (means : Meaning P) (rules : ActRules S A) (heap : ℕ) (doing : Doing) where
-  -- two walks came to the same, and the queue of the later one is the link's
+  -- two walks had the same result, and the queue of the later one is the link's
   abbrev IsAs : Walked S A (List Meeting) → Walked S A Queue → World (Wire P) → Type 0
   IsAs met written v = Same met written × (written.queue ≡ queue_of v.device)
 

@@ -21,7 +21,7 @@ use Rattle.sof_session.proofs.Doings.{refused_so, DidSo}
 
 -- ---- walks
 
--- two walks came to the same
+-- two walks had the same result
 pub record Same {S A Q R : Type 0} (a : Walked S A Q) (b : Walked S A R) : Type 0 where
   pub outcome : a.outcome ≡ b.outcome
   pub left : a.kept ≡ b.kept
@@ -75,7 +75,7 @@ module _ {P S A : Type 0} (means : Meaning P) (rules : ActRules S A) (goes_on : 
   abbrev pub written_walk : S → Wire P → List A → Walked S A Queue
   written_walk kept wire acts = walk rules goes_on (next_meeting doing) kept (queue_of wire) acts
 
-  -- the written walk came to what the messages met, and its queue is the link's
+  -- the result of the written walk is what the messages met, and its queue is the link's
   pub record Agreed (kept : S) (ms : List Meeting) (acts : List A) (w v : World (Wire P)) : Type 0 where
     pub same : Same (met_walk kept ms acts) (written_walk kept w.device acts)
     pub queue : (written_walk kept w.device acts).queue ≡ queue_of v.device

@@ -55,7 +55,7 @@ both-ways (Err (Range n)) = tt
 both-ways (Err (Refused e)) = tt
 both-ways (Err (Blob n)) = tt
 
--- whatever it came to
+-- whatever its result
 pub plain-cuts : (done : Record → Record) (now : Record) (o : Outcome) → ((plain_end done now o).1 ≡ Cut ∷ []) ⊎ ((plain_end done now o).1 ≡ [])
 plain-cuts done now o = ⊎_elim (λ cut. inl cut.0) (λ up. inr up.1) (plain-ends done now o (Unit {0}) (Unit {0}) (both-ways o))
 
@@ -103,7 +103,7 @@ module _ {P : Type 0} (means : Meaning P) (heap : ℕ) (plan : Plan) (o : Order)
         let s = (from-start means heap plan o kept kept' w v result c none fated few).0 in
         λ i. o.first ++ (s.moments i ++ (end_by o.manner plan o.done kept (s.left i) (s.outcome i)).1)
 
-    -- the device is off, whatever its acts came to
+    -- the device is off, whatever the result of its acts
     pub cut-leads : (device : Option FwState) → last ≡ Cut ∷ [] → ReadsOn device w.io c.sent.io (o.first ++ met.moments) → StandsOn device w.io (means.on v.device.device) v.io written
     cut-leads device cuts reads =
         let all = append_assoc o.first met.moments (Cut ∷ []) ∙ (λ i. o.first ++ (met.moments ++ sym cuts i)) ∙ moments-are in
@@ -124,7 +124,7 @@ module _ {P : Type 0} (means : Meaning P) (heap : ℕ) (plan : Plan) (sound : Is
   abbrev sent : Walked Record Act (List Meeting)
   sent = met means heap plan o kept kept' w v result c
 
-  -- its messages came to a device that is as it was
+  -- its messages reached a device that is as it was
   held : HeldBy (link means) plan heap false sound f w c.sent sent
   held = subst (λ (x : World (Wire P)). HeldBy (link means) plan heap false sound f x c.sent sent) c.first
       (walk-holds (link means) plan heap false sound acts c.meetings kept c.begun c.sent c.walked taken is f (ap (λ (x : World (Wire P)). means.on x.device.device) c.first ∙ on) keeps)

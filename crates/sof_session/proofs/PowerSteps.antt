@@ -142,7 +142,7 @@ module _ {P : Type 0} (means : Meaning P) (old new : Seat P) (io io' : Io) (agre
   abbrev Ran : Answer → Type 0
   Ran answer = CallRan means (suspend_fault old.kept.power) o old new io io' answer
 
-  -- its acts came to a device that keeps the record, which they leave so or whose link failed
+  -- its acts reached a device that keeps the record, which they leave so or whose link failed
   acts-read : (power : Power) → power ≡ On → Powered means old power → (result : Outcome) (c : Carried (link means) old.plan old.heap o old.kept new.kept w v result) → ReadsOn (means.on old.link.device) io c.sent.io (after_order.met means old.heap old.plan o old.kept new.kept w v result c).moments
   acts-read Unloaded is powered result c = absurd (cc is)
   acts-read Off is powered result c = absurd (cc is)
@@ -156,7 +156,7 @@ module _ {P : Type 0} (means : Meaning P) (old new : Seat P) (io io' : Io) (agre
       (by-down met.outcome (Held (link means) old.plan old.heap true agreed.sound f w c.sent met.kept met.moments) (ReadsOn (Some f) io c.sent.io met.moments)
       (λ h. reads-of (Some f) (Some h.state) io c.sent.io met.moments h.stands) held)
 
-  -- all ends with the cut, whatever they came to
+  -- all ends with the cut, whatever their results
   pub suspend_stepped : drained io.outputs ≡ io.outputs → (answer : Answer) → Ran answer → CommandDone means (command_rules old.plan old.heap) old.heap commands.Suspend old.kept new.kept w v answer
   suspend_stepped empty answer ran = by (suspend_fault old.kept.power) refl
     where

@@ -176,7 +176,7 @@ module _ {P : Type 0} (means : Meaning P) (old : Seat P) (are : AreAgreed means 
           let h = read-done (link means) old.plan are.sound old.heap old.kept (unwrap_or old.up []) w use-state switched name kept' v result up t in
           record { tested = h.tested; switched_then = h.switched_then }
 
-      -- and what it is told, where it is there
+      -- and what it is sent, where it is there
       pub told-for : is_control_up old.plan (unwrap_or old.up []) name ≡ true → IsSetFor (link means) old.plan old.kept name old.link
       told-for up = set-for-up (link means) old.plan are.sound old.heap old.kept (unwrap_or old.up []) w use-state switched name up
 

@@ -85,7 +85,7 @@ module _ (plan : Plan) (sound : IsSound plan) (heap : ℕ) (doing : Doing) (know
   abbrev q : Queue
   q = known.queue
 
-  -- what a command came to
+  -- the result of a command
   abbrev IsKept : Came UpState DynamicAct → Type 0
   IsKept c = IsUpState plan c.known.kept
 

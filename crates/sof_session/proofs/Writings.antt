@@ -75,7 +75,7 @@ module _ (outputs : List OutputView) (empty : drained outputs ≡ outputs) where
   pub none-written : written_in outputs ≡ []
   none-written = ap written_in (sym empty) ∙ drained-written outputs
 
-  -- they are told by their slots
+  -- they are found by their slots
   pub empty-outputs : empty_outputs (output_slots outputs) ≡ outputs
   empty-outputs = drained-empty outputs ∙ empty
 

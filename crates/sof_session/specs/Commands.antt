@@ -64,7 +64,7 @@ command_rules plan heap = record {
 
 -- ---- by any rules
 
--- what a command came to: what is known after it, its answer, the moments of the device, and the acts whose messages were sent
+-- the result of a command: what is known after it, its answer, the moments of the device, and the acts whose messages were sent
 pub record Came (S A : Type 0) : Type 0 where
   pub known : Known S
   pub answer : Answer

@@ -73,7 +73,7 @@ abbrev pub refused_by : ℤ → Answer
 refused_by e = answers.Fault (Refused (record { 0 = e }))
 
 -- An open is refused by the heap at its second message. Its third unmakes: where that is refused too the device is cut, and the first
--- refusal is told; where it is lost, the link is down.
+-- refusal is reported; where it is lost, the link is down.
 abbrev pub RefusedUnmakingCuts : Type 0
 RefusedUnmakingCuts = comes_to 3 (fates.Refuse (negsuc 4)) (Open (codes "PCM1P")) ≡ (refused_by (negsuc 11), off_with FoundOpen (1 ∷ 3 ∷ []) 16)
 

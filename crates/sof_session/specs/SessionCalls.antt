@@ -42,7 +42,7 @@ pub record Stays {P : Type 0} (means : Meaning P) (old new : Seat P) (before aft
   pub ends : input_ends after.inputs ≡ input_ends before.inputs
   pub still : (link means).pending old.link ≡ 0 → after ≡ before
 
--- what a call did, by its test and its order: its calls on the link, what it came to, and its order's answer
+-- what a call did, by its test and its order: its calls on the link, its result, and its order's answer
 pub record CallRan {P : Type 0} (means : Meaning P) (test : Option HostFault) (o : Order) (old new : Seat P) (before after : Io) (answer : Answer) : Type 0 where
   pub outcome : Outcome
   pub tested : Tested (link means) old.plan old.heap test o old.kept new.kept (record { device = old.link; io = before }) (record { device = new.link; io = after }) outcome

@@ -35,8 +35,8 @@ DidAsMet doing queue (m ∷ ms) =
     let n = more queue.sent in
     ((planned queue.entries n).fate ≡ Pass → doing n ≡ m.fate) × DidAsMet doing (record { sent = n; entries = without_entry n queue.entries }) ms
 
--- The calls of a command: none where a test fails or something is planned, and else those of its job, by which it answers what
--- they came to. What the device did is what their messages met.
+-- The calls of a command: none where a test fails or something is planned, and else those of its job, by which it answers their
+-- result. What the device did is what their messages met.
 abbrev pub CallsBy : {P S A : Type 0} → Meaning P → ActRules S A → ℕ → Doing → Job S A → S → World (Wire P) → World (Wire P) → Answer → Bool → Option HostFault → Type 0
 CallsBy means acts heap doing job kept' w v answer true fault = (v.device.device ≡ w.device.device) × (v.io ≡ w.io)
 CallsBy means acts heap doing job kept' w v answer false (Some fault) = v ≡ w

@@ -31,7 +31,7 @@ abbrev pub written_in : List OutputView → List Written
 written_in [] = []
 written_in (output ∷ outputs) = with_bytes output.slot output.bytes (written_in outputs)
 
--- the bytes that came to a slot between two pasts
+-- the bytes that a slot got between two pasts
 abbrev pub bytes_between : Past → Past → ℕ → List ℕ
 bytes_between old new slot = drop (length (list_of old.bytes slot)) (list_of new.bytes slot)
 

@@ -1,4 +1,4 @@
-// What the calls of a session answer, by what the host's calls and the link's came to.
+// What the calls of a session answer, by the results of the host's calls and the link's.
 ghost use Rattle.std.specs.Prelude.{◌≡◌};
 ghost use Rattle.sof_session.specs.Commands.{answer_by};
 ghost use Rattle.sof_session.specs.SessionCalls.{told_answer, plan_answer};

@@ -168,7 +168,7 @@ impl<P: Dsp> Session<P> {
         self.link.dsp()
     }
 
-    /// The indices of the pipelines that are up, in the order in which they were made; where all are made at a load, none is told.
+    /// The indices of the pipelines that are up, in the order in which they were made; where all are made at a load, none is listed.
     pub fn up(&self) -> Option<&[u32]>
         ensures { option_map (λ list. list.now) result ≡ self.now.up }
     {

@@ -18,7 +18,7 @@ use Rattle.fw_schedule.proofs.AtPlaces.{own-at, kind-at, chooses-at, format-at, 
 use Rattle.fw_schedule.proofs.StepLaws.{front-more, behind, first-of}
 use Rattle.fw_schedule.proofs.schedules.step_at.Goals as goal
 
--- what is read at a place, by what is told of it
+-- what is read at a place, by what is stated of it
 read-at : (xs : List ℕ) (k : ℕ) (o : Option (Bor ℕ)) → is_some o ≡ nat_lt k (length xs) → IfSome o (λ x. x.now ≡ get_or xs k x.now) → option_copied o ≡ slice_get xs k
 read-at xs k None some value = sym (slice_get_past xs k (let past : length xs ≤ k = grind (arith, nat_tests, some) in past))
 read-at xs k (Some x) some value =

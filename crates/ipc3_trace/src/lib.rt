@@ -9,8 +9,6 @@ mod held;
 mod kind;
 mod laws;
 mod reading;
-#[cfg(test)]
-mod tests;
 mod tracer;
 
 pub use describing::describe;

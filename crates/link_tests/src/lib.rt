@@ -5,5 +5,3 @@
 mod linked;
 #[cfg(test)]
 mod same;
-#[cfg(test)]
-mod thin;

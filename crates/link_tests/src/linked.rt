@@ -4,7 +4,6 @@ ghost use Rattle.fw_core.specs.Device.{firmware};
 ghost use Rattle.mbox_link.specs.Link.{link as linked_by};
 
 use crate::same::same;
-use crate::thin::thin;
 use fw_core::Firmware;
 use mbox_link::{Dsp, Fate, FaultLink};
 use sof_desk::MemDesk;
@@ -12,6 +11,7 @@ use sof_run::run;
 use std::alloc::Global;
 use std::process::Abort;
 use std::test::Fail;
+use test_graphs::{THIN, graph};
 
 /// The greatest heap of the firmware, in bytes; it is small, since many runs are made.
 const ROOM: u32 = 4096;
@@ -90,7 +90,7 @@ fn expect(
     held: u32,
     said: &[u8],
 ) -> Result<(), Fail> {
-    let topology = thin(alloc)?;
+    let topology = graph(alloc, THIN)?;
     let mut desk = MemDesk::new(alloc, 4096)?;
     desk.put_file("a.tplg", &topology)?;
     desk.put_file("s.txt", SCRIPT)?;

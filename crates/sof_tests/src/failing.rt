@@ -1,8 +1,8 @@
 // Runs over a desk that fails: a front of the whole run is left, and the status is 3.
-use crate::graphs::{THIN, graph};
 use crate::played::{played, played_thin};
 use crate::same::same;
 use std::test::Fail;
+use test_graphs::{THIN, graph};
 
 const SHOWN: &[u8] = b"1 ok
 2 show

@@ -1,9 +1,9 @@
 // A run over a desk in memory and the firmware.
-use crate::graphs::{THIN, graph};
 use crate::runs::{Ending, run_over};
 use sof_desk::MemDesk;
 use std::alloc::Global;
 use std::test::Fail;
+use test_graphs::{THIN, graph};
 
 /// The greatest heap of the firmware, in bytes.
 const ROOM: u32 = 16777216;

@@ -1,5 +1,4 @@
 // Runs that play an input's file into an output's file over the volume graph and a desk that fails.
-use crate::graphs::{VOLUME, graph};
 use crate::played::Failing;
 use crate::runs::run_over;
 use crate::same::same;
@@ -7,6 +6,7 @@ use sof_desk::MemDesk;
 use std::alloc::Global;
 use std::process::Abort;
 use std::test::Fail;
+use test_graphs::{VOLUME, graph};
 
 /// The greatest heap of the firmware, in bytes; it is small, since many runs are made.
 const ROOM: u32 = 4096;

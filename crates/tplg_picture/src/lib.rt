@@ -4,8 +4,6 @@
 mod labels;
 mod lines;
 mod pictures;
-#[cfg(test)]
-mod tests;
 mod words;
 
 pub use pictures::picture;

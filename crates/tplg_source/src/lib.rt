@@ -11,8 +11,6 @@ mod laws;
 mod names;
 mod no_source;
 mod sourcing;
-#[cfg(test)]
-mod tests;
 mod text_values;
 mod texts;
 

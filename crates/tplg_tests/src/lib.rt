@@ -14,6 +14,8 @@ mod plans;
 #[cfg(test)]
 mod same;
 #[cfg(test)]
+mod sourced;
+#[cfg(test)]
 mod stated;
 #[cfg(test)]
 mod thin;

@@ -1,11 +1,9 @@
 // Records of a trace and their lines, and traces that are cut or changed.
-use crate::held::{HELD_BYTES, Held};
-use crate::{Entry, Next, RecordKind, TraceFault, describe, first_fault, record_at};
 use ipc3_codec::{CompWords, Message, encode};
+use ipc3_trace::{Entry, Next, TraceFault, describe, first_fault, record_at};
 use sof_base::{Bounded, Line};
 use std::fmt::Debug;
 use std::process::Abort;
-use std::test::Fail;
 
 // A boot with 992 bytes, CONNECT of component 0 and buffer 1, its reply, a tick, an empty message that is lost, and a cut.
 const TRACE: [u8; 88] = [
@@ -144,49 +142,4 @@ fn a_volume_with_a_ramp_has_its_words(rt: HostRuntime) {
         Entry::Request(message(bytes.get(..size).unwrap_or(&[]))),
         "request COMP_NEW 8=2 12=5 16=1 20=0 24=0 28=36 32=0 36=3 40=4 44=0 48=2 52=0 56=0 60=0 64=2 68=0 72=65536 76=2 80=20",
     );
-}
-
-// Holds the records of the trace, one after another.
-fn hold(held: &mut Held) {
-    held.keep(RecordKind::Boot, &TRACE[8..12]);
-    held.keep_exchange(&TRACE[20..36], RecordKind::Reply, &TRACE[44..56]);
-    held.keep(RecordKind::Tick, &[]);
-    held.keep_exchange(&[], RecordKind::Lost, &[]);
-    held.keep(RecordKind::Cut, &[]);
-}
-
-#[test]
-fn records_are_held_in_order(rt: HostRuntime) -> Result<(), Fail> {
-    let mut held = Held::new(rt.alloc())?;
-    hold(&mut held);
-    assert_eq!(rt; held.bytes(), &TRACE[..]);
-    assert!(rt; !held.cut_short());
-    held.keep_exchange(&[0; 385], RecordKind::Lost, &[]);
-    assert_eq!(rt; held.bytes(), &TRACE[..]);
-    assert!(rt; held.cut_short());
-    held.clear();
-    assert!(rt; !held.cut_short());
-    assert_eq!(rt; held.bytes().len(), 0);
-    Ok(())
-}
-
-#[test]
-fn no_more_is_held_than_fits(rt: HostRuntime) -> Result<(), Fail> {
-    let mut held = Held::new(rt.alloc())?;
-    for _ in 0..131_071 {
-        held.keep(RecordKind::Tick, &[]);
-    }
-    held.keep_exchange(&[], RecordKind::Lost, &[]);
-    assert!(rt; held.cut_short());
-    assert_eq!(rt; held.bytes().len(), HELD_BYTES - 8);
-    held.clear();
-    for _ in 0..131_072 {
-        held.keep(RecordKind::Tick, &[]);
-    }
-    assert!(rt; !held.cut_short());
-    assert_eq!(rt; held.bytes().len(), HELD_BYTES);
-    held.keep(RecordKind::Cut, &[]);
-    assert!(rt; held.cut_short());
-    assert_eq!(rt; held.bytes().len(), HELD_BYTES);
-    Ok(())
 }

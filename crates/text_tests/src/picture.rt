@@ -1,8 +1,9 @@
-use crate::*;
+// The picture of a plan with names that Graphviz would read as more than their bytes.
 use sof_base::{Format, Items, Name44, NoMemory};
 use std::alloc::Global;
 use std::test::Fail;
 use stream_law::{Comp, Edge, Graph, Kind, Pipe, Setting};
+use tplg_picture::picture;
 use tplg_plan::{ControlKind, ControlPlan, Plan};
 
 // A component of pipeline 7, without a setting.

@@ -1,6 +1,6 @@
 // Graphs by their sources, and the files that they compile to.
+use sof_base::NoMemory;
 use std::alloc::Global;
-use std::test::Fail;
 use tplg_compile::compile;
 use tplg_write::write;
 
@@ -58,7 +58,14 @@ size = 768
 kind = "pga"
 name = "VOL0"
 index = 1
-control = { name = "Master", channels = 2, min = 0, max = 32, tlv_min = -6400, tlv_step = 200, tlv_mute = 1 }
+[widget.control]
+name = "Master"
+channels = 2
+min = 0
+max = 32
+tlv_min = -6400
+tlv_step = 200
+tlv_mute = 1
 [[widget]]
 kind = "buffer"
 name = "B1"
@@ -98,15 +105,17 @@ channels_min = 1
 channels_max = 8
 "#;
 
-/// The topology's file of a source of at most 1 MiB.
-pub fn graph(alloc: Global, source: &[u8]) -> Result<Vec<u8>, Fail> {
+/// The topology's file of a source of at most 1 MiB, or why there is none.
+pub fn graph(alloc: Global, source: &[u8]) -> Result<Vec<u8>, &'static str> {
     if source.len() > 1048576 {
-        return Err("a long source")?;
+        return Err("a long source");
     }
     let Ok(topology) = compile(alloc, source) else {
-        return Err("no source")?;
+        return Err("no source");
     };
     let mut out = Vec::new(alloc);
-    write(&topology, &mut out)?;
-    Ok(out)
+    match write(&topology, &mut out) {
+        Ok(()) => Ok(out),
+        Err(NoMemory) => Err("no memory"),
+    }
 }

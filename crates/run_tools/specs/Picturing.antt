@@ -4,6 +4,6 @@ use Rattle.tplg_model.specs.declared.block.Topology.{Topology}
 use Rattle.tplg_graph.specs.PlanOf.{plan_of}
 use Rattle.tplg_picture.specs.Picture.{picture_of}
 
--- the picture of a topology's plan
+-- the picture of a topology and its plan
 abbrev pub picture_lines : Topology → List (List ℕ)
-picture_lines t = picture_of (plan_of t)
+picture_lines t = picture_of t (plan_of t)

@@ -23,7 +23,7 @@ fn pictured(alloc: Global, bytes: &[u8]) -> Result<Items<Items<u8>>, Halt>
 {
     let topology = topology_in(alloc, bytes)?;
     let plan = ruled_plan(alloc, &topology)?;
-    match picture(alloc, &plan) {
+    match picture(alloc, &topology, &plan) {
         Ok(lines) => Ok(lines),
         Err(_) => Err(Halt::OutOfMemory),
     }

@@ -3,6 +3,7 @@ use sof_base::{Format, Items, Name44, NoMemory};
 use std::alloc::Global;
 use std::test::Fail;
 use stream_law::{Comp, Edge, Graph, Kind, Pipe, Setting};
+use tplg_model::Topology;
 use tplg_picture::picture;
 use tplg_plan::{ControlKind, ControlPlan, Plan};
 
@@ -115,7 +116,10 @@ fn song(alloc: Global) -> Result<Plan, NoMemory> {
 fn drawn(alloc: Global) -> Result<Vec<u8>, NoMemory> {
     let mut text = Vec::new(alloc);
     let plan = song(alloc)?;
-    let lines = picture(alloc, &plan)?;
+    let topology = Topology {
+        blocks: Items::new(alloc),
+    };
+    let lines = picture(alloc, &topology, &plan)?;
     for line in lines.items() {
         text.extend_from_slice(line.items())?;
     }
@@ -125,18 +129,19 @@ fn drawn(alloc: Global) -> Result<Vec<u8>, NoMemory> {
 // What Graphviz draws with these names.
 const DRAWN: &str = "\
 digraph topology {
-rankdir=LR;
-node [shape=box];
+graph [rankdir=LR, fontname=\"sans-serif\"];
+node [shape=box, style=\"rounded,filled\", fontname=\"sans-serif\"];
+edge [fontname=\"sans-serif\", fontsize=10];
 subgraph cluster_7 {
-label=\" P  7 \\nindex 7 period 1000\";
-n0 [label=\"A \\\"song\\\"\\nhost-play\"];
-n2 [label=\"V&amp;lt;\\nvolume\\nramp 250\\nvalues 1 to 45 channels 2\"];
-n4 [label=\"DEMUX0\\ndemux\\nmasks 0 to 15 outputs 1\"];
-n6 [label=\"DAI0\\ndai-play s24\"];
+label=\" P  7 \\nindex 7, period 1000 us\";
+n0 [label=\"A \\\"song\\\"\\nhost-play\", fillcolor=\"#8dd3c7\"];
+n2 [label=\"V&amp;lt;\\nvolume\\nramp 250 ms\\nvalues 1 to 45, channels 2\\n-44 to 0 dB\", fillcolor=\"#b3de69\"];
+n4 [label=\"DEMUX0\\ndemux\\nmasks 0 to 15, outputs 1\", fillcolor=\"#d9d9d9\"];
+n6 [label=\"DAI0\\ndai-play s24\", fillcolor=\"#fdb462\"];
 }
-n0 -> n2 [label=\"C:\\\\N\\nsize 384\"];
-n2 -> n4 [label=\"B1\\nsize 768\"];
-n4 -> n6 [label=\"B2\\nsize 96\"];
+n0 -> n2 [label=\"C:\\\\N\\n384 bytes\"];
+n2 -> n4 [label=\"B1\\n768 bytes\"];
+n4 -> n6 [label=\"B2\\n96 bytes\"];
 }
 ";
 

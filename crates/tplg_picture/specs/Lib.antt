@@ -1,2 +1,3 @@
+pub mod ShownNames
 pub mod Labels
 pub mod Picture

@@ -1,43 +1,46 @@
 // A whole picture.
 ghost use Rattle.std.specs.Prelude.{◌≡◌, ◌++◌, ◌∷◌, [], map, IfOk, OnOk};
 ghost use Rattle.std.specs.List.{flat_map};
-ghost use Rattle.tplg_picture.specs.Labels as parts;
 ghost use Rattle.tplg_picture.specs.Picture as law;
 
-use crate::lines::{cluster_line, edge_statement, line_of, node_statement, title_line};
+use crate::lines::{cluster_line, edge_statement, node_statement, title_line};
+use crate::shown::{Shown, shown};
+use crate::words::text_of;
 use sof_base::{Items, NoMemory};
 use std::alloc::Global;
 use stream_law::{Comp, Pipe};
+use tplg_model::Topology;
 use tplg_plan::Plan;
 
 // A component, where it is of this pipeline.
-#[tactic(auto, unfolding(crate::specs::Labels::node_statement))]
 fn put_node(
     alloc: Global,
     plan: &Plan,
+    shown: &Shown,
     index: u32,
     comp: &Comp,
     lines: &mut Items<Items<u8>>,
 ) -> Result<(), NoMemory>
-    ensures { OnOk result (lines.new ≡ lines.old ++ law.nodes_in plan.now index comp.now) }
+    ensures { OnOk result (lines.new ≡ lines.old ++ law.nodes_in plan.now shown.now index comp.now) }
 {
     if comp.pipe != index {
         return Ok(());
     }
-    lines.push(node_statement(alloc, plan, comp)?)
+    lines.push(node_statement(alloc, plan, shown, comp)?)
 }
 
 // The components of a pipeline.
 fn put_nodes(
     alloc: Global,
     plan: &Plan,
+    shown: &Shown,
     index: u32,
     lines: &mut Items<Items<u8>>,
 ) -> Result<(), NoMemory>
-    ensures { OnOk result (lines.new ≡ lines.old ++ flat_map (law.nodes_in plan.now index) plan.now.graph.comps) }
+    ensures { OnOk result (lines.new ≡ lines.old ++ flat_map (law.nodes_in plan.now shown.now index) plan.now.graph.comps) }
 {
     for comp in plan.graph.comps.items() {
-        put_node(alloc, plan, index, comp, lines)?;
+        put_node(alloc, plan, shown, index, comp, lines)?;
     }
     Ok(())
 }
@@ -46,23 +49,29 @@ fn put_nodes(
 fn put_cluster(
     alloc: Global,
     plan: &Plan,
+    shown: &Shown,
     pipe: &Pipe,
     lines: &mut Items<Items<u8>>,
 ) -> Result<(), NoMemory>
-    ensures { OnOk result (lines.new ≡ lines.old ++ law.cluster_lines plan.now pipe.now) }
+    ensures { OnOk result (lines.new ≡ lines.old ++ law.cluster_lines plan.now shown.now pipe.now) }
 {
     lines.push(cluster_line(alloc, pipe)?)?;
     lines.push(title_line(alloc, plan, pipe)?)?;
-    put_nodes(alloc, plan, pipe.index, lines)?;
-    lines.push(line_of(alloc, b"}\n")?)
+    put_nodes(alloc, plan, shown, pipe.index, lines)?;
+    lines.push(text_of(alloc, b"}\n")?)
 }
 
 // All pipelines.
-fn put_clusters(alloc: Global, plan: &Plan, lines: &mut Items<Items<u8>>) -> Result<(), NoMemory>
-    ensures { OnOk result (lines.new ≡ lines.old ++ flat_map (law.cluster_lines plan.now) plan.now.graph.pipes) }
+fn put_clusters(
+    alloc: Global,
+    plan: &Plan,
+    shown: &Shown,
+    lines: &mut Items<Items<u8>>,
+) -> Result<(), NoMemory>
+    ensures { OnOk result (lines.new ≡ lines.old ++ flat_map (law.cluster_lines plan.now shown.now) plan.now.graph.pipes) }
 {
     for pipe in plan.graph.pipes.items() {
-        put_cluster(alloc, plan, pipe, lines)?;
+        put_cluster(alloc, plan, shown, pipe, lines)?;
     }
     Ok(())
 }
@@ -79,22 +88,38 @@ fn put_edges(alloc: Global, plan: &Plan, lines: &mut Items<Items<u8>>) -> Result
 
 // The first lines.
 fn put_head(alloc: Global, lines: &mut Items<Items<u8>>) -> Result<(), NoMemory>
-    ensures { OnOk result (lines.new ≡ lines.old ++ parts.head_lines) }
+    ensures { OnOk result (lines.new ≡ lines.old ++ law.head_lines) }
 {
-    lines.push(line_of(alloc, b"digraph topology {\n")?)?;
-    lines.push(line_of(alloc, b"rankdir=LR;\n")?)?;
-    lines.push(line_of(alloc, b"node [shape=box];\n")?)
+    lines.push(text_of(alloc, b"digraph topology {\n")?)?;
+    lines.push(text_of(alloc, b"graph [rankdir=LR, fontname=\"sans-serif\"];\n")?)?;
+    lines.push(text_of(
+        alloc,
+        b"node [shape=box, style=\"rounded,filled\", fontname=\"sans-serif\"];\n",
+    )?)?;
+    lines.push(text_of(alloc, b"edge [fontname=\"sans-serif\", fontsize=10];\n")?)
 }
 
-/// The lines of a plan's picture, each with its newline.
+// The lines of a plan's picture, with these names.
 #[tactic(auto, using(crate::proofs::Lists::followed))]
-pub fn picture(alloc: Global, plan: &Plan) -> Result<Items<Items<u8>>, NoMemory>
-    ensures { IfOk result (λ lines. lines ≡ law.picture_of plan.now) }
+fn picture_with(alloc: Global, plan: &Plan, shown: &Shown) -> Result<Items<Items<u8>>, NoMemory>
+    ensures { IfOk result (λ lines. lines ≡ law.picture_with plan.now shown.now) }
 {
     let mut lines = Items::new(alloc);
     put_head(alloc, &mut lines)?;
-    put_clusters(alloc, plan, &mut lines)?;
+    put_clusters(alloc, plan, shown, &mut lines)?;
     put_edges(alloc, plan, &mut lines)?;
-    lines.push(line_of(alloc, b"}\n")?)?;
+    lines.push(text_of(alloc, b"}\n")?)?;
     Ok(lines)
+}
+
+/// The lines of the picture of a topology and its plan, each with its newline.
+pub fn picture(
+    alloc: Global,
+    topology: &Topology,
+    plan: &Plan,
+) -> Result<Items<Items<u8>>, NoMemory>
+    ensures { IfOk result (λ lines. lines ≡ law.picture_of topology.now plan.now) }
+{
+    let shown = shown(alloc, topology)?;
+    picture_with(alloc, plan, &shown)
 }

@@ -30,12 +30,17 @@ impl Words {
     }
 }
 
-// What is said of the first bytes; none where they are a message.
-fn fault(bytes: &[u8; 384], length: usize) -> Option<CodecFault> {
-    match decode(bytes.get(..length).unwrap_or(&[])) {
+/// What is said of bytes; none where they are a message.
+pub fn fault(bytes: &[u8]) -> Option<CodecFault> {
+    match decode(bytes) {
         Ok(_message) => None,
         Err(fault) => Some(fault),
     }
+}
+
+// The first bytes.
+fn front(bytes: &[u8; 384], length: usize) -> &[u8] {
+    bytes.get(..length).unwrap_or(&[])
 }
 
 // The size word says so many bytes, at most 384.
@@ -52,10 +57,10 @@ fn each_front_is_short(rt: &impl Abort, kind: &&'static str, size: usize, bytes:
         } else {
             CodecFault::SizeWord
         };
-        let said = (length, fault(bytes, length));
+        let said = (length, fault(front(bytes, length)));
         same(rt, kind, &said, &(length, Some(want)));
     }
-    same(rt, kind, &fault(bytes, size), &None);
+    same(rt, kind, &fault(front(bytes, size)), &None);
 }
 
 // The size word says less than a message of this size needs.
@@ -73,7 +78,7 @@ fn each_size_is_small(
             CodecFault::Field(words.cut_at(length))
         };
         put_size(bytes, length);
-        let said = (length, fault(bytes, 384));
+        let said = (length, fault(bytes));
         same(rt, kind, &said, &(length, Some(want)));
     }
 }
@@ -213,9 +218,9 @@ fn a_message_of_a_part_that_is_cut_is_told(rt: HostRuntime) {
     cut_short(&rt, "the part", Message::GetData { id: 1, index: 2 }, 92);
 }
 
-// What is said of the first bytes of a reply; none where they are one.
-fn reply_fault(bytes: &[u8; 384], length: usize) -> Option<CodecFault> {
-    match decode_reply(bytes.get(..length).unwrap_or(&[])) {
+/// What is said of bytes that are no reply; none where they are one.
+pub fn reply_fault(bytes: &[u8]) -> Option<CodecFault> {
+    match decode_reply(bytes) {
         Ok(_reply) => None,
         Err(fault) => Some(fault),
     }
@@ -229,10 +234,10 @@ fn each_front_of_a_reply_is_short(rt: &impl Abort, size: usize, bytes: &[u8; 384
         } else {
             CodecFault::SizeWord
         };
-        let said = (length, reply_fault(bytes, length));
+        let said = (length, reply_fault(front(bytes, length)));
         same(rt, &size, &said, &(length, Some(want)));
     }
-    same(rt, &size, &reply_fault(bytes, size), &None);
+    same(rt, &size, &reply_fault(front(bytes, size)), &None);
 }
 
 // What a size word says that is less than the reply needs: with 12 there is no body.
@@ -254,7 +259,7 @@ fn each_size_of_a_reply_is_small(
 ) {
     for length in 0..size {
         put_size(bytes, length);
-        let said = (length, reply_fault(bytes, 384));
+        let said = (length, reply_fault(bytes));
         same(rt, &size, &said, &(length, small_size_fault(words, length)));
     }
 }

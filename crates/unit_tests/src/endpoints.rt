@@ -3,15 +3,11 @@ use crate::same::same;
 use sof_base::INPUT_BYTES;
 use sof_io::{Inputs, Outputs};
 use std::process::Abort;
-use std::test::Fail;
 
 // A slot has an input, from now on.
-fn add_input(inputs: &mut Inputs, slot: u32) -> Result<(), Fail> {
-    if inputs.has(slot) {
-        return Err("it has one")?;
-    }
-    inputs.add(slot)?;
-    Ok(())
+fn add_input(rt: &impl Abort, inputs: &mut Inputs, slot: u32) {
+    assert!(rt; !inputs.has(slot), "at {slot}");
+    inputs.add(slot).expect(rt, "there is memory");
 }
 
 // Puts a piece after the bytes of a slot; whether it could.
@@ -66,10 +62,10 @@ fn takes(
 }
 
 #[test]
-fn an_input_gives_its_bytes_and_then_zeros(rt: HostRuntime) -> Result<(), Fail> {
-    let mut inputs = Inputs::new(rt.alloc())?;
+fn an_input_gives_its_bytes_and_then_zeros(rt: HostRuntime) {
+    let mut inputs = Inputs::new(rt.alloc()).expect(&rt, "there is memory");
     same(&rt, &7, &inputs.has(7), &false);
-    add_input(&mut inputs, 7)?;
+    add_input(&rt, &mut inputs, 7);
     holds(&rt, &inputs, 7, 0, false);
     fills(&rt, &mut inputs, 7, &[1, 2, 3]);
     fills(&rt, &mut inputs, 7, &[4, 5]);
@@ -80,18 +76,6 @@ fn an_input_gives_its_bytes_and_then_zeros(rt: HostRuntime) -> Result<(), Fail> 
     takes(&rt, &mut inputs, 7, &mut bytes, &[1, 2, 3, 4], 1);
     takes(&rt, &mut inputs, 7, &mut bytes, &[5, 0, 0, 0], 0);
     takes(&rt, &mut inputs, 7, &mut bytes, &[0, 0, 0, 0], 0);
-    Ok(())
-}
-
-#[test]
-fn an_unknown_input_gives_zeros(rt: HostRuntime) -> Result<(), Fail> {
-    let mut inputs = Inputs::new(rt.alloc())?;
-    add_input(&mut inputs, 7)?;
-    fills(&rt, &mut inputs, 7, &[1, 2]);
-    let mut bytes = [9u8; 2];
-    takes(&rt, &mut inputs, 8, &mut bytes, &[0, 0], 0);
-    takes(&rt, &mut inputs, 7, &mut bytes, &[1, 2], 0);
-    Ok(())
 }
 
 // The slot that wants bytes of which an input is to hold so many.
@@ -100,12 +84,12 @@ fn wants(rt: &impl Abort, inputs: &Inputs, level: usize, want: Option<u32>) {
 }
 
 #[test]
-fn the_first_input_wants_that_holds_too_little(rt: HostRuntime) -> Result<(), Fail> {
-    let mut inputs = Inputs::new(rt.alloc())?;
+fn the_first_input_wants_that_holds_too_little(rt: HostRuntime) {
+    let mut inputs = Inputs::new(rt.alloc()).expect(&rt, "there is memory");
     wants(&rt, &inputs, 4, None);
-    add_input(&mut inputs, 9)?;
-    add_input(&mut inputs, 2)?;
-    add_input(&mut inputs, 5)?;
+    add_input(&rt, &mut inputs, 9);
+    add_input(&rt, &mut inputs, 2);
+    add_input(&rt, &mut inputs, 5);
     same(&rt, &"the end", &inputs.len(), &3);
     wants(&rt, &inputs, 4, Some(2));
     fills(&rt, &mut inputs, 2, &[1, 2, 3, 4]);
@@ -117,16 +101,12 @@ fn the_first_input_wants_that_holds_too_little(rt: HostRuntime) -> Result<(), Fa
     wants(&rt, &inputs, 4, None);
     takes(&rt, &mut inputs, 2, &mut [9u8], &[1], 3);
     wants(&rt, &inputs, 4, Some(2));
-    Ok(())
 }
 
 // A slot has an output, from now on.
-fn add_output(outputs: &mut Outputs, slot: u32) -> Result<(), Fail> {
-    if outputs.has(slot) {
-        return Err("it has one")?;
-    }
-    outputs.add(slot)?;
-    Ok(())
+fn add_output(rt: &impl Abort, outputs: &mut Outputs, slot: u32) {
+    assert!(rt; !outputs.has(slot), "at {slot}");
+    outputs.add(slot).expect(rt, "there is memory");
 }
 
 fn puts(rt: &impl Abort, outputs: &mut Outputs, slot: u32, piece: &[u8]) {
@@ -141,25 +121,16 @@ fn has_bytes(rt: &impl Abort, outputs: &Outputs, slot: u32, want: &[u8], room: u
 }
 
 #[test]
-fn an_output_holds_its_pieces_until_it_is_drained(rt: HostRuntime) -> Result<(), Fail> {
-    let mut outputs = Outputs::new(rt.alloc())?;
+fn an_output_holds_its_pieces_until_it_is_drained(rt: HostRuntime) {
+    let mut outputs = Outputs::new(rt.alloc()).expect(&rt, "there is memory");
     same(&rt, &"the start", &outputs.is_empty(), &true);
-    add_output(&mut outputs, 5)?;
+    add_output(&rt, &mut outputs, 5);
     has_bytes(&rt, &outputs, 5, &[], 1048576);
     puts(&rt, &mut outputs, 5, &[1, 2]);
     puts(&rt, &mut outputs, 5, &[3]);
     has_bytes(&rt, &outputs, 5, &[1, 2, 3], 1048573);
     outputs.drain();
     has_bytes(&rt, &outputs, 5, &[], 1048576);
-    Ok(())
-}
-
-#[test]
-fn an_unknown_output_drops_its_pieces(rt: HostRuntime) -> Result<(), Fail> {
-    let mut outputs = Outputs::new(rt.alloc())?;
-    puts(&rt, &mut outputs, 5, &[1, 2]);
-    has_bytes(&rt, &outputs, 5, &[], usize::MAX);
-    Ok(())
 }
 
 // At a place stands the output of a slot, with so many bytes.
@@ -171,13 +142,12 @@ fn stands(rt: &impl Abort, outputs: &Outputs, place: usize, slot: u32, bytes: us
 }
 
 #[test]
-fn outputs_stand_by_ascending_slot(rt: HostRuntime) -> Result<(), Fail> {
-    let mut outputs = Outputs::new(rt.alloc())?;
-    add_output(&mut outputs, 9)?;
-    add_output(&mut outputs, 2)?;
+fn outputs_stand_by_ascending_slot(rt: HostRuntime) {
+    let mut outputs = Outputs::new(rt.alloc()).expect(&rt, "there is memory");
+    add_output(&rt, &mut outputs, 9);
+    add_output(&rt, &mut outputs, 2);
     puts(&rt, &mut outputs, 9, &[4, 4]);
     same(&rt, &"the end", &outputs.len(), &2);
     stands(&rt, &outputs, 0, 2, 0);
     stands(&rt, &outputs, 1, 9, 2);
-    Ok(())
 }

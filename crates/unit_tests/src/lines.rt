@@ -1,10 +1,9 @@
 // Scripts and the lines of answers.
-use crate::same::same;
+use crate::same::{same, shows};
 use host_widgets::{Answer, Found, HostFault};
 use sof_base::{Bounded, Errno, Format, Name44};
 use sof_script::{Binding, Command, Line, Numbered, ScriptFault, parse, ticks, write_answer};
 use std::process::Abort;
-use std::test::Fail;
 
 // The line and the cause of a script's fault; none where it is a script.
 fn fault(rt: &HostRuntime, text: &str) -> Option<(u32, u8)> {
@@ -72,19 +71,14 @@ fn commands_are_read(rt: &impl Abort, commands: &[Numbered]) {
 }
 
 #[test]
-fn lines_are_read(rt: HostRuntime) -> Result<(), Fail> {
+fn lines_are_read(rt: HostRuntime) {
     let text =
         "# a comment\r\n\n in \"H 1\" \"a b\"\nload\nparams PCM0P 48000 2 s16\nset C 31 0\r\nbytes EQ fF00\n\
         refuse 3 -22\nlag 100000 16\ntick 60000\r\nout D0 #\nshow\r";
-    let Ok(script) = parse(rt.alloc(), text.as_bytes()) else {
-        return Err("no script")?;
-    };
+    let script = parse(rt.alloc(), text.as_bytes()).expect(&rt, "it is a script");
     bindings_are_read(&rt, script.bindings.items());
-    let commands = script.commands.items();
-    assert_eq!(rt; commands.len(), 8);
     same(&rt, &"ticks", &ticks(&script), &60016);
-    commands_are_read(&rt, commands);
-    Ok(())
+    commands_are_read(&rt, script.commands.items());
 }
 
 // What a command is.
@@ -177,48 +171,45 @@ fn each_cause_is_told(rt: HostRuntime) {
     }
 }
 
-#[test]
-fn answers_say_their_lines(rt: HostRuntime) -> Result<(), Fail> {
-    let values = Bounded::new(&[31, 0]).ok_or("values")?;
-    let bytes = Bounded::new(&[255, 0]).ok_or("bytes")?;
-    let name = Name44::new(b"PCM0P").ok_or("name")?;
-    let rows = [
-        (1, Answer::Done, "1 ok"),
-        (2, Answer::Values(values), "2 value 31 0"),
-        (3, Answer::Bytes(bytes), "3 bytes ff00"),
-        (4, Answer::Bytes(Bounded::empty()), "4 bytes -"),
-        (5, Answer::Fault(HostFault::NoSuch(name)), "5 no such PCM0P"),
-        (
-            6,
-            Answer::Fault(HostFault::State(Found::Paused)),
-            "6 state paused",
-        ),
-        (
-            7,
-            Answer::Fault(HostFault::Refused(Errno(-12))),
-            "7 refused -12",
-        ),
-        (8, Answer::Fault(HostFault::NotLoaded), "8 not loaded"),
-        (9, Answer::Fault(HostFault::Loaded), "9 loaded"),
-        (10, Answer::PlanFull, "10 plan full"),
-        (11, Answer::Fault(HostFault::Off), "11 off"),
-        (12, Answer::Fault(HostFault::Range(44101)), "12 range 44101"),
-        (13, Answer::Fault(HostFault::LinkDown), "13 link down"),
-        (14, Answer::Fault(HostFault::Blob(9)), "14 blob 9"),
-        (15, Answer::Show, "15 show"),
-    ];
+// The line of an answer.
+fn says(rt: &impl Abort, number: u32, answer: &Answer, text: &str) {
     let mut line = Line::new();
-    for (number, answer, text) in rows {
-        write_answer(number, &answer, &mut line);
-        same(&rt, &text, &line.bytes(), &text.as_bytes());
-    }
-    Ok(())
+    write_answer(number, answer, &mut line);
+    same(rt, &text, &line.bytes(), &text.as_bytes());
 }
 
 #[test]
-fn a_fault_names_its_line_and_its_cause(rt: HostRuntime) -> Result<(), Fail> {
+fn answers_say_their_lines(rt: HostRuntime) {
+    let values = Bounded::new(&[31, 0]).expect(&rt, "two values");
+    let bytes = Bounded::new(&[255, 0]).expect(&rt, "two bytes");
+    says(&rt, 1, &Answer::Done, "1 ok");
+    says(&rt, 2, &Answer::Values(values), "2 value 31 0");
+    says(&rt, 3, &Answer::Bytes(bytes), "3 bytes ff00");
+    says(&rt, 4, &Answer::Bytes(Bounded::empty()), "4 bytes -");
+    says(&rt, 10, &Answer::PlanFull, "10 plan full");
+    says(&rt, 15, &Answer::Show, "15 show");
+}
+
+fn says_fault(rt: &impl Abort, number: u32, fault: HostFault, text: &str) {
+    says(rt, number, &Answer::Fault(fault), text);
+}
+
+#[test]
+fn faults_say_their_lines(rt: HostRuntime) {
+    let name = Name44::new(b"PCM0P").expect(&rt, "it is a name");
+    says_fault(&rt, 5, HostFault::NoSuch(name), "5 no such PCM0P");
+    says_fault(&rt, 6, HostFault::State(Found::Paused), "6 state paused");
+    says_fault(&rt, 7, HostFault::Refused(Errno(-12)), "7 refused -12");
+    says_fault(&rt, 8, HostFault::NotLoaded, "8 not loaded");
+    says_fault(&rt, 9, HostFault::Loaded, "9 loaded");
+    says_fault(&rt, 11, HostFault::Off, "11 off");
+    says_fault(&rt, 12, HostFault::Range(44101), "12 range 44101");
+    says_fault(&rt, 13, HostFault::LinkDown, "13 link down");
+    says_fault(&rt, 14, HostFault::Blob(9), "14 blob 9");
+}
+
+#[test]
+fn a_fault_names_its_line_and_its_cause(rt: HostRuntime) {
     let fault = ScriptFault::Line { line: 7, cause: 2 };
-    let text = format!(in rt.alloc(); "{fault}")?;
-    same(&rt, &"the fault", &text.as_str(), &"line 7: quote");
-    Ok(())
+    shows(&rt, rt.alloc(), &fault, "line 7: quote");
 }

@@ -1,12 +1,12 @@
 // Vendor arrays, read and written.
 use crate::same::same;
 use std::alloc::Global;
-use std::test::*;
+use std::process::Abort;
 use tplg_model::{NumberTuple, TextTuple, TokenArray};
 use tplg_tokens::{TokenFault, read_arrays, write_arrays};
 
 /// One array of words: the token 100 with the value 768.
-static SIZE_768: [u8; 20] = [
+const SIZE_768: [u8; 20] = [
     20, 0, 0, 0, 4, 0, 0, 0, 1, 0, 0, 0, 100, 0, 0, 0, 0, 3, 0, 0,
 ];
 
@@ -20,64 +20,73 @@ fn format_s16le() -> [u8; 60] {
     bytes
 }
 
-/// Two bytes, and after them the arrays that bytes are, written again.
-fn written_again(rt: &HostRuntime, bytes: &[u8]) -> Result<Vec<u8>, Fail> {
-    let Ok(arrays) = read_arrays(rt.alloc(), bytes) else {
-        return Err(Fail::from("they are arrays"));
-    };
-    let mut out = Vec::from_slice(rt.alloc(), &[1, 2])?;
-    if write_arrays(arrays.items(), &mut out).is_err() {
-        return Err(Fail::from("there is memory"));
+// The kind and the items of an only array of numbers.
+fn only_numbers(arrays: &[TokenArray]) -> Option<(u32, &[NumberTuple])> {
+    match arrays {
+        [TokenArray::Number(numbers)] => Some((numbers.kind(), numbers.items())),
+        _ => None,
     }
-    Ok(out)
+}
+
+// The only text of an only array.
+fn only_text(arrays: &[TokenArray]) -> Option<&TextTuple> {
+    match arrays {
+        [TokenArray::Text(texts)] => match texts.items() {
+            [text] => Some(text),
+            _ => None,
+        },
+        _ => None,
+    }
 }
 
 #[test]
-fn an_array_of_a_number_is_read(rt: HostRuntime) -> Result<(), Fail> {
-    let arrays = read_arrays(rt.alloc(), &SIZE_768)
-        .ok()
-        .ok_or("it is an array")?;
-    let [TokenArray::Number(numbers)] = arrays.items() else {
-        return Err(Fail::from("it is one array of numbers"));
-    };
-    assert_eq!(rt; numbers.kind(), 4);
-    assert_eq!(rt;
-        numbers.items(),
-        [NumberTuple {
-            token: 100,
-            value: 768
-        }]
-        .as_slice()
-    );
-    Ok(())
+fn an_array_of_a_number_is_read(rt: HostRuntime) {
+    let arrays = read_arrays(rt.alloc(), &SIZE_768).expect(&rt, "it is an array");
+    let want = [NumberTuple {
+        token: 100,
+        value: 768,
+    }];
+    let numbers = only_numbers(arrays.items());
+    same(&rt, &"the array", &numbers, &Some((4, want.as_slice())));
 }
 
 #[test]
-fn an_array_of_a_text_is_read(rt: HostRuntime) -> Result<(), Fail> {
+fn an_array_of_a_text_is_read(rt: HostRuntime) {
     let bytes = format_s16le();
-    let arrays = read_arrays(rt.alloc(), &bytes)
-        .ok()
-        .ok_or("it is an array")?;
-    let [TokenArray::Text(texts)] = arrays.items() else {
-        return Err(Fail::from("it is one array of texts"));
-    };
-    let [TextTuple { token, bytes }] = texts.items() else {
-        return Err(Fail::from("it is one text"));
-    };
-    assert_eq!(rt; *token, 402);
-    assert_eq!(rt; &bytes[..7], b"s16le\0\x07".as_slice());
-    Ok(())
+    let arrays = read_arrays(rt.alloc(), &bytes).expect(&rt, "it is an array");
+    let text = only_text(arrays.items()).expect(&rt, "it is a text");
+    same(&rt, &"the token", &text.token, &402);
+    same(
+        &rt,
+        &"the text",
+        &&text.bytes[..7],
+        &b"s16le\0\x07".as_slice(),
+    );
+}
+
+// Both arrays, one after the other.
+fn both() -> [u8; 80] {
+    let mut bytes = [0; 80];
+    bytes[..20].copy_from_slice(&SIZE_768);
+    bytes[20..].copy_from_slice(&format_s16le());
+    bytes
+}
+
+/// Two bytes, and after them the arrays that bytes are, written again.
+fn written_again(rt: &impl Abort, alloc: Global, bytes: &[u8]) -> Vec<u8> {
+    let arrays = read_arrays(alloc, bytes).expect(rt, "they are arrays");
+    let mut out = Vec::from_slice(alloc, &[1, 2]).expect(rt, "there is memory");
+    write_arrays(arrays.items(), &mut out).expect(rt, "there is memory");
+    out
 }
 
 #[test]
-fn arrays_are_written_as_they_were_read(rt: HostRuntime) -> Result<(), Fail> {
-    let mut bytes = Vec::from_slice(rt.alloc(), &SIZE_768)?;
-    bytes.extend_from_slice(&format_s16le())?;
-    let mut expected = Vec::from_slice(rt.alloc(), &[1, 2])?;
-    expected.extend_from_slice(&bytes)?;
-    let out = written_again(&rt, &bytes)?;
-    same(&rt, &"the end", &out.as_slice(), &expected.as_slice());
-    Ok(())
+fn arrays_are_written_as_they_were_read(rt: HostRuntime) {
+    let bytes = both();
+    let out = written_again(&rt, rt.alloc(), &bytes);
+    let (front, back) = out.split_at(out.len().min(2));
+    same(&rt, &"the front", &front, &[1, 2].as_slice());
+    same(&rt, &"the arrays", &back, &bytes.as_slice());
 }
 
 fn fault_of(alloc: Global, bytes: &[u8]) -> Option<TokenFault> {
@@ -85,34 +94,19 @@ fn fault_of(alloc: Global, bytes: &[u8]) -> Option<TokenFault> {
 }
 
 #[test]
-fn faults_are_told_in_their_order(rt: HostRuntime) -> Result<(), Fail> {
-    same(
-        &rt,
-        &"a cut",
-        &fault_of(rt.alloc(), &SIZE_768[..19]),
-        &Some(TokenFault::Short(0)),
-    );
-    let mut bytes = Vec::from_slice(rt.alloc(), &SIZE_768)?;
-    bytes.extend_from_slice(&[1, 0, 0, 0, 6, 0, 0, 0, 0, 0, 0])?;
-    same(
-        &rt,
-        &31,
-        &fault_of(rt.alloc(), &bytes),
-        &Some(TokenFault::Short(20)),
-    );
-    bytes.push(0)?;
-    same(
-        &rt,
-        &32,
-        &fault_of(rt.alloc(), &bytes),
-        &Some(TokenFault::Kind(20, 6)),
-    );
+fn faults_are_told_in_their_order(rt: HostRuntime) {
+    let mut bytes = [0; 32];
+    bytes[..20].copy_from_slice(&SIZE_768);
+    bytes[20] = 1;
+    bytes[24] = 6;
+    let alloc = rt.alloc();
+    let short = Some(TokenFault::Short(0));
+    same(&rt, &"a cut", &fault_of(alloc, &bytes[..19]), &short);
+    let short = Some(TokenFault::Short(20));
+    same(&rt, &31, &fault_of(alloc, &bytes[..31]), &short);
+    let kind = Some(TokenFault::Kind(20, 6));
+    same(&rt, &32, &fault_of(alloc, &bytes), &kind);
     bytes[24] = 5;
-    same(
-        &rt,
-        &24,
-        &fault_of(rt.alloc(), &bytes),
-        &Some(TokenFault::Size(20)),
-    );
-    Ok(())
+    let size = Some(TokenFault::Size(20));
+    same(&rt, &24, &fault_of(alloc, &bytes), &size);
 }

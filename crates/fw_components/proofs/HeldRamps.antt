@@ -3,7 +3,7 @@ use Rattle.std.proofs.Common.{◌≡◌, refl, ap, ◌∙◌, ℕ, zero, suc, �
 use Rattle.std.proofs.lemmas.List.{length-append, take_at}
 use Rattle.std.proofs.Math.Seq.{get_or-append_seam}
 use Rattle.stream_law.specs.Ramps.{ramp_place, ramp_numbers, numbers_from, numbers_place, ramped_on}
-use Rattle.fw_units.specs.Processed.{done_after}
+use Rattle.fw_moves.specs.Processed.{done_after}
 
 abbrev pub held : List ℕ → ℕ → List ℤ
 held from done = map pos from ++ pos done ∷ []

@@ -16,16 +16,16 @@ use Rattle.fw_units.specs.Changes.{has_id}
 use Rattle.fw_units.specs.Frames.{words_by, staged_of_one, staged_in, taken_by, pushed_by}
 use Rattle.fw_components.specs.Frames.{words_at}
 use Rattle.fw_components.specs.Kept.{IsKept, IsUnitSound, IsBuffering, IsStreaming, is_plain, sides_by}
-use Rattle.fw_units.specs.Processed.{moves_of, feeds_of, IsLevel, IsShaped, IsInlet, IsOutlet, slices_in, chosen_by, made_frames, made_numbers, output_number, output_frames, fed_at, drained_at, run_unit, run_by, run_at}
+use Rattle.fw_moves.specs.Processed.{moves_of, feeds_of, IsLevel, IsShaped, IsInlet, IsOutlet, slices_in, chosen_by, made_frames, made_numbers, output_number, output_frames, fed_at, drained_at, run_unit, run_by, run_at}
 use Rattle.fw_components.specs.Processed.{moves_at, feeds_at, channels_moved, most_moved, made_at, output_at, eq_numbers_at, numbers_made_at, processed}
-use Rattle.fw_units.specs.Moving.{CanMove, outlet_frames, IsMoved}
+use Rattle.fw_moves.specs.Moving.{CanMove, outlet_frames, IsMoved}
 use Rattle.fw_components.proofs.Begun.{taken-sides, taken-buffering, pushed-sides, pushed-buffering}
 use Rattle.fw_units.proofs.Found.{find-first, find-past}
 use Rattle.fw_units.proofs.Ids.{all-by, all-with, has-map}
 use Rattle.fw_components.proofs.Apart.{not-first}
 use Rattle.fw_components.proofs.KeptLaws.{comps-changed, sound-changed, buffers-changed, at-id, at-unit}
-use Rattle.fw_units.proofs.MadeLaws.{all-front, all-back, all-among}
-use Rattle.fw_units.proofs.MovedLaws.{fed-id, found-id}
+use Rattle.fw_moves.proofs.MadeLaws.{all-front, all-back, all-among}
+use Rattle.fw_moves.proofs.MovedLaws.{fed-id, found-id}
 
 -- ---- ids that are distinct
 

@@ -24,11 +24,11 @@ use Rattle.fw_units.specs.Units.{comp_by, edge_by, pipe_by, ring_by, streams_by,
 use Rattle.fw_components.specs.Tables.{Tables, graph_of, view_by, streams_of, histories_of}
 use Rattle.fw_units.specs.Frames.{staged_by, staged_in, staged_of_one, taken_unit, taken_by, pushed_unit, pushed_by}
 use Rattle.fw_components.specs.Kept.{IsKept, IsBuffering}
-use Rattle.fw_units.specs.Processed.{moves_of, slices_in, chosen_by, made_frames, made_numbers, output_number, output_frames, fed_at, drained_at, run_unit, run_by, run_at}
+use Rattle.fw_moves.specs.Processed.{moves_of, slices_in, chosen_by, made_frames, made_numbers, output_number, output_frames, fed_at, drained_at, run_unit, run_by, run_at}
 use Rattle.fw_components.specs.Processed.{moves_at, channels_moved, ramp_frames_by, ramp_frames_at, made_at, output_at, eq_numbers_at, numbers_made_at, processed, drained_ring, fed_ring, moved_rings, with_numbers}
 use Rattle.fw_units.proofs.Units.{taken-frames, pushed-frames}
 use Rattle.fw_components.proofs.SeenFrames.{map-same, edge_of_unit}
-use Rattle.fw_units.proofs.StepLaws.{own-found}
+use Rattle.fw_moves.proofs.StepLaws.{own-found}
 use Rattle.fw_components.proofs.KeptLaws.{at-id}
 use Rattle.fw_components.proofs.HeldRamps.{held-from, held-place, held-on}
 

@@ -19,12 +19,12 @@ use Rattle.fw_units.specs.Units.{kind_by, edge_by, size_by, source_by, sink_by, 
 use Rattle.fw_units.specs.Changes.{with_ended, ended_unit, set_at, set_unit}
 use Rattle.fw_units.specs.Frames.{begun_at, begun_by, begun_unit, pushed_at, pushed_by, pushed_unit, taken_at, taken_by, taken_unit}
 use Rattle.fw_components.specs.Parts.{parted_at, parted_by, parted_unit}
-use Rattle.fw_units.specs.Processed.{drained_at, fed_at, run_at, run_by, run_unit}
+use Rattle.fw_moves.specs.Processed.{drained_at, fed_at, run_at, run_by, run_unit}
 use Rattle.fw_units.specs.Values.{valued_at, valued_unit}
 use Rattle.fw_components.specs.Tally.{IsTallied, passes, has_phase, params_in}
 use Rattle.fw_components.proofs.HostWays.{changed-ways}
 use Rattle.fw_components.proofs.Tallying.{told, ahead, host-told, phase-live, runs-live, same-ids, map-ids, comps-tallied, buffers-tallied}
-use Rattle.fw_units.proofs.MovedLaws.{fed-id}
+use Rattle.fw_moves.proofs.MovedLaws.{fed-id}
 use Rattle.fw_units.proofs.Units.{begun-kind, valued-kind}
 
 -- ---- each change keeps streams and kinds

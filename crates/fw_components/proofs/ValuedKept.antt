@@ -14,7 +14,7 @@ use Rattle.fw_units.specs.declared.component.Unit as units
 use Rattle.fw_units.specs.declared.component.Unit.TheVariants.{Volume, Mux, Demux, Buffer}
 use Rattle.fw_units.specs.Changes.{with_unit}
 use Rattle.fw_units.specs.Values.{takes_values, valued_unit, valued_at}
-use Rattle.fw_units.proofs.StepLaws.{own-found}
+use Rattle.fw_moves.proofs.StepLaws.{own-found}
 use Rattle.fw_components.specs.Tables.{Tables}
 use Rattle.fw_components.specs.Kept.{IsKept, IsUnitSound, IsStreaming, is_plain}
 use Rattle.fw_components.proofs.KeptLaws.{comps-changed, at-id, at-unit}

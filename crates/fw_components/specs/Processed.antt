@@ -9,7 +9,7 @@ use Rattle.fw_units.specs.declared.component.Unit as units
 use Rattle.fw_units.specs.declared.component.Unit.TheVariants.{Volume}
 use Rattle.fw_units.specs.Units.{numbers_by}
 use Rattle.fw_components.specs.Tables.{Tables, held_frames, capacity_at}
-use Rattle.fw_units.specs.Processed.{chosen_by, drained_at, fed_at, feeds_of, made_frames, made_numbers, moves_of, output_frames, output_number, run_at, slices_in}
+use Rattle.fw_moves.specs.Processed.{chosen_by, drained_at, fed_at, feeds_of, made_frames, made_numbers, moves_of, output_frames, output_number, run_at, slices_in}
 
 -- ---- what can be moved
 

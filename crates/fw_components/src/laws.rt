@@ -20,7 +20,7 @@ ghost use Rattle.fw_components.specs.Tables.{Tables, graph_of, view_by, streams_
 ghost use Rattle.fw_units.specs.Frames.{begun_at, staged_in};
 ghost use Rattle.fw_components.specs.Frames.{with_frames};
 ghost use Rattle.fw_components.specs.Kept.{IsKept};
-ghost use Rattle.fw_units.specs.Processed.{slices_in};
+ghost use Rattle.fw_moves.specs.Processed.{slices_in};
 ghost use Rattle.fw_components.specs.Processed.{moves_at, channels_moved, ramp_frames_at, made_at, output_at, eq_numbers_at, numbers_made_at, processed, moved_rings, with_numbers};
 ghost use Rattle.fw_units.specs.Changes.{completed_at, set_at, joined_at, with_ended};
 

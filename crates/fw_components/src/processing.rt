@@ -3,11 +3,11 @@ ghost use Rattle.std.specs.Prelude.{◌≡◌, ◌++◌, true, length, nat_eq};
 ghost use Rattle.std.specs.List.{AllByRecursion, IsDistinct};
 ghost use Rattle.fw_units.specs.Frames.{staged_in};
 ghost use Rattle.fw_components.specs.Frames.{words_at};
-ghost use Rattle.fw_units.specs.Processed.{IsShaped, IsInlet, IsOutlet};
+ghost use Rattle.fw_moves.specs.Processed.{IsShaped, IsInlet, IsOutlet};
 ghost use Rattle.fw_components.specs.Processed.{moves_at, feeds_at, channels_moved, most_moved, made_at, output_at, eq_numbers_at, numbers_made_at, processed};
 
 use crate::registry::Registry;
-use fw_units::find_passage;
+use fw_moves::{carry, carry_one, find_passage};
 
 impl Registry {
     /// The volume, mixer, mux, equaliser or demux of this id takes `n` frames out of each buffer `looked`, and puts what it makes of
@@ -25,7 +25,8 @@ impl Registry {
         ensures staged { staged_in self.new.comps id ≡ staged_in self.old.comps id }
     {
         match self.comp_hints.place_of(self.comps.as_slice(), id) {
-            Some(at) => self.comps[at].carry(
+            Some(at) => carry(
+                &mut self.comps[at],
                 self.joins.as_slice(),
                 &self.buffer_hints,
                 &mut self.buffers,
@@ -57,7 +58,8 @@ impl Registry {
                 let buffers = self.buffers.as_slice();
                 let way = find_passage(&self.buffer_hints, buffers, looked[0], fed[0], most);
                 let joins = self.joins.as_slice();
-                self.comps[at].carry_one(
+                carry_one(
+                    &mut self.comps[at],
                     joins,
                     &self.buffer_hints,
                     &mut self.buffers,

@@ -12,9 +12,10 @@ ghost use Rattle.fw_components.specs.Changes.{added, is_idle_phase, is_full, is_
 
 use crate::tallies::{Tallies, counts, is_counted};
 use fw_heap::Region;
+use fw_moves::Workspace;
 use fw_units::{
-    Component, Hints, Workspace, complete_in, end_in, give_all, join_in, place, place_of,
-    set_stream_in, take_at, value_in,
+    Component, Hints, complete_in, end_in, give_all, join_in, place, place_of, set_stream_in,
+    take_at, value_in,
 };
 use sof_base::{Bounded, Errno, NoMemory, Params};
 use std::alloc::Global;

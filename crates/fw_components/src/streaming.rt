@@ -11,7 +11,8 @@ ghost use Rattle.sof_base.specs.Rates.{is_rate};
 ghost use Rattle.fw_components.specs.Frames.{begun, words_at, staged_at, channels_at, buffer_out_of as out_id, in_of as in_id, with_taken, pushed};
 
 use crate::registry::Registry;
-use fw_units::{in_of, out_of, place_of, spans};
+use fw_moves::spans;
+use fw_units::{in_of, out_of, place_of};
 use sof_base::{Format, Params, Sample};
 
 impl Registry {

@@ -38,7 +38,7 @@ use Rattle.fw_units.specs.Units.{comp_by, edge_by, kind_by, ramp_by, numbers_by}
 use Rattle.fw_components.specs.Tables.{Tables, graph_of, view_by, rings_of, histories_of, staging_of, held_frames, capacity_at}
 use Rattle.fw_units.specs.Changes.{has_id}
 use Rattle.fw_components.specs.Kept.{IsKept, is_plain}
-use Rattle.fw_units.specs.Processed.{moves_of, feeds_of, IsShaped, IsInlet, IsOutlet, slices_in}
+use Rattle.fw_moves.specs.Processed.{moves_of, feeds_of, IsShaped, IsInlet, IsOutlet, slices_in}
 use Rattle.fw_components.specs.Processed.{moves_at, feeds_at, channels_moved, ramp_frames_by, ramp_frames_at, made_at, output_at, eq_numbers_at, drained_ring, fed_ring, moved_rings, with_numbers}
 use Rattle.fw_walks.proofs.Naming.{find-map}
 use Rattle.fw_walks.proofs.OnWays.{any-map}

@@ -26,7 +26,7 @@ use Rattle.fw_units.specs.Changes.{has_id, IsOfHome}
 use Rattle.fw_components.specs.Kept.{IsKept, IsBuffering}
 use Rattle.fw_units.specs.Frames.{channels_by, taken_unit, taken_at, pushed_unit, pushed_at}
 use Rattle.fw_components.specs.Frames.{with_taken, pushed, with_frames}
-use Rattle.fw_units.specs.Processed.{fed_at, drained_at, run_unit, run_at}
+use Rattle.fw_moves.specs.Processed.{fed_at, drained_at, run_unit, run_at}
 use Rattle.fw_components.specs.Processed.{processed, ramp_frames_by}
 use Rattle.fw_components.specs.States.{AreOf}
 use Rattle.fw_schedule.specs.Ticks.{CanTick}

@@ -1,5 +1,5 @@
 -- What a unit is, and how a component, a buffer or a pipeline is seen in the firmware's state.
-use Rattle.std.specs.Prelude.{ℕ, ◌+◌, ◌*◌, List, [], ◌∷◌, ◌++◌, map, take, Bool, true, false, ◌==◌, Option, None, if◌then◌else◌, ℤ, pos}
+use Rattle.std.specs.Prelude.{ℕ, ◌+◌, ◌*◌, List, [], ◌∷◌, ◌++◌, map, take, nat_le, Bool, true, false, ◌==◌, Option, None, if◌then◌else◌, ℤ, pos}
 use Rattle.sof_base.specs.declared.format.Format.{Format}
 use Rattle.fw_heap.specs.Pieces.{PieceState}
 use Rattle.fw_ring.specs.RingState.{capacity_of}
@@ -31,6 +31,11 @@ is_pipeline unit = false
 abbrev pub is_host_unit : Unit → Bool
 is_host_unit (Host capture phase params piece) = true
 is_host_unit unit = false
+
+-- a volume is past its ramp
+abbrev pub is_past : Unit → Bool
+is_past (Volume gains ramp from done frames piece) = nat_le frames done
+is_past unit = false
 
 -- the piece that it holds
 abbrev pub piece_of : Unit → PieceState

@@ -1,9 +1,8 @@
 // What stands in a registry.
 ghost use Rattle.std.specs.Prelude.{◌≡◌, ◌+◌, length, nat_le};
 ghost use Rattle.stream_law.specs.Ways.{splits};
-ghost use Rattle.fw_units.specs.Units.{is_buffer, is_pipeline, kind_by, piece_of, unit_frames, capacity_by};
+ghost use Rattle.fw_units.specs.Units.{is_past, is_buffer, is_pipeline, kind_by, piece_of, unit_frames, capacity_by};
 ghost use Rattle.fw_units.specs.Values.{unit_values, takes_values};
-ghost use Rattle.fw_units.specs.Moving.{is_past};
 ghost use Rattle.std.specs.List.{list_all};
 
 use eq_biquad::Eq;
@@ -96,14 +95,14 @@ impl Unit {
     }
 
     /// Whether it splits what it takes among its outputs.
-    pub(crate) fn splits(&self) -> bool
+    pub fn splits(&self) -> bool
         ensures { result ≡ splits (kind_by self.now) }
     {
         matches!(self, Unit::Demux { .. })
     }
 
     /// Whether it is a volume past its ramp.
-    pub(crate) fn is_past(&self) -> bool
+    pub fn is_past(&self) -> bool
         ensures { result ≡ is_past self.now }
     {
         match self {

@@ -79,7 +79,7 @@ impl Component {
     }
 
     /// The ring of a buffer has the first `n` frames of another after its own, each sample times the gain of its channel.
-    pub(crate) fn amplify_from(&mut self, from: &Component, n: u32, channels: u8, gains: &[u32])
+    pub fn amplify_from(&mut self, from: &Component, n: u32, channels: u8, gains: &[u32])
         requires shape { channels_by from.now.unit ≡ channels }
         requires own { channels_by self.old.unit ≡ channels }
         requires held { n ≤ length (unit_frames from.now.unit) }
@@ -135,7 +135,7 @@ impl Component {
     }
 
     /// The samples of the first `n` frames of a buffer, in two parts of whole frames.
-    pub(crate) fn spans(&self, n: u32) -> (&[Sample], &[Sample])
+    pub fn spans(&self, n: u32) -> (&[Sample], &[Sample])
         requires { n ≤ length (unit_frames self.now.unit) }
         ensures samples { result.0.now ++ result.1.now ≡ samples_of (take n (unit_frames self.now.unit)) }
         ensures whole { length result.0.now % channels_by self.now.unit ≡ 0 }
@@ -180,7 +180,7 @@ fn is_end(end: Option<u32>, id: u32) -> bool
 }
 
 /// Writes samples and those after them.
-pub(crate) fn copy_both(front: &[Sample], back: &[Sample], samples: &mut [Sample])
+pub fn copy_both(front: &[Sample], back: &[Sample], samples: &mut [Sample])
     requires { length front.now + length back.now ≡ length samples.old }
     ensures { samples.new ≡ front.now ++ back.now }
 {

@@ -4,20 +4,14 @@
 mod changing;
 mod component;
 mod frames;
-mod giving;
 mod hints;
-mod making;
-mod moving;
 mod places;
 mod table;
-mod workspace;
 
 pub use component::{Component, Unit};
+pub use frames::copy_both;
 pub use hints::Hints;
-pub use making::spans;
-pub use moving::{Passage, find_passage};
 pub use places::{in_of, out_of};
 pub use table::{
     complete_in, end_in, give_all, join_in, place, place_of, set_stream_in, take_at, value_in,
 };
-pub use workspace::Workspace;

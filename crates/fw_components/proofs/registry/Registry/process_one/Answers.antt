@@ -10,11 +10,11 @@ use Rattle.fw_units.specs.Changes.{has_id}
 use Rattle.fw_units.specs.Frames.{kept_words, staged_in, buffer_frames, capacity_in}
 use Rattle.fw_components.specs.Frames.{words_at}
 use Rattle.fw_components.specs.Laid.{tables_of}
-use Rattle.fw_units.specs.Processed.{moves_of, IsShaped, chosen_by, output_number, run_by}
+use Rattle.fw_moves.specs.Processed.{moves_of, IsShaped, chosen_by, output_number, run_by}
 use Rattle.fw_components.specs.Processed.{moves_at, feeds_at, channels_moved, most_moved, made_at, output_at, numbers_made_at, processed}
-use Rattle.fw_units.specs.Moving.{IsMoved}
+use Rattle.fw_moves.specs.Moving.{IsMoved}
 use Rattle.fw_units.proofs.Ids.{all-by}
-use Rattle.fw_units.proofs.MadeLaws.{all-at}
+use Rattle.fw_moves.proofs.MadeLaws.{all-at}
 use Rattle.fw_units.proofs.Putting.{put-words}
 use Rattle.fw_units.proofs.Taking.{taken-found, never-found-by}
 use Rattle.fw_components.proofs.ProcessLaws.{can-process, now-processed, now-numbers, now-staged, now-kept, one-inlet, one-outlet, one-moved}
@@ -91,16 +91,16 @@ invariant_of-self c =
     let x = c.index_mut.result.now in
     let place : Some c.in-Some.at ≡ position (λ (y : Component). y.id == id) t.comps = c.in-Some.ensures ∙ ap (position (λ (y : Component). y.id == id)) c.as_slice.ensures.value in
     let it : Some x ≡ find (λ (y : Component). y.id == id) t.comps = ap (λ (y : Component). Some y) c.index_mut.ensures.value ∙ taken-found id t.comps c.in-Some.at _ place in
-    let moved : IsMoved (chosen_by x.unit x.id t.joins) (output_number t.joins x.id) looked fed n t.buffers x c.carry_one.new.buffers.items c.carry_one.new.self =
-    subst (λ (js : List Join). IsMoved (chosen_by x.unit x.id js) (output_number js x.id) looked fed n t.buffers x c.carry_one.new.buffers.items c.carry_one.new.self) c.as_slice-joins.ensures.value c.carry_one.ensures.moved in
-    let comps = set t.comps c.in-Some.at c.carry_one.new.self in
-    let put = put-words (λ w. run_by w n) (λ w y. refl) id c.in-Some.at t.comps comps c.carry_one.new.self x c.self.invariant.kept.named.comps place refl (moved.component ∙ ap (run_by (kept_words c.carry_one.new.self) n) c.index_mut.ensures.value) in
+    let moved : IsMoved (chosen_by x.unit x.id t.joins) (output_number t.joins x.id) looked fed n t.buffers x c.carry_one.new.buffers.items c.carry_one.new.component =
+    subst (λ (js : List Join). IsMoved (chosen_by x.unit x.id js) (output_number js x.id) looked fed n t.buffers x c.carry_one.new.buffers.items c.carry_one.new.component) c.as_slice-joins.ensures.value c.carry_one.ensures.moved in
+    let comps = set t.comps c.in-Some.at c.carry_one.new.component in
+    let put = put-words (λ w. run_by w n) (λ w y. refl) id c.in-Some.at t.comps comps c.carry_one.new.component x c.self.invariant.kept.named.comps place refl (moved.component ∙ ap (run_by (kept_words c.carry_one.new.component) n) c.index_mut.ensures.value) in
     record {
       comps = c.self.invariant.comps;
       buffers = subst (λ k. 128 ≤ k) (sym c.carry_one.ensures.capacity) c.self.invariant.buffers;
       pipes = c.self.invariant.pipes;
       joins = c.self.invariant.joins;
-      kept = now-kept t id x it c.self.invariant.kept looked fed n c.carry_one.new.self comps c.carry_one.new.buffers.items _ put.1 moved;
+      kept = now-kept t id x it c.self.invariant.kept looked fed n c.carry_one.new.component comps c.carry_one.new.buffers.items _ put.1 moved;
       tallied = processed-tallied t c.self.inside.tallies c.self.invariant.tallied id n looked fed _ _ _ comps c.carry_one.new.buffers.items put.1 moved.table;
     }
 
@@ -123,12 +123,12 @@ returns-clause-tables c =
     ∙ ap (λ (cs : List Component). min (length (buffer_frames cs a)) (min (capacity_in cs b - length (buffer_frames cs b)) c.args.most)) c.as_slice-buffers.ensures.value
     ∙ one-moved t looked fed c.args.most c.requires.one.0 c.requires.one.1
     ∙ ap (λ (t : Tables). most_moved t looked fed c.args.most) c.self.view_is in
-    let moved : IsMoved (chosen_by x.unit x.id t.joins) (output_number t.joins x.id) looked fed n t.buffers x c.carry_one.new.buffers.items c.carry_one.new.self =
-    subst (λ (js : List Join). IsMoved (chosen_by x.unit x.id js) (output_number js x.id) looked fed n t.buffers x c.carry_one.new.buffers.items c.carry_one.new.self) c.as_slice-joins.ensures.value c.carry_one.ensures.moved in
-    let comps = set t.comps c.in-Some.at c.carry_one.new.self in
-    let put = put-words (λ w. run_by w n) (λ w y. refl) id c.in-Some.at t.comps comps c.carry_one.new.self x c.self.invariant.kept.named.comps place refl (moved.component ∙ ap (run_by (kept_words c.carry_one.new.self) n) c.index_mut.ensures.value) in
+    let moved : IsMoved (chosen_by x.unit x.id t.joins) (output_number t.joins x.id) looked fed n t.buffers x c.carry_one.new.buffers.items c.carry_one.new.component =
+    subst (λ (js : List Join). IsMoved (chosen_by x.unit x.id js) (output_number js x.id) looked fed n t.buffers x c.carry_one.new.buffers.items c.carry_one.new.component) c.as_slice-joins.ensures.value c.carry_one.ensures.moved in
+    let comps = set t.comps c.in-Some.at c.carry_one.new.component in
+    let put = put-words (λ w. run_by w n) (λ w y. refl) id c.in-Some.at t.comps comps c.carry_one.new.component x c.self.invariant.kept.named.comps place refl (moved.component ∙ ap (run_by (kept_words c.carry_one.new.component) n) c.index_mut.ensures.value) in
     let now : Tables = record { comps = comps; buffers = c.carry_one.new.buffers.items; pipes = t.pipes; joins = t.joins } in
-    now-processed t id x it c.self.invariant.kept looked fed n there c.carry_one.new.self comps c.carry_one.new.buffers.items put.0 put.1 moved
+    now-processed t id x it c.self.invariant.kept looked fed n there c.carry_one.new.component comps c.carry_one.new.buffers.items put.0 put.1 moved
     ∙ ap (λ (t : Tables). processed id looked n fed (λ b. output_at t id b (made_at t id looked n)) (words_at now) (words_at now id) t) c.self.view_is
     ∙ ap (λ n. processed id looked n fed (λ b. output_at u id b (made_at u id looked n)) (words_at now) (words_at now id) u) count
 
@@ -151,11 +151,11 @@ returns-clause-numbers c =
     ∙ ap (λ (cs : List Component). min (length (buffer_frames cs a)) (min (capacity_in cs b - length (buffer_frames cs b)) c.args.most)) c.as_slice-buffers.ensures.value
     ∙ one-moved t looked fed c.args.most c.requires.one.0 c.requires.one.1
     ∙ ap (λ (t : Tables). most_moved t looked fed c.args.most) c.self.view_is in
-    let moved : IsMoved (chosen_by x.unit x.id t.joins) (output_number t.joins x.id) looked fed n t.buffers x c.carry_one.new.buffers.items c.carry_one.new.self =
-    subst (λ (js : List Join). IsMoved (chosen_by x.unit x.id js) (output_number js x.id) looked fed n t.buffers x c.carry_one.new.buffers.items c.carry_one.new.self) c.as_slice-joins.ensures.value c.carry_one.ensures.moved in
-    let comps = set t.comps c.in-Some.at c.carry_one.new.self in
-    let put = put-words (λ w. run_by w n) (λ w y. refl) id c.in-Some.at t.comps comps c.carry_one.new.self x c.self.invariant.kept.named.comps place refl (moved.component ∙ ap (run_by (kept_words c.carry_one.new.self) n) c.index_mut.ensures.value) in
-    now-numbers t id x it c.self.invariant.kept looked fed n there c.carry_one.new.self comps c.carry_one.new.buffers.items put.0 put.1 moved
+    let moved : IsMoved (chosen_by x.unit x.id t.joins) (output_number t.joins x.id) looked fed n t.buffers x c.carry_one.new.buffers.items c.carry_one.new.component =
+    subst (λ (js : List Join). IsMoved (chosen_by x.unit x.id js) (output_number js x.id) looked fed n t.buffers x c.carry_one.new.buffers.items c.carry_one.new.component) c.as_slice-joins.ensures.value c.carry_one.ensures.moved in
+    let comps = set t.comps c.in-Some.at c.carry_one.new.component in
+    let put = put-words (λ w. run_by w n) (λ w y. refl) id c.in-Some.at t.comps comps c.carry_one.new.component x c.self.invariant.kept.named.comps place refl (moved.component ∙ ap (run_by (kept_words c.carry_one.new.component) n) c.index_mut.ensures.value) in
+    now-numbers t id x it c.self.invariant.kept looked fed n there c.carry_one.new.component comps c.carry_one.new.buffers.items put.0 put.1 moved
     ∙ ap (λ (t : Tables). numbers_made_at t id looked n) c.self.view_is
     ∙ ap (numbers_made_at u id looked) count
 
@@ -170,8 +170,8 @@ returns-clause-staged c =
     let place : Some c.in-Some.at ≡ position (λ (y : Component). y.id == id) t.comps = c.in-Some.ensures ∙ ap (position (λ (y : Component). y.id == id)) c.as_slice.ensures.value in
     let it : Some x ≡ find (λ (y : Component). y.id == id) t.comps = ap (λ (y : Component). Some y) c.index_mut.ensures.value ∙ taken-found id t.comps c.in-Some.at _ place in
     let there = all-by (IsShaped t.buffers (channels_moved t id)) (λ b. has_id t.buffers b ≡ true) (λ b shaped. shaped.there) fed (subst (λ (t : Tables). AllByRecursion (IsShaped t.buffers (channels_moved t id)) fed) (sym c.self.view_is) c.requires.fed) in
-    let moved : IsMoved (chosen_by x.unit x.id t.joins) (output_number t.joins x.id) looked fed n t.buffers x c.carry_one.new.buffers.items c.carry_one.new.self =
-    subst (λ (js : List Join). IsMoved (chosen_by x.unit x.id js) (output_number js x.id) looked fed n t.buffers x c.carry_one.new.buffers.items c.carry_one.new.self) c.as_slice-joins.ensures.value c.carry_one.ensures.moved in
-    let comps = set t.comps c.in-Some.at c.carry_one.new.self in
-    let put = put-words (λ w. run_by w n) (λ w y. refl) id c.in-Some.at t.comps comps c.carry_one.new.self x c.self.invariant.kept.named.comps place refl (moved.component ∙ ap (run_by (kept_words c.carry_one.new.self) n) c.index_mut.ensures.value) in
-    now-staged t id x it c.self.invariant.kept looked fed n there c.carry_one.new.self comps c.carry_one.new.buffers.items put.0 put.1 moved ∙ ap (λ (t : Tables). staged_in t.comps id) c.self.view_is
+    let moved : IsMoved (chosen_by x.unit x.id t.joins) (output_number t.joins x.id) looked fed n t.buffers x c.carry_one.new.buffers.items c.carry_one.new.component =
+    subst (λ (js : List Join). IsMoved (chosen_by x.unit x.id js) (output_number js x.id) looked fed n t.buffers x c.carry_one.new.buffers.items c.carry_one.new.component) c.as_slice-joins.ensures.value c.carry_one.ensures.moved in
+    let comps = set t.comps c.in-Some.at c.carry_one.new.component in
+    let put = put-words (λ w. run_by w n) (λ w y. refl) id c.in-Some.at t.comps comps c.carry_one.new.component x c.self.invariant.kept.named.comps place refl (moved.component ∙ ap (run_by (kept_words c.carry_one.new.component) n) c.index_mut.ensures.value) in
+    now-staged t id x it c.self.invariant.kept looked fed n there c.carry_one.new.component comps c.carry_one.new.buffers.items put.0 put.1 moved ∙ ap (λ (t : Tables). staged_in t.comps id) c.self.view_is

@@ -4,7 +4,7 @@ use Rattle.fw_components.specs.Tables.{Tables, held_frames}
 use Rattle.fw_units.specs.Frames.{buffer_frames, channels_in}
 use Rattle.fw_components.specs.Frames.{channels_at}
 use Rattle.fw_components.specs.Laid.{tables_of}
-use Rattle.fw_units.proofs.MadeLaws.{parts}
+use Rattle.fw_moves.proofs.MadeLaws.{parts}
 use Rattle.fw_components.proofs.registry.Registry.spans.Goals as goal
 
 pub returns-clause-size : goal.returns-clause-size

@@ -7,8 +7,8 @@ use Rattle.fw_ring.proofs.FrameLaws.{length-frames}
 use Rattle.fw_units.specs.declared.component.Component.{Component}
 use Rattle.fw_units.specs.Units.{unit_frames, capacity_by}
 use Rattle.fw_units.specs.Frames.{kept_words, channels_by, pushed_by}
-use Rattle.fw_units.proofs.FrameLaws.{length-taken}
-use Rattle.fw_units.proofs.Amplifying.{front-few, back-whole, back-frames, both-amplified, front-amplified, pushed-both}
+use Rattle.fw_units.proofs.TakenFrames.{length-taken}
+use Rattle.fw_units.proofs.AmplifiedParts.{front-few, back-whole, back-frames, both-amplified, front-amplified, pushed-both}
 use Rattle.fw_units.proofs.Units.{pushed-channels, pushed-capacity, pushed-most}
 use Rattle.fw_units.proofs.component.Component.amplify_from.Goals as goal
 

@@ -1,7 +1,7 @@
 use Rattle.std.proofs.Common.{◌∙◌, sym, ap, length, List, ℤ, length-append}
 use Rattle.fw_units.specs.Units.{unit_frames}
 use Rattle.fw_units.specs.Frames.{channels_by}
-use Rattle.fw_units.proofs.FrameLaws.{length-taken}
+use Rattle.fw_units.proofs.TakenFrames.{length-taken}
 use Rattle.fw_units.proofs.component.Component.copy.Goals as goal
 
 pub copy_both-requires : goal.copy_both-requires

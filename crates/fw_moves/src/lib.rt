@@ -1,0 +1,11 @@
+//! A component moves frames: out of the rings that it looks at, through what it makes of them, into the rings that it feeds.
+#![tactic(auto)]
+
+mod giving;
+mod making;
+mod moving;
+mod workspace;
+
+pub use making::spans;
+pub use moving::{Passage, carry, carry_one, find_passage};
+pub use workspace::Workspace;

@@ -10,7 +10,7 @@ ghost use Rattle.tplg_compile.specs.Entries as entries;
 use crate::entry::value_at;
 use crate::entry_fault::EntryFault;
 use crate::keys::{NUMBER_TOKENS, TEXT_TOKENS, TokenKey};
-use crate::optional::keep;
+use crate::optional::push_some;
 use crate::values::{name, number};
 use sof_base::Items;
 use std::alloc::Global;
@@ -68,7 +68,7 @@ fn tuples<T: Tuple + Drop>(
     let mut tuples = Items::new(alloc);
     for key in keys {
         let tuple = tuple_at::<T>(entry, key)?;
-        keep(&mut tuples, tuple)?;
+        push_some(&mut tuples, tuple)?;
     }
     Ok(tuples)
 }

@@ -10,7 +10,7 @@ use crate::entry::{filled_at, needed, only_with, optional_name_at};
 use crate::entry_fault::EntryFault;
 use crate::keys::{NUMBER_TOKENS, TEXT_TOKENS, WIDGET_KEYS};
 use crate::kind::kind_named;
-use crate::optional::keep;
+use crate::optional::push_some;
 use crate::tokens::{numbers, texts};
 use crate::values::{filled, index};
 use sof_base::{Items, Name44};
@@ -70,7 +70,7 @@ pub fn widget(alloc: Global, entry: &Table) -> Result<SourceWidget, EntryFault>
     let texts = texts(alloc, entry)?;
     let control = optional_control_at(alloc, kind, entry, "control")?;
     let mut controls = Items::new(alloc);
-    keep(&mut controls, control)?;
+    push_some(&mut controls, control)?;
     Ok(SourceWidget {
         kind,
         name,

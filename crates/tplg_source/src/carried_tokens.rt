@@ -1,7 +1,6 @@
 // The tokens that have keys in a source.
-ghost use Rattle.std.specs.Prelude.{◌≡◌, ◌++◌, IfOk, OnOk};
+ghost use Rattle.std.specs.Prelude.{◌≡◌, IfOk};
 ghost use Rattle.std.specs.List.{filter_map};
-ghost use Rattle.std.specs.Option.{option_to_list};
 ghost use Rattle.tplg_compile.specs.KeyTables.{number_tokens, text_tokens};
 ghost use Rattle.tplg_compile.specs.ProgramValues.{keyed_by};
 ghost use Rattle.tplg_source.specs.Carried as law;
@@ -11,6 +10,7 @@ use sof_base::{Items, Name44, NoMemory};
 use std::alloc::Global;
 use tplg_build::text_tuple;
 use tplg_compile::keys::{NUMBER_TOKENS, TEXT_TOKENS, TokenKey};
+use tplg_compile::push_some;
 use tplg_model::{NumberTuple, TextTuple, TokenArray};
 use tplg_widgets::{number_of, text_of};
 
@@ -20,19 +20,6 @@ fn carried_number(arrays: &[TokenArray], key: &TokenKey) -> Option<NumberTuple>
     let token = key.token;
     let value = number_of(arrays, token)?;
     Some(NumberTuple { token, value })
-}
-
-fn put_number(
-    arrays: &[TokenArray],
-    key: &TokenKey,
-    out: &mut Items<NumberTuple>,
-) -> Result<(), NoMemory>
-    ensures { OnOk result (out.new ≡ out.old ++ option_to_list (law.carried_number arrays.now (key.now.key.now, key.now.token))) }
-{
-    match carried_number(arrays, key) {
-        Some(number) => out.push(number),
-        None => Ok(()),
-    }
 }
 
 // The numbers of the tokens of these keys, in the order of the keys.
@@ -45,7 +32,8 @@ fn numbers_at(
 {
     let mut numbers = Items::new(alloc);
     for key in keys {
-        put_number(arrays, key, &mut numbers)?;
+        let number = carried_number(arrays, key);
+        push_some(&mut numbers, number)?;
     }
     Ok(numbers)
 }
@@ -75,19 +63,6 @@ fn carried_text(arrays: &[TokenArray], key: &TokenKey) -> Option<TextTuple>
     text_kept(token, text)
 }
 
-fn put_text(
-    arrays: &[TokenArray],
-    key: &TokenKey,
-    out: &mut Items<TextTuple>,
-) -> Result<(), NoMemory>
-    ensures { OnOk result (out.new ≡ out.old ++ option_to_list (law.carried_text arrays.now (key.now.key.now, key.now.token))) }
-{
-    match carried_text(arrays, key) {
-        Some(text) => out.push(text),
-        None => Ok(()),
-    }
-}
-
 // The texts of the tokens of these keys, in the order of the keys.
 fn texts_at(
     alloc: Global,
@@ -98,7 +73,8 @@ fn texts_at(
 {
     let mut texts = Items::new(alloc);
     for key in keys {
-        put_text(arrays, key, &mut texts)?;
+        let text = carried_text(arrays, key);
+        push_some(&mut texts, text)?;
     }
     Ok(texts)
 }

@@ -10,6 +10,7 @@ use crate::names::{carried_name, is_filled};
 use sof_base::{Items, Name44, NoMemory};
 use std::alloc::Global;
 use tplg_build::{SourceRoute, SourceWidget, WidgetKind};
+use tplg_compile::push_some;
 use tplg_model::{Route, Widget, widget_kind};
 use tplg_widgets::{process_token, role_of};
 
@@ -124,20 +125,6 @@ fn carried_route(widgets: &[SourceWidget], route: &Route) -> Option<SourceRoute>
     })
 }
 
-// A route after those that are there, where a source can carry it.
-fn put_route(
-    widgets: &[SourceWidget],
-    route: &Route,
-    out: &mut Items<SourceRoute>,
-) -> Result<(), NoMemory>
-    ensures { OnOk result (out.new ≡ out.old ++ option_to_list (law.carried_route widgets.now route.now)) }
-{
-    match carried_route(widgets, route) {
-        Some(route) => out.push(route),
-        None => Ok(()),
-    }
-}
-
 /// The routes of a block between widgets that are carried.
 pub fn put_routes(
     widgets: &[SourceWidget],
@@ -147,7 +134,8 @@ pub fn put_routes(
     ensures { OnOk result (out.new ≡ out.old ++ filter_map (law.carried_route widgets.now) routes.now) }
 {
     for route in routes {
-        put_route(widgets, route, out)?;
+        let carried = carried_route(widgets, route);
+        push_some(out, carried)?;
     }
     Ok(())
 }

@@ -28,7 +28,7 @@ loop-key-preserved g c =
     let tuple = g.T.Tuple.read in
     let done = c.loop-key.tuples in
     let r = c.in_ok-tuple.tuple in
-    rw c.in_ok-keep.ensures (sym (ap (λ qs. behind done (tuples_at tuple qs entry)) (told-drop ks i no_key c.loop-key-test.true) ∙ tuples-more tuple entry done _ _ r c.in_ok-tuple.ensures) ∙ c.loop-key.invariant)
+    rw c.in_ok-push_some.ensures (sym (ap (λ qs. behind done (tuples_at tuple qs entry)) (told-drop ks i no_key c.loop-key-test.true) ∙ tuples-more tuple entry done _ _ r c.in_ok-tuple.ensures) ∙ c.loop-key.invariant)
 
 pub returns : goal.returns
 returns g c =

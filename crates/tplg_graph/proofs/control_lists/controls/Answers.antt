@@ -7,7 +7,7 @@ use Rattle.tplg_graph.proofs.control_lists.controls.Goals as goal
 
 pub loop-id-preserved : goal.loop-id-preserved
 loop-id-preserved c =
-    c.in_ok-add_control.ensures
+    c.in_ok-push_some.ensures
     ∙ ap (λ xs. xs ++ option_to_list c.in_ok-control.control) c.loop-id.invariant
     ∙ ap (λ o. filter_map (entry_control c.args.parts.now) (range_with_len 0 c.loop-id.id) ++ option_to_list o) c.in_ok-control.ensures
     ∙ sym (filter_map-next (entry_control c.args.parts.now) c.loop-id.id)

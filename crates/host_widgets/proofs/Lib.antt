@@ -69,7 +69,5 @@ pub mod PlainOrders
 pub mod OrderJobs
 pub mod OneOrder
 pub mod ChangedPlaces
-pub mod ActReasons
-pub mod Consequences
 pub mod SidesKept
 pub mod NeedLaws

@@ -46,7 +46,7 @@ use Rattle.run_replay.specs.Replaying.{next_place, record_fault, end_fault, on_a
 use Rattle.run_replay.specs.ReplayTodo.{without_fault, replied_todo, give_todo, given_todo, replayed_todo}
 use Rattle.run_words.specs.Requests.{Request, Play, Check, Picture, Compile, Source, Stress, Decode, Replay, request_of}
 use Rattle.sof_run.specs.Forms.{todo_for, todo_of}
-use Rattle.sof_run.specs.Calls.{Item, Calls, Turns, Memory, Course, before_course, saying, last_line, load_course, turning, filling_by, filling, putting, units, bindings, files, playing, counting, checking, making, keeping, sourcing, recounting, sending, faulting, replying, giving, giving_all, replaying, counting_turns, telling, stressing, Wants, Made, course}
+use Rattle.sof_run.specs.Calls.{Item, Calls, Turns, Memory, Course, before_course, said_item, last_line, load_course, turning, filling_by, filling, putting, units, bindings, files, playing, counting, checking, making_source, keeping, sourcing, recounting, sending, faulting, replying, giving, giving_all, replaying, counting_turns, telling_counts, stressing, Wants, Made, course}
 use Rattle.sof_run.specs.ComeTo.{IsMade}
 use Rattle.sof_run.specs.Findings.{FollowsCourse}
 use Rattle.run_play.proofs.WrittenPieces.{puts, puts_flush}
@@ -162,13 +162,13 @@ filling-same : (turns : List Turn) (f g : List Turn → Course) → ((turns : Li
 filling-same [] f g same = refl
 filling-same (turn ∷ turns) f g same = ap (filling_by turn.task) (same turns)
 
-lines-same : (lines : List (List ℕ)) (heard : List Heard) (turns : List Turn) → unrolled (lines_todo lines End) heard turns ≡ record { items = map (λ line. saying (with_newline line)) lines; status = 0 }
+lines-same : (lines : List (List ℕ)) (heard : List Heard) (turns : List Turn) → unrolled (lines_todo lines End) heard turns ≡ record { items = map (λ line. said_item (with_newline line)) lines; status = 0 }
 lines-same [] heard turns = refl
-lines-same (line ∷ lines) heard turns = ap (before_course (saying (with_newline line) ∷ [])) (lines-same lines heard turns)
+lines-same (line ∷ lines) heard turns = ap (before_course (said_item (with_newline line) ∷ [])) (lines-same lines heard turns)
 
-said-same : (lines : List (List ℕ)) (heard : List Heard) (turns : List Turn) → unrolled (said_todo lines End) heard turns ≡ record { items = map saying lines; status = 0 }
+said-same : (lines : List (List ℕ)) (heard : List Heard) (turns : List Turn) → unrolled (said_todo lines End) heard turns ≡ record { items = map said_item lines; status = 0 }
 said-same [] heard turns = refl
-said-same (line ∷ lines) heard turns = ap (before_course (saying line ∷ [])) (said-same lines heard turns)
+said-same (line ∷ lines) heard turns = ap (before_course (said_item line ∷ [])) (said-same lines heard turns)
 
 puts-same : (pieces : List Piece) (rest : Todo) (heard : List Heard) (turns : List Turn) → unrolled (puts pieces rest) heard turns ≡ before_course (map putting pieces) (unrolled rest heard turns)
 puts-same [] rest heard turns = refl
@@ -235,7 +235,7 @@ checking-same lines name heard turns =
     loading-same name 1048576 (codes "too long topology\n") heard _ _ (λ bytes later is.
     ap (before_course (Memory ∷ [])) (counting-same lines (checked bytes) later turns ∙ ap (counting lines) (sym (ap topology_heard is))))
 
-making-same : (out : List ℕ) (r : Result Topology SourceFault) (heard : List Heard) (turns : List Turn) → unrolled (compiled_todo out r) heard turns ≡ making out r
+making-same : (out : List ℕ) (r : Result Topology SourceFault) (heard : List Heard) (turns : List Turn) → unrolled (compiled_todo out r) heard turns ≡ making_source out r
 making-same out (Ok t) heard turns = refl
 making-same out (Err fault) heard turns = refl
 
@@ -255,13 +255,13 @@ counted-same slot (turn ∷ commands) counts f g heard turns same =
 stressing-same : (room sent seed : ℕ) (heard : List Heard) (turns : List Turn) → unrolled (stress room sent seed) heard turns ≡ stressing room sent seed turns
 stressing-same room sent seed heard turns =
     ap (before_course (Memory ∷ [])) (turning-same (stress_begins room seed) turns _ _ (λ out turns.
-    counted-same (dai_slot (stream_count seed)) (stress_turns seed) no_counts (told_todo sent) (telling sent) heard turns
+    counted-same (dai_slot (stream_count seed)) (stress_turns seed) no_counts (told_todo sent) (telling_counts sent) heard turns
     (λ counts turns. lines-same (stress_lines (record counts { messages = sent })) heard turns)))
 
 decoded-same : (es : List Entry) (fault : Option TraceFault) (heard : List Heard) (turns : List Turn) → unrolled (decoded_todo es fault) heard turns ≡ recounting (es, fault)
 decoded-same [] None heard turns = refl
 decoded-same [] (Some fault) heard turns = refl
-decoded-same (e ∷ es) fault heard turns = ap (before_course (saying (with_newline (entry_line e)) ∷ [])) (decoded-same es fault heard turns)
+decoded-same (e ∷ es) fault heard turns = ap (before_course (said_item (with_newline (entry_line e)) ∷ [])) (decoded-same es fault heard turns)
 
 faulting-same : (fault : Option ReplayFault) (rest : Todo) (course : Course) (heard : List Heard) (turns : List Turn) → unrolled rest heard turns ≡ course → unrolled (without_fault fault rest) heard turns ≡ faulting fault course
 faulting-same None rest course heard turns same = same
@@ -297,7 +297,7 @@ module _ (room : ℕ) (end : Option TraceFault) (f : Bool → Todo) (g : Bool �
 
 replayed-same : (room : ℕ) (es : List Entry) (end : Option TraceFault) (heard : List Heard) (turns : List Turn) → unrolled (replayed_todo room es end) heard turns ≡ replaying room (es, end) turns
 replayed-same room es end heard turns =
-    given-same room end (λ on. lines_todo (replay_lines (tally_of es) on) End) (λ on. record { items = map (λ line. saying (with_newline line)) (replay_lines (tally_of es) on); status = 0 }) heard
+    given-same room end (λ on. lines_todo (replay_lines (tally_of es) on) End) (λ on. record { items = map (λ line. said_item (with_newline line)) (replay_lines (tally_of es) on); status = 0 }) heard
     (λ on turns. lines-same (replay_lines (tally_of es) on) heard turns) es false None 0 turns
 
 request-same : (room sent : ℕ) (r : Option Request) (heard : List Heard) (turns : List Turn) → unrolled (todo_for room sent r) heard turns ≡ course room sent r (findings_of heard) heard turns
@@ -306,7 +306,7 @@ request-same room sent (Some (Check name)) heard turns = checking-same count_lin
 request-same room sent (Some (Picture name)) heard turns = checking-same picture_lines name heard turns
 request-same room sent (Some (Compile names)) heard turns =
     loading-same names.source 1048576 (codes "too long source\n") heard _ _ (λ text later is.
-    ap (before_course (Memory ∷ [])) (making-same names.out (compiled_of text) later turns ∙ ap (making names.out) (sym (ap source_heard is))))
+    ap (before_course (Memory ∷ [])) (making-same names.out (compiled_of text) later turns ∙ ap (making_source names.out) (sym (ap source_heard is))))
 request-same room sent (Some (Source given)) heard turns =
     loading-same given.topology 1048576 (codes "too long topology\n") heard _ _ (λ bytes later is.
     ap (before_course (Memory ∷ [])) (sourcing-same given.out (checked bytes) later turns ∙ ap (sourcing given.out) (sym (ap topology_heard is))))

@@ -65,12 +65,12 @@ pub record Course : Type 0 where
 abbrev pub before_course : List Item → Course → Course
 before_course items course = record { items = items ++ course.items; status = course.status }
 
-abbrev pub saying : List ℕ → Item
-saying line = Calls (Did (Put Spoken line) true)
+abbrev pub said_item : List ℕ → Item
+said_item line = Calls (Did (Put Spoken line) true)
 
 -- a line is said, and no more
 abbrev pub last_line : List ℕ → ℕ → Course
-last_line line status = record { items = saying line ∷ []; status = status }
+last_line line status = record { items = said_item line ∷ []; status = status }
 
 -- a load, by what it answered first of all that loads answered: the bytes, after which it goes on, or why there are none
 abbrev pub load_course : List ℕ → ℕ → List ℕ → List Heard → (List Heard → Course) → Course
@@ -134,7 +134,7 @@ playing form run heard turns =
 
 -- these lines of a right topology are said
 abbrev pub counting : (Topology → List (List ℕ)) → Result Topology Halt → Course
-counting lines (Ok t) = record { items = map saying (lines t); status = 0 }
+counting lines (Ok t) = record { items = map said_item (lines t); status = 0 }
 counting lines (Err why) = last_line (halt_line why) (halt_status why)
 
 -- a topology is loaded before
@@ -143,11 +143,11 @@ checking name heard rest = load_course name 1048576 (codes "too long topology\n"
 
 -- a file of these bytes is made
 abbrev pub making_file : List ℕ → List ℕ → Course
-making_file out bytes = record { items = Calls (Did (Create 0 out) true) ∷ Calls (Did (Put (Slot 0) bytes) true) ∷ saying (with_newline (wrote_line bytes)) ∷ []; status = 0 }
+making_file out bytes = record { items = Calls (Did (Create 0 out) true) ∷ Calls (Did (Put (Slot 0) bytes) true) ∷ said_item (with_newline (wrote_line bytes)) ∷ []; status = 0 }
 
-abbrev pub making : List ℕ → Result Topology SourceFault → Course
-making out (Ok t) = making_file out (spelling t)
-making out (Err fault) = last_line (source_line fault) (source_status fault)
+abbrev pub making_source : List ℕ → Result Topology SourceFault → Course
+making_source out (Ok t) = making_file out (spelling t)
+making_source out (Err fault) = last_line (source_line fault) (source_status fault)
 
 -- the file of a source, where there is one
 abbrev pub keeping : List ℕ → Option (List ℕ) → Course
@@ -161,7 +161,7 @@ sourcing out (Err why) = last_line (halt_line why) (halt_status why)
 -- ---- `decode`
 
 abbrev pub recounting : List Entry × Option TraceFault → Course
-recounting trace = record { items = map saying (trace_lines trace.0 trace.1); status = trace_status trace.1 }
+recounting trace = record { items = map said_item (trace_lines trace.0 trace.1); status = trace_status trace.1 }
 
 -- ---- `replay`
 
@@ -193,7 +193,7 @@ giving_all room (e ∷ es) end on awaited at last turns =
 -- all records of a trace, and then the lines
 abbrev pub replaying : ℕ → List Entry × Option TraceFault → List Turn → Course
 replaying room trace turns =
-    giving_all room trace.0 trace.1 false None 0 (λ on. record { items = map (λ line. saying (with_newline line)) (replay_lines (tally_of trace.0) on); status = 0 }) turns
+    giving_all room trace.0 trace.1 false None 0 (λ on. record { items = map (λ line. said_item (with_newline line)) (replay_lines (tally_of trace.0) on); status = 0 }) turns
 
 -- ---- `stress`
 
@@ -203,12 +203,12 @@ counting_turns slot [] counts turns next = next counts
 counting_turns slot (turn ∷ commands) counts turns next = turning (Carry turn.command) turns (λ out turns. counting_turns slot commands (turn_counted slot turn out counts) turns next)
 
 -- the five numbers are said, once so many messages were sent
-abbrev pub telling : ℕ → Counts → Course
-telling sent counts = record { items = map (λ line. saying (with_newline line)) (stress_lines (record counts { messages = sent })); status = 0 }
+abbrev pub telling_counts : ℕ → Counts → Course
+telling_counts sent counts = record { items = map (λ line. said_item (with_newline line)) (stress_lines (record counts { messages = sent })); status = 0 }
 
 abbrev pub stressing : ℕ → ℕ → ℕ → List Turn → Course
 stressing room sent seed turns =
-    before_course (Memory ∷ []) (turning (stress_begins room seed) turns (λ out turns. counting_turns (dai_slot (stream_count seed)) (stress_turns seed) no_counts turns (telling sent)))
+    before_course (Memory ∷ []) (turning (stress_begins room seed) turns (λ out turns. counting_turns (dai_slot (stream_count seed)) (stress_turns seed) no_counts turns (telling_counts sent)))
 
 -- ---- all words
 
@@ -218,7 +218,7 @@ course room sent (Some (Play form)) found heard turns = playing form found.run h
 course room sent (Some (Check name)) found heard turns = checking name heard (counting count_lines found.topology)
 course room sent (Some (Picture name)) found heard turns = checking name heard (counting picture_lines found.topology)
 course room sent (Some (Compile names)) found heard turns =
-    load_course names.source 1048576 (codes "too long source\n") heard (λ heard. before_course (Memory ∷ []) (making names.out found.source))
+    load_course names.source 1048576 (codes "too long source\n") heard (λ heard. before_course (Memory ∷ []) (making_source names.out found.source))
 course room sent (Some (Source given)) found heard turns = checking given.topology heard (sourcing given.out found.topology)
 course room sent (Some (Stress seed)) found heard turns = stressing room sent seed turns
 course room sent (Some (Decode name)) found heard turns = load_course name 16777216 (codes "too long trace\n") heard (λ heard. recounting found.trace)

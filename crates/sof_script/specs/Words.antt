@@ -31,9 +31,9 @@ abbrev pub word_named : List ℕ → Option Word
 word_named token = named_in token word_texts
 
 -- the words of a table of the program
-abbrev pub words_of : List (Bor (List ℕ) × Word) → List (List ℕ × Word)
-words_of [] = []
-words_of ((text, w) ∷ rows) = (text.now, w) ∷ words_of rows
+abbrev pub text_words : List (Bor (List ℕ) × Word) → List (List ℕ × Word)
+text_words [] = []
+text_words ((text, w) ∷ rows) = (text.now, w) ∷ text_words rows
 
 -- what a word and the tokens after it are
 abbrev pub worded_item : Word → List (List ℕ) → Result Item Cause

@@ -17,7 +17,7 @@ use Rattle.host_widgets.specs.Controls.{control_of}
 use Rattle.sof_script.specs.KindWords.{name_of, kind_words}
 use Rattle.tplg_picture.specs.declared.shown.Shown.{Shown}
 use Rattle.tplg_picture.specs.declared.shown.ShownPcm.{ShownPcm}
-use Rattle.tplg_picture.specs.ShownNames.{live_name_at, pcm_with}
+use Rattle.tplg_picture.specs.ShownNames.{live_name_at, shown_pcm_with}
 
 -- ---- names
 
@@ -69,7 +69,7 @@ rate_label caps = codes "\\n" ++ span_words caps.rate_min caps.rate_max ++ codes
 -- a host's stream
 unfoldable pub stream_label : Shown → Option StreamPlan → List ℕ
 stream_label shown None = []
-stream_label shown (Some s) = pcm_label (pcm_with shown.pcms s.capture s.caps.name) ++ rate_label s.caps
+stream_label shown (Some s) = pcm_label (shown_pcm_with shown.pcms s.capture s.caps.name) ++ rate_label s.caps
 
 -- a ramp in ms, where there is one
 unfoldable pub ramp_label : ℕ → List ℕ

@@ -32,8 +32,8 @@ abbrev pub has_stream : Bool → List ℕ → ShownPcm → Bool
 has_stream capture name p = bytes_eq name (if capture then p.capture else p.play)
 
 -- the first PCM whose stream of a direction has this name
-abbrev pub pcm_with : List ShownPcm → Bool → List ℕ → Option ShownPcm
-pcm_with pcms capture name = find (has_stream capture name) pcms
+abbrev pub shown_pcm_with : List ShownPcm → Bool → List ℕ → Option ShownPcm
+shown_pcm_with pcms capture name = find (has_stream capture name) pcms
 
 -- ---- controls
 

@@ -6,7 +6,7 @@ ghost use Rattle.sof_script.specs.KindWords as kinds;
 ghost use Rattle.tplg_picture.specs.Labels as law;
 
 use crate::gains::say_gains;
-use crate::shown::{Shown, ShownPcm, live_name_at, pcm_with};
+use crate::shown::{Shown, ShownPcm, live_name_at, shown_pcm_with};
 use crate::words::{say, say_escaped, say_number, say_span};
 use sof_base::NoMemory;
 use sof_script::kind_words;
@@ -73,7 +73,10 @@ fn say_stream(line: &mut Vec<u8>, shown: &Shown, plan: &Plan, id: u32) -> Result
         None => Ok(()),
         Some(stream) => {
             let name = stream.caps.name.as_bytes();
-            say_pcm(line, pcm_with(shown.pcms.items(), stream.capture, name))?;
+            say_pcm(
+                line,
+                shown_pcm_with(shown.pcms.items(), stream.capture, name),
+            )?;
             say_rates(line, &stream.caps)
         }
     }

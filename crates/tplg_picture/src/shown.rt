@@ -72,8 +72,8 @@ fn has_stream(pcm: &ShownPcm, capture: bool, name: &[u8]) -> bool
 }
 
 /// The first PCM whose stream of a direction has a name.
-pub fn pcm_with<'p>(pcms: &'p [ShownPcm], capture: bool, name: &[u8]) -> Option<&'p ShownPcm>
-    ensures { option_copied result ≡ law.pcm_with pcms.now capture name.now }
+pub fn shown_pcm_with<'p>(pcms: &'p [ShownPcm], capture: bool, name: &[u8]) -> Option<&'p ShownPcm>
+    ensures { option_copied result ≡ law.shown_pcm_with pcms.now capture name.now }
 {
     pcms.iter().find(|p| has_stream(*p, capture, name))
 }

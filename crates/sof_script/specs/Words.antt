@@ -22,18 +22,18 @@ word_texts =
     ∷ (codes "drop", word.Drop) ∷ (codes "lose", word.Lose) ∷ (codes "lag", word.Lag) ∷ []
 
 -- the word that a token is, of these
-abbrev pub named_in : List ℕ → List (List ℕ × Word) → Option Word
-named_in token [] = None
-named_in token ((text, w) ∷ rows) = if bytes_eq token text then Some w else named_in token rows
+abbrev pub word_listed : List ℕ → List (List ℕ × Word) → Option Word
+word_listed token [] = None
+word_listed token ((text, w) ∷ rows) = if bytes_eq token text then Some w else word_listed token rows
 
 -- the word that a token is
 abbrev pub word_named : List ℕ → Option Word
-word_named token = named_in token word_texts
+word_named token = word_listed token word_texts
 
 -- the words of a table of the program
-abbrev pub text_words : List (Bor (List ℕ) × Word) → List (List ℕ × Word)
-text_words [] = []
-text_words ((text, w) ∷ rows) = (text.now, w) ∷ text_words rows
+abbrev pub listed_words : List (Bor (List ℕ) × Word) → List (List ℕ × Word)
+listed_words [] = []
+listed_words ((text, w) ∷ rows) = (text.now, w) ∷ listed_words rows
 
 -- what a word and the tokens after it are
 abbrev pub worded_item : Word → List (List ℕ) → Result Item Cause

@@ -1,6 +1,6 @@
 // The words that lines begin with.
 ghost use Rattle.std.specs.Prelude.{◌≡◌};
-ghost use Rattle.sof_script.specs.Words.{word_named, named_in, text_words};
+ghost use Rattle.sof_script.specs.Words.{word_named, word_listed, listed_words};
 
 /// The first token of a line that is not skipped.
 #[derive(Clone, Copy, Debug, PartialEq, Eq)]
@@ -59,7 +59,7 @@ const WORDS: [(&str, Word); 23] = [
 
 // The word that a token is, of these.
 fn word_in(words: &[(&str, Word)], token: &[u8]) -> Option<Word>
-    ensures { result ≡ named_in token.now (text_words words.now) }
+    ensures { result ≡ word_listed token.now (listed_words words.now) }
 {
     for (text, word) in words {
         if token == text.as_bytes() {

@@ -25,9 +25,9 @@ keyed_by [] = []
 keyed_by (k ∷ ks) = (k.key.now, k.token) ∷ keyed_by ks
 
 -- the kinds of a table of the program
-abbrev pub kinds_of : List (Bor (List ℕ) × WidgetKind) → List (List ℕ × WidgetKind)
-kinds_of [] = []
-kinds_of ((text, kind) ∷ kinds) = (text.now, kind) ∷ kinds_of kinds
+abbrev pub listed_kinds : List (Bor (List ℕ) × WidgetKind) → List (List ℕ × WidgetKind)
+listed_kinds [] = []
+listed_kinds ((text, kind) ∷ kinds) = (text.now, kind) ∷ listed_kinds kinds
 
 -- the keys of a document
 abbrev pub document_keys : List (List ℕ)

@@ -3,4 +3,4 @@
 
 mod words;
 
-pub use words::{Form, Names, Request, SourceFiles, read_request};
+pub use words::{Form, Names, Request, SourceFiles, is_file_name, number_in, read_request};

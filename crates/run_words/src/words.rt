@@ -22,8 +22,8 @@ pub struct Form<'a> {
     pub trace: Option<&'a str>,
 }
 
-// A decimal number without a needless leading zero, from `least` to `most`.
-fn number_in(word: &[u8], least: u32, most: u32) -> Option<u32>
+/// A decimal number without a needless leading zero, from `least` to `most`.
+pub fn number_in(word: &[u8], least: u32, most: u32) -> Option<u32>
     ensures value { result ≡ result_ok (number_value least most word.now) }
     ensures most { IfSome result (λ n. n ≤ most) }
 {
@@ -33,7 +33,8 @@ fn number_in(word: &[u8], least: u32, most: u32) -> Option<u32>
     }
 }
 
-fn is_file_name(name: &str) -> bool
+/// Whether a word is the name of a file, which has 1 to 255 bytes.
+pub fn is_file_name(name: &str) -> bool
     ensures { result ≡ is_file_name name.now }
 {
     name.len() >= 1 && name.len() <= 255

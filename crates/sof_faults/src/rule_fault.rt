@@ -2,6 +2,7 @@
 use crate::shown::{Quoted, Shown};
 use std::fmt;
 use std::fmt::Display;
+use thiserror::Error;
 use tplg_model::{Body, Control, Route, Topology};
 use tplg_widgets::{End, Entry, FormatToken, Process, Role, Wiring, is_interpreted, is_scheduler};
 
@@ -14,21 +15,95 @@ pub struct RuleFault<'a, 't> {
     pub wiring: &'a Wiring<'t>,
 }
 
-// A widget by its number and its name.
-#[derive(Clone, Copy)]
-struct Named<'a, 't> {
-    number: usize,
-    entry: &'a Entry<'t>,
+// What a topology has of a number, if anything.
+#[derive(Clone, Copy, Debug, Error)]
+enum Stated {
+    #[error("this is {0}")]
+    Number(u32),
+    #[error("none is stated")]
+    Nothing,
 }
 
-impl Display for Named<'_, '_> {
-    fn fmt<W: fmt::Write>(&self, f: &mut fmt::Formatter<W>) -> fmt::Result {
-        write!(
-            f,
-            "widget {} ({})",
-            self.number,
-            Shown(self.entry.name().as_bytes())
-        )
+// What is wrong with a widget.
+#[derive(Clone, Copy, Debug, Error)]
+enum WidgetFault<'t> {
+    #[error("{0}")]
+    Plain(&'static str),
+    #[error("{0}, and this has {1} in and {2} out")]
+    Routes(&'static str, usize, usize),
+    #[error("its index {0} takes one scheduler, and has {1}")]
+    Schedulers(u32, usize),
+    #[error("its stream name {0} names no component")]
+    NoComponent(Quoted<'t>),
+    #[error("its period is a multiple of 1000 from 1000 to 10000 µs, and {0}")]
+    Period(Stated),
+    #[error("an earlier host has the stream name {0}")]
+    EarlierHost(Shown<'t>),
+    #[error("no PCM has caps of the name {0} in its direction")]
+    NoCaps(Shown<'t>),
+    #[error("its size is from 16 to 16777184 bytes, and {0}")]
+    Size(Stated),
+    #[error("its control takes values from 0 to {most} on 1 to 8 channels, and states {min} to {max} on {channels}")]
+    Values {
+        most: u32,
+        min: i32,
+        max: i32,
+        channels: u32,
+    },
+    #[error("its control takes 1 to 16 items, and states {0}")]
+    Items(u32),
+}
+
+// What is wrong with a route.
+#[derive(Clone, Copy, Debug, Error)]
+enum RouteFault<'t> {
+    #[error("both ends are buffers, and a component has to stand between")]
+    Buffers,
+    #[error("no widget has the name {0}")]
+    Missing(Shown<'t>),
+}
+
+// What is told of a rule: the item by its number and name, and what is wrong with it.
+#[derive(Clone, Copy, Debug, Error)]
+enum Told<'t> {
+    #[error("{0}")]
+    Count(&'static str),
+    #[error("{0} {1}")]
+    NoItem(&'static str, u32),
+    #[error("route {number} ({from} to {to}): {fault}")]
+    Route {
+        number: u32,
+        from: Shown<'t>,
+        to: Shown<'t>,
+        fault: RouteFault<'t>,
+    },
+    #[error("widget {number} ({name}): {fault}")]
+    Widget {
+        number: u32,
+        name: Shown<'t>,
+        fault: WidgetFault<'t>,
+    },
+    #[error("{0} plays into a capture without an echo edge")]
+    Echo(Shown<'t>),
+    #[error("a cycle through {0}")]
+    Cycle(Shown<'t>),
+}
+
+fn stated(number: Option<u32>) -> Stated {
+    match number {
+        Some(number) => Stated::Number(number),
+        None => Stated::Nothing,
+    }
+}
+
+// What there is too much of.
+fn count_fault(item: u32) -> &'static str {
+    match item {
+        0 => "there are more than 32 pipelines",
+        1 => "there are more than 128 components",
+        2 => "there are more than 128 buffers",
+        3 => "there are more than 16 PCMs",
+        _ => "there are more than 64 live controls",
     }
 }
 
@@ -50,22 +125,98 @@ fn routes_taken(entry: &Entry) -> &'static str {
     }
 }
 
-impl<'a, 't> RuleFault<'a, 't> {
-    // The number of a widget's entry from its id.
-    fn number_of(&self, id: u32) -> Option<usize> {
-        let mut left = id;
-        for (number, entry) in self.wiring.widgets().all().iter().enumerate() {
-            if !is_interpreted(entry) {
-                continue;
-            }
-            if left == 0 {
-                return Some(number);
-            }
-            left -= 1;
-        }
-        None
+fn name_fault(name: &[u8]) -> &'static str {
+    if name.is_empty() {
+        return "the name is empty";
     }
+    for byte in name {
+        if *byte < b' ' || *byte > b'~' {
+            return "the name has a byte that cannot be printed";
+        }
+    }
+    "an earlier widget has this name"
+}
 
+fn dai_fault(entry: &Entry) -> &'static str {
+    if entry.tokens().format == FormatToken::Unknown {
+        "its format is s16le, s24le or s32le"
+    } else {
+        "its direction is 0 where a route ends at it, and 1 where one begins"
+    }
+}
+
+// How many schedulers have an index.
+fn schedulers_of(entries: &[Entry], index: u32) -> usize {
+    let mut count = 0usize;
+    for other in entries {
+        if is_scheduler(other) && other.index() == index {
+            count = count.saturating_add(1);
+        }
+    }
+    count
+}
+
+// Whether one of the first entries is a host of the same role and stream name.
+fn has_stream(entries: &[Entry], number: usize, entry: &Entry) -> bool {
+    let sname = entry.sname().as_bytes();
+    for other in entries.iter().take(number) {
+        if other.role() == entry.role() && other.sname().as_bytes() == sname {
+            return true;
+        }
+    }
+    false
+}
+
+// What is wrong with a host among those before it.
+fn host_fault<'t>(entries: &[Entry<'t>], number: usize, entry: &Entry<'t>) -> WidgetFault<'t> {
+    let sname = entry.sname().as_bytes();
+    if sname.is_empty() {
+        WidgetFault::Plain("it has no stream name")
+    } else if has_stream(entries, number, entry) {
+        WidgetFault::EarlierHost(Shown(sname))
+    } else {
+        WidgetFault::NoCaps(Shown(sname))
+    }
+}
+
+fn control_fault<'t>(entry: &Entry<'t>) -> WidgetFault<'t> {
+    if entry.role() == Some(Role::Eq) && entry.tokens().process != Process::Equaliser {
+        return WidgetFault::Plain("its process is EQIIR or DEMUX");
+    }
+    let most = if entry.role() == Some(Role::Demux) {
+        255
+    } else {
+        65535
+    };
+    match entry.control() {
+        Some(
+            Control::Mixer {
+                min,
+                max,
+                num_channels,
+                ..
+            },
+        ) => WidgetFault::Values {
+            most,
+            min: *min,
+            max: *max,
+            channels: *num_channels,
+        },
+        Some(Control::Enum { items, .. }) => WidgetFault::Items(*items),
+        _ => WidgetFault::Plain("its control's blob is no blob of an equaliser"),
+    }
+}
+
+// The end of a route that is no widget's name.
+fn missing_end<'t>(wiring: &Wiring, route: &'t Route) -> &'t [u8] {
+    let source = route.source.as_bytes();
+    match wiring.widgets().end_of(source) {
+        End::Missing => source,
+        _ => route.sink.as_bytes(),
+    }
+}
+
+impl<'a, 't> RuleFault<'a, 't> {
     // The id of the widget of a number.
     fn id_of(&self, number: usize) -> u32 {
         let mut id: u32 = 0;
@@ -92,243 +243,94 @@ impl<'a, 't> RuleFault<'a, 't> {
         None
     }
 
-    // How many real routes come to the widget of this id, and how many go from it.
-    fn counts(&self, id: u32) -> (usize, usize) {
-        let joins = self.wiring.joins();
-        let ins = joins.iter().filter(|join| join.sink == id).count();
-        let outs = joins.iter().filter(|join| join.source == id).count();
-        (ins, outs)
+    // How many real routes come to the widget of a number, how many go from it, and what it takes.
+    fn routes_fault(&self, number: usize, entry: &Entry) -> WidgetFault<'t> {
+        let id = self.id_of(number);
+        let (mut ins, mut outs) = (0usize, 0usize);
+        for join in self.wiring.joins() {
+            if join.sink == id {
+                ins = ins.saturating_add(1);
+            }
+            if join.source == id {
+                outs = outs.saturating_add(1);
+            }
+        }
+        WidgetFault::Routes(routes_taken(entry), ins, outs)
     }
 
-    // Rule 1.
-    fn show_count<W: fmt::Write>(&self, f: &mut fmt::Formatter<W>) -> fmt::Result {
-        match self.item {
-            0 => write!(f, "there are more than 32 pipelines"),
-            1 => write!(f, "there are more than 128 components"),
-            2 => write!(f, "there are more than 128 buffers"),
-            3 => write!(f, "there are more than 16 PCMs"),
-            _ => write!(f, "there are more than 64 live controls"),
+    // The rules whose item is a widget's number.
+    fn widget_fault(&self, number: usize, entry: &Entry<'t>) -> WidgetFault<'t> {
+        let entries = self.wiring.widgets().all();
+        let index = entry.index();
+        match self.rule {
+            2 => WidgetFault::Plain(name_fault(entry.name().as_bytes())),
+            5 | 6 => self.routes_fault(number, entry),
+            7 => WidgetFault::Schedulers(index, schedulers_of(entries, index)),
+            8 => WidgetFault::NoComponent(Quoted(entry.sname().as_bytes())),
+            9 => WidgetFault::Period(stated(entry.tokens().period)),
+            10 => WidgetFault::Plain(dai_fault(entry)),
+            11 => host_fault(entries, number, entry),
+            12 => WidgetFault::Size(stated(entry.tokens().size)),
+            _ => control_fault(entry),
+        }
+    }
+
+    fn widget_told(&self) -> Told<'t> {
+        let number = self.item as usize;
+        match self.wiring.widgets().all().get(number) {
+            Some(entry) => Told::Widget {
+                number: self.item,
+                name: Shown(entry.name().as_bytes()),
+                fault: self.widget_fault(number, entry),
+            },
+            None => Told::NoItem("widget", self.item),
         }
     }
 
     // Rules 3 and 4.
-    fn show_route<W: fmt::Write>(&self, f: &mut fmt::Formatter<W>) -> fmt::Result {
+    fn route_told(&self) -> Told<'t> {
         let Some(route) = self.route() else {
-            return write!(f, "route {}", self.item);
+            return Told::NoItem("route", self.item);
         };
-        let (source, sink) = (route.source.as_bytes(), route.sink.as_bytes());
-        write!(
-            f,
-            "route {} ({} to {}): ",
-            self.item,
-            Shown(source),
-            Shown(sink)
-        )?;
-        if self.rule == 4 {
-            return write!(
-                f,
-                "both ends are buffers, and a component has to stand between"
-            );
-        }
-        let missing = match self.wiring.widgets().end_of(source) {
-            End::Missing => source,
-            _ => sink,
-        };
-        write!(f, "no widget has the name {}", Shown(missing))
-    }
-
-    // Rule 2.
-    fn show_name<W: fmt::Write>(
-        &self,
-        entry: &Entry<'t>,
-        f: &mut fmt::Formatter<W>,
-    ) -> fmt::Result {
-        let name = entry.name().as_bytes();
-        if name.is_empty() {
-            write!(f, "the name is empty")
-        } else if name.iter().any(|byte| *byte < b' ' || *byte > b'~') {
-            write!(f, "the name has a byte that cannot be printed")
+        let fault = if self.rule == 4 {
+            RouteFault::Buffers
         } else {
-            write!(f, "an earlier widget has this name")
-        }
-    }
-
-    // Rules 5 and 6.
-    fn show_routes<W: fmt::Write>(
-        &self,
-        number: usize,
-        entry: &Entry<'t>,
-        f: &mut fmt::Formatter<W>,
-    ) -> fmt::Result {
-        let (ins, outs) = self.counts(self.id_of(number));
-        write!(
-            f,
-            "{}, and this has {ins} in and {outs} out",
-            routes_taken(entry)
-        )
-    }
-
-    // Rule 7.
-    fn show_index<W: fmt::Write>(
-        &self,
-        entry: &Entry<'t>,
-        f: &mut fmt::Formatter<W>,
-    ) -> fmt::Result {
-        let index = entry.index();
-        let entries = self.wiring.widgets().all().iter();
-        let schedulers = entries
-            .filter(|other| is_scheduler(other) && other.index() == index)
-            .count();
-        write!(
-            f,
-            "its index {index} takes one scheduler, and has {schedulers}"
-        )
-    }
-
-    // Rule 9.
-    fn show_period<W: fmt::Write>(
-        &self,
-        entry: &Entry<'t>,
-        f: &mut fmt::Formatter<W>,
-    ) -> fmt::Result {
-        write!(f, "its period is a multiple of 1000 from 1000 to 10000")?;
-        match entry.tokens().period {
-            Some(period) => write!(f, " µs, and this is {period}"),
-            None => write!(f, " µs, and none is stated"),
-        }
-    }
-
-    // Rule 10.
-    fn show_dai<W: fmt::Write>(&self, entry: &Entry<'t>, f: &mut fmt::Formatter<W>) -> fmt::Result {
-        if entry.tokens().format == FormatToken::Unknown {
-            return write!(f, "its format is s16le, s24le or s32le");
-        }
-        write!(
-            f,
-            "its direction is 0 where a route ends at it, and 1 where one begins"
-        )
-    }
-
-    // Rule 11.
-    fn show_host<W: fmt::Write>(
-        &self,
-        number: usize,
-        entry: &Entry<'t>,
-        f: &mut fmt::Formatter<W>,
-    ) -> fmt::Result {
-        let sname = entry.sname().as_bytes();
-        let earlier = self.wiring.widgets().all().iter().take(number);
-        if sname.is_empty() {
-            write!(f, "it has no stream name")
-        } else if earlier
-            .filter(|other| other.role() == entry.role())
-            .any(|other| other.sname().as_bytes() == sname)
-        {
-            write!(f, "an earlier host has the stream name {}", Shown(sname))
-        } else {
-            write!(
-                f,
-                "no PCM has caps of the name {} in its direction",
-                Shown(sname)
-            )
-        }
-    }
-
-    // Rule 12.
-    fn show_size<W: fmt::Write>(
-        &self,
-        entry: &Entry<'t>,
-        f: &mut fmt::Formatter<W>,
-    ) -> fmt::Result {
-        write!(f, "its size is from 16 to 16777184 bytes")?;
-        match entry.tokens().size {
-            Some(size) => write!(f, ", and this is {size}"),
-            None => write!(f, ", and none is stated"),
-        }
-    }
-
-    // Rule 13.
-    fn show_control<W: fmt::Write>(
-        &self,
-        entry: &Entry<'t>,
-        f: &mut fmt::Formatter<W>,
-    ) -> fmt::Result {
-        if entry.role() == Some(Role::Eq) && entry.tokens().process != Process::Equaliser {
-            return write!(f, "its process is EQIIR or DEMUX");
-        }
-        let most = if entry.role() == Some(Role::Demux) {
-            255
-        } else {
-            65535
+            RouteFault::Missing(Shown(missing_end(self.wiring, route)))
         };
-        match entry.control() {
-            Some(
-                Control::Mixer {
-                    min,
-                    max,
-                    num_channels,
-                    ..
-                },
-            ) => write!(
-                f,
-                "its control takes values from 0 to {most} on 1 to 8 channels, and states {min} to {max} on {num_channels}"
-            ),
-            Some(Control::Enum { items, .. }) => {
-                write!(f, "its control takes 1 to 16 items, and states {items}")
-            }
-            _ => write!(f, "its control's blob is no blob of an equaliser"),
-        }
-    }
-
-    // The rules whose item is a widget's number.
-    fn show_widget<W: fmt::Write>(&self, f: &mut fmt::Formatter<W>) -> fmt::Result {
-        let number = self.item as usize;
-        let Some(entry) = self.wiring.widgets().all().get(number) else {
-            return write!(f, "widget {number}");
-        };
-        write!(f, "{}: ", Named { number, entry })?;
-        match self.rule {
-            2 => self.show_name(entry, f),
-            5 | 6 => self.show_routes(number, entry, f),
-            7 => self.show_index(entry, f),
-            8 => write!(
-                f,
-                "its stream name {} names no component",
-                Quoted(entry.sname().as_bytes())
-            ),
-            9 => self.show_period(entry, f),
-            10 => self.show_dai(entry, f),
-            11 => self.show_host(number, entry, f),
-            12 => self.show_size(entry, f),
-            _ => self.show_control(entry, f),
+        Told::Route {
+            number: self.item,
+            from: Shown(route.source.as_bytes()),
+            to: Shown(route.sink.as_bytes()),
+            fault,
         }
     }
 
     // Rule 14: the item is a component's id.
-    fn show_way<W: fmt::Write>(&self, f: &mut fmt::Formatter<W>) -> fmt::Result {
-        let entry = match self.number_of(self.item) {
-            Some(number) => self.wiring.widgets().all().get(number),
-            None => None,
-        };
-        let Some(entry) = entry else {
-            return write!(f, "component {}", self.item);
+    fn way_told(&self) -> Told<'t> {
+        let components = self.wiring.widgets().interpreted();
+        let Some(entry) = components.get(self.item as usize) else {
+            return Told::NoItem("component", self.item);
         };
         let name = Shown(entry.name().as_bytes());
         if entry.role() == Some(Role::HostPlay) {
-            write!(f, "{name} plays into a capture without an echo edge")
+            Told::Echo(name)
         } else {
-            write!(f, "a cycle through {name}")
+            Told::Cycle(name)
+        }
+    }
+
+    fn told(&self) -> Told<'t> {
+        match self.rule {
+            1 => Told::Count(count_fault(self.item)),
+            3 | 4 => self.route_told(),
+            14 => self.way_told(),
+            _ => self.widget_told(),
         }
     }
 }
 
 impl Display for RuleFault<'_, '_> {
     fn fmt<W: fmt::Write>(&self, f: &mut fmt::Formatter<W>) -> fmt::Result {
-        match self.rule {
-            1 => self.show_count(f),
-            3 | 4 => self.show_route(f),
-            14 => self.show_way(f),
-            _ => self.show_widget(f),
-        }
+        write!(f, "{}", self.told())
     }
 }

@@ -17,17 +17,15 @@ use tplg_graph::{Plan, plan};
 
 // The arguments of a word, as they are told.
 #[derive(Clone, Copy, Debug)]
-struct Usage {
-    word: &'static [Argument],
-}
+struct Usage(&'static [Argument]);
 
 impl Display for Usage {
     fn fmt<W: fmt::Write>(&self, f: &mut fmt::Formatter<W>) -> fmt::Result {
-        if self.word.is_empty() {
+        if self.0.is_empty() {
             return write!(f, "no argument");
         }
         let mut between = "";
-        for argument in self.word {
+        for argument in self.0 {
             write!(f, "{between}{}", argument.word())?;
             if argument.word() == "VALUE" {
                 write!(f, " .., with 1 to 8 values")?;
@@ -49,22 +47,8 @@ enum LineCause<'a> {
     Word(Quoted<'a>),
     #[error("it takes {0}")]
     Count(Usage),
-    #[error("{name} is from {least} to {most}, in decimal")]
-    Number {
-        name: &'static str,
-        least: u32,
-        most: u32,
-    },
-    #[error("the format is s16, s24 or s32")]
-    Format,
-    #[error("E is from -4095 to -1, in decimal")]
-    Error,
-    #[error("HEX is two hex digits for each of at most 1024 bytes, or -")]
-    Hex,
-    #[error("{0} is a name of 1 to 43 bytes")]
-    Name(&'static str),
-    #[error("FILE is the name of a file, of 1 to 255 bytes")]
-    File,
+    #[error("{0}")]
+    Argument(Argument),
     #[error("no endpoint has the name {0}")]
     NoEndpoint(Quoted<'a>),
     #[error("{0} is bound by 'out': its bytes go to a file")]
@@ -99,18 +83,6 @@ fn line_of(bytes: &[u8], number: u32) -> Option<&[u8]> {
     Some(before_return(line))
 }
 
-// What an argument has to be.
-fn needed(argument: Argument) -> LineCause<'static> {
-    match argument {
-        Argument::Name(name) => LineCause::Name(name),
-        Argument::File => LineCause::File,
-        Argument::Number(name, least, most) => LineCause::Number { name, least, most },
-        Argument::Format => LineCause::Format,
-        Argument::Hex => LineCause::Hex,
-        Argument::Error => LineCause::Error,
-    }
-}
-
 // Why the arguments of a word are at fault, for a cause from 4 on.
 fn arguments_cause(
     arguments: &'static [Argument],
@@ -118,13 +90,13 @@ fn arguments_cause(
     cause: u8,
 ) -> Option<LineCause<'static>> {
     if cause == 4 {
-        return Some(LineCause::Count(Usage { word: arguments }));
+        return Some(LineCause::Count(Usage(arguments)));
     }
     let last = arguments.last()?;
     for (at, token) in tokens.iter().enumerate() {
         let argument = arguments.get(at).unwrap_or(last);
         if argument.is_wrong(*token, cause) {
-            return Some(needed(*argument));
+            return Some(LineCause::Argument(*argument));
         }
     }
     None

@@ -61,68 +61,46 @@ impl Takes {
                 Ok(kind) => kind_named(kind.as_bytes()).is_some(),
                 Err(_) => false,
             },
-            Takes::Formats => are_formats(value),
-            Takes::Items => are_names(value),
+            Takes::Formats => items_of(value, Item::Format).is_some(),
+            Takes::Items => match items_of(value, Item::Name) {
+                Some(items) => 1 <= items.len() && items.len() <= 16,
+                None => false,
+            },
             Takes::Control => value.is_table(),
-            Takes::Tables => are_tables(value),
+            Takes::Tables => items_of(value, Item::Table).is_some(),
         };
         Ok(taken)
     }
 }
 
-fn is_name(value: &Value) -> bool {
-    name(value).is_ok()
+// What each item of an array is.
+#[derive(Clone, Copy)]
+enum Item {
+    Format,
+    Name,
+    Table,
 }
 
-fn is_format(value: &Value) -> bool {
-    match value.as_str() {
-        Some(text) => matches!(text, "s16le" | "s24le" | "s32le"),
-        None => false,
+fn is_item(item: Item, value: &Value) -> bool {
+    match item {
+        Item::Format => match value.as_str() {
+            Some(text) => matches!(text, "s16le" | "s24le" | "s32le"),
+            None => false,
+        },
+        Item::Name => name(value).is_ok(),
+        Item::Table => value.is_table(),
     }
 }
 
-// The values of an array; none where a value is no array.
-fn items_of(value: &Value) -> Option<&[Value]> {
-    match value.as_array() {
-        Some(array) => Some(array.as_slice()),
-        None => None,
-    }
-}
-
-fn are_formats(value: &Value) -> bool {
-    let Some(items) = items_of(value) else {
-        return false;
-    };
-    for item in items {
-        if !is_format(item) {
-            return false;
+// The items of an array of such items; none where a value is no such array.
+fn items_of(value: &Value, item: Item) -> Option<&[Value]> {
+    let items = value.as_array()?.as_slice();
+    for value in items {
+        if !is_item(item, value) {
+            return None;
         }
     }
-    true
-}
-
-fn are_names(value: &Value) -> bool {
-    let Some(items) = items_of(value) else {
-        return false;
-    };
-    for item in items {
-        if !is_name(item) {
-            return false;
-        }
-    }
-    !items.is_empty() && items.len() <= 16
-}
-
-fn are_tables(value: &Value) -> bool {
-    let Some(items) = items_of(value) else {
-        return false;
-    };
-    for item in items {
-        if !item.is_table() {
-            return false;
-        }
-    }
-    true
+    Some(items)
 }
 
 /// What is wrong at a key.
@@ -147,30 +125,41 @@ enum Fault<'a> {
     Control(KeyFault<'a>),
 }
 
+// What keys take, but those that take a number.
+const TAKES: [(Takes, &[&str]); 10] = [
+    (Takes::Kind, &["kind"]),
+    (Takes::Filled, &["name", "sink", "source"]),
+    (Takes::Index, &["index"]),
+    (
+        Takes::Text,
+        &[
+            "sname", "playback", "capture", "dai_type", "format", "process",
+        ],
+    ),
+    (Takes::Control, &["control"]),
+    (Takes::Signed, &["min", "tlv_min"]),
+    (Takes::Items, &["items"]),
+    (Takes::Hex, &["blob"]),
+    (Takes::Formats, &["formats"]),
+    (Takes::Tables, &["widget", "route", "pcm"]),
+];
+
+// The keys, but those of tokens, that may be absent.
+const OPTIONAL: [&str; 7] = [
+    "sname", "control", "playback", "capture", "widget", "route", "pcm",
+];
+
 // What a key takes; `max` is signed at a pga's control.
 fn takes_at(keys: &[&str], key: &str) -> Takes {
-    match key {
-        "kind" => Takes::Kind,
-        "name" | "sink" | "source" => Takes::Filled,
-        "index" => Takes::Index,
-        "sname" | "playback" | "capture" | "dai_type" | "format" | "process" => Takes::Text,
-        "control" => Takes::Control,
-        "min" | "tlv_min" => Takes::Signed,
-        "max" if keys.len() == PGA_KEYS.len() => Takes::Signed,
-        "items" => Takes::Items,
-        "blob" => Takes::Hex,
-        "formats" => Takes::Formats,
-        "widget" | "route" | "pcm" => Takes::Tables,
-        _ => Takes::Number,
+    if key == "max" && keys.len() == PGA_KEYS.len() {
+        return Takes::Signed;
     }
-}
-
-// Whether a key that is no token has to stand in its table.
-fn is_required(key: &str) -> bool {
-    !matches!(
-        key,
-        "sname" | "control" | "playback" | "capture" | "widget" | "route" | "pcm"
-    )
+    for (takes, named) in &TAKES {
+        if named.contains(&key) {
+            return *takes;
+        }
+    }
+    Takes::Number
 }
 
 // Whether a key is that of a token.
@@ -186,17 +175,14 @@ fn value_fault(
     keys: &[&'static str],
     key: &'static str,
 ) -> Result<Option<KeyFault<'static>>, NoMemory> {
+    let Some(value) = table.get(key) else {
+        return Ok(None);
+    };
     let takes = takes_at(keys, key);
-    match table.get(key) {
-        Some(value) => {
-            if takes.takes(alloc, value)? {
-                Ok(None)
-            } else {
-                Ok(Some(KeyFault::Value { key, takes }))
-            }
-        }
-        None => Ok(None),
+    if takes.takes(alloc, value)? {
+        return Ok(None);
     }
+    Ok(Some(KeyFault::Value { key, takes }))
 }
 
 // What is wrong in a table that takes these keys and, if `tokens`, those of tokens.
@@ -213,7 +199,7 @@ fn table_fault<'a>(
         }
     }
     for key in keys {
-        if is_required(*key) && table.get(*key).is_none() {
+        if !OPTIONAL.contains(key) && table.get(*key).is_none() {
             return Ok(Some(KeyFault::Wanting(*key)));
         }
         if let Some(fault) = value_fault(alloc, table, keys, *key)? {
@@ -342,17 +328,14 @@ fn line_at(text: &[u8], place: usize) -> usize {
 
 // The sentence of a text that is no TOML.
 fn syntax(alloc: Global, file: &str, text: &[u8]) -> Result<Option<String>, NoMemory> {
-    match toml::table_from_slice(alloc, text) {
-        Ok(_) => Ok(None),
-        Err(error) => {
-            let place = match error.span() {
-                Some(span) => span.start,
-                None => return Err(NoMemory),
-            };
-            let line = line_at(text, place);
-            Ok(Some(format!(in alloc; "{}:{line}: {}", ShownName(file), error.message())?))
-        }
-    }
+    let Err(error) = toml::table_from_slice(alloc, text) else {
+        return Ok(None);
+    };
+    let Some(span) = error.span() else {
+        return Err(NoMemory);
+    };
+    let line = line_at(text, span.start);
+    Ok(Some(format!(in alloc; "{}:{line}: {}", ShownName(file), error.message())?))
 }
 
 // The sentence of an entry at fault.

@@ -50,9 +50,7 @@ fn sizes_of(kind: RecordKind) -> &'static str {
 // The place of the record at fault.
 fn place(fault: TraceFault) -> usize {
     match fault {
-        TraceFault::Short(at) => at,
-        TraceFault::Kind(at, _) => at,
-        TraceFault::Size(at) => at,
+        TraceFault::Short(at) | TraceFault::Kind(at, _) | TraceFault::Size(at) => at,
     }
 }
 

@@ -1,17 +1,24 @@
 // What stands after each word of a script.
+use sof_script::FileName;
 use sof_script::values::{error, format, hex, name, number};
-use sof_script::{Cause, FileName};
+use thiserror::Error;
 
-/// An argument: how it is named, and what it may be.
-#[derive(Clone, Copy, Debug)]
+/// An argument: how it is named, and what it has to be.
+#[derive(Clone, Copy, Debug, Error)]
 pub enum Argument {
     /// The name of an endpoint, a stream or a control.
+    #[error("{0} is a name of 1 to 43 bytes")]
     Name(&'static str),
+    #[error("FILE is the name of a file, of 1 to 255 bytes")]
     File,
     /// A number from a least to a most one.
+    #[error("{0} is from {1} to {2}, in decimal")]
     Number(&'static str, u32, u32),
+    #[error("the format is s16, s24 or s32")]
     Format,
+    #[error("HEX is two hex digits for each of at most 1024 bytes, or -")]
     Hex,
+    #[error("E is from -4095 to -1, in decimal")]
     Error,
 }
 
@@ -45,39 +52,53 @@ impl Argument {
     }
 }
 
-const STREAM: &[Argument] = &[Argument::Name("STREAM")];
+const STREAM: Argument = Argument::Name("STREAM");
 
-const CONTROL: &[Argument] = &[Argument::Name("CONTROL")];
+const CONTROL: Argument = Argument::Name("CONTROL");
 
-const BINDING: &[Argument] = &[Argument::Name("ENDPOINT"), Argument::File];
+const ENDPOINT: Argument = Argument::Name("ENDPOINT");
 
-const MESSAGE: &[Argument] = &[Argument::Number("K", 1, 100_000)];
+const RATE: Argument = Argument::Number("RATE", 0, u32::MAX);
+
+const CHANNELS: Argument = Argument::Number("CHANNELS", 0, 255);
+
+const VALUE: Argument = Argument::Number("VALUE", 0, u32::MAX);
+
+const MESSAGE: Argument = Argument::Number("K", 1, 100_000);
+
+// The arguments of each word of a script.
+const WORDS: [(&[u8], &[Argument]); 23] = [
+    (b"load", &[]),
+    (b"unload", &[]),
+    (b"suspend", &[]),
+    (b"resume", &[]),
+    (b"show", &[]),
+    (b"in", &[ENDPOINT, Argument::File]),
+    (b"out", &[ENDPOINT, Argument::File]),
+    (b"open", &[STREAM]),
+    (b"start", &[STREAM]),
+    (b"stop", &[STREAM]),
+    (b"pause", &[STREAM]),
+    (b"release", &[STREAM]),
+    (b"close", &[STREAM]),
+    (b"get", &[CONTROL]),
+    (b"read", &[CONTROL]),
+    (b"params", &[STREAM, RATE, CHANNELS, Argument::Format]),
+    (b"set", &[CONTROL, VALUE]),
+    (b"bytes", &[CONTROL, Argument::Hex]),
+    (b"tick", &[Argument::Number("N", 1, 60_000)]),
+    (b"refuse", &[MESSAGE, Argument::Error]),
+    (b"drop", &[MESSAGE]),
+    (b"lose", &[MESSAGE]),
+    (b"lag", &[MESSAGE, Argument::Number("N", 1, 16)]),
+];
 
 /// The arguments of a word of a script, of which the last may be repeated up to eight times for `set`; none where it is no word.
 pub fn arguments(word: &[u8]) -> Option<&'static [Argument]> {
-    match word {
-        b"load" | b"unload" | b"suspend" | b"resume" | b"show" => Some(&[]),
-        b"in" | b"out" => Some(BINDING),
-        b"open" | b"start" | b"stop" | b"pause" | b"release" | b"close" => Some(STREAM),
-        b"get" | b"read" => Some(CONTROL),
-        b"params" => Some(&[
-            Argument::Name("STREAM"),
-            Argument::Number("RATE", 0, u32::MAX),
-            Argument::Number("CHANNELS", 0, 255),
-            Argument::Format,
-        ]),
-        b"set" => Some(&[
-            Argument::Name("CONTROL"),
-            Argument::Number("VALUE", 0, u32::MAX),
-        ]),
-        b"bytes" => Some(&[Argument::Name("CONTROL"), Argument::Hex]),
-        b"tick" => Some(&[Argument::Number("N", 1, 60_000)]),
-        b"refuse" => Some(&[Argument::Number("K", 1, 100_000), Argument::Error]),
-        b"drop" | b"lose" => Some(MESSAGE),
-        b"lag" => Some(&[
-            Argument::Number("K", 1, 100_000),
-            Argument::Number("N", 1, 16),
-        ]),
-        _ => None,
+    for (known, arguments) in &WORDS {
+        if *known == word {
+            return Some(*arguments);
+        }
     }
+    None
 }

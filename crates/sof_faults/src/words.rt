@@ -1,5 +1,8 @@
 // What is wrong with the words of a command line.
 use crate::shown::Quoted;
+use run_words::{is_file_name, number_in};
+use std::fmt;
+use std::fmt::Display;
 use thiserror::Error;
 
 /// What is wrong with the words after the program's name.
@@ -14,7 +17,7 @@ pub enum WordsFault<'a> {
     #[error("'{form}' takes {takes}, and {given} {words} behind it", words = words_stand(*.given))]
     Count {
         form: &'static str,
-        takes: &'static str,
+        takes: Takes,
         given: usize,
     },
     #[error("HEAP is at most {0}, in decimal")]
@@ -34,132 +37,88 @@ fn words_stand(given: usize) -> &'static str {
     }
 }
 
-// A form: its word, the words after it as they are told, and each of them.
-#[derive(Clone, Copy)]
-struct Form {
-    word: &'static str,
-    takes: &'static str,
-    slots: &'static [Slot],
+/// The words that a form takes, each as the help names it.
+#[derive(Clone, Copy, Debug)]
+pub struct Takes(&'static [&'static str]);
+
+impl Display for Takes {
+    fn fmt<W: fmt::Write>(&self, f: &mut fmt::Formatter<W>) -> fmt::Result {
+        let mut between = "";
+        for word in self.0 {
+            write!(f, "{between}{word}")?;
+            between = " ";
+        }
+        Ok(())
+    }
 }
 
-// A word after a form.
-#[derive(Clone, Copy)]
-enum Slot {
-    Heap,
-    Seed,
-    File(&'static str),
-}
-
-const FORMS: [Form; 10] = [
-    Form {
-        word: "play",
-        takes: "HEAP TOPOLOGY SCRIPT",
-        slots: &[Slot::Heap, Slot::File("TOPOLOGY"), Slot::File("SCRIPT")],
-    },
-    Form {
-        word: "dynamic",
-        takes: "HEAP TOPOLOGY SCRIPT",
-        slots: &[Slot::Heap, Slot::File("TOPOLOGY"), Slot::File("SCRIPT")],
-    },
-    Form {
-        word: "check",
-        takes: "TOPOLOGY",
-        slots: &[Slot::File("TOPOLOGY")],
-    },
-    Form {
-        word: "graph",
-        takes: "TOPOLOGY",
-        slots: &[Slot::File("TOPOLOGY")],
-    },
-    Form {
-        word: "compile",
-        takes: "SOURCE OUT",
-        slots: &[Slot::File("SOURCE"), Slot::File("OUT")],
-    },
-    Form {
-        word: "source",
-        takes: "TOPOLOGY OUT",
-        slots: &[Slot::File("TOPOLOGY"), Slot::File("OUT")],
-    },
-    Form {
-        word: "stress",
-        takes: "N",
-        slots: &[Slot::Seed],
-    },
-    Form {
-        word: "trace",
-        takes: "HEAP TOPOLOGY SCRIPT TRACE",
-        slots: &[
-            Slot::Heap,
-            Slot::File("TOPOLOGY"),
-            Slot::File("SCRIPT"),
-            Slot::File("TRACE"),
-        ],
-    },
-    Form {
-        word: "decode",
-        takes: "TRACE",
-        slots: &[Slot::File("TRACE")],
-    },
-    Form {
-        word: "replay",
-        takes: "TRACE",
-        slots: &[Slot::File("TRACE")],
-    },
+// Each form's word, and the words that it takes.
+const FORMS: [(&str, Takes); 10] = [
+    ("play", Takes(&["HEAP", "TOPOLOGY", "SCRIPT"])),
+    ("dynamic", Takes(&["HEAP", "TOPOLOGY", "SCRIPT"])),
+    ("check", Takes(&["TOPOLOGY"])),
+    ("graph", Takes(&["TOPOLOGY"])),
+    ("compile", Takes(&["SOURCE", "OUT"])),
+    ("source", Takes(&["TOPOLOGY", "OUT"])),
+    ("stress", Takes(&["N"])),
+    ("trace", Takes(&["HEAP", "TOPOLOGY", "SCRIPT", "TRACE"])),
+    ("decode", Takes(&["TRACE"])),
+    ("replay", Takes(&["TRACE"])),
 ];
 
-// Whether a word is a decimal number without a needless zero, in a range.
-fn is_number(word: &str, least: u32, most: u32) -> bool {
-    if word.len() > 1 && word.starts_with("0") {
-        return false;
-    }
-    let mut number: u64 = 0;
-    for digit in word.bytes() {
-        if digit < b'0' || digit > b'9' || number > most as u64 {
-            return false;
+// The form of a word, and the words that it takes.
+fn form_of(word: &str) -> Option<(&'static str, Takes)> {
+    for form in &FORMS {
+        if form.0 == word {
+            return Some(*form);
         }
-        number = number * 10 + (digit - b'0') as u64;
     }
-    !word.is_empty() && least as u64 <= number && number <= most as u64
+    None
 }
 
-// What is wrong with a word that stands in a slot.
-fn slot_fault(slot: Slot, word: &str, room: u32) -> Option<WordsFault<'static>> {
-    match slot {
-        Slot::Heap if !is_number(word, 0, room) => Some(WordsFault::Heap(room)),
-        Slot::Seed if !is_number(word, 1, 1000) => Some(WordsFault::Seed),
-        Slot::File(name) if word.is_empty() || word.len() > 255 => Some(WordsFault::File(name)),
-        _ => None,
+// What is wrong with a word that stands where the help has this name.
+fn word_fault(name: &'static str, word: &str, room: u32) -> Option<WordsFault<'static>> {
+    match name {
+        "HEAP" if number_in(word.as_bytes(), 0, room).is_none() => Some(WordsFault::Heap(room)),
+        "N" if number_in(word.as_bytes(), 1, 1000).is_none() => Some(WordsFault::Seed),
+        "HEAP" | "N" => None,
+        _ if is_file_name(word) => None,
+        _ => Some(WordsFault::File(name)),
     }
+}
+
+// What is wrong with the words after that of a form.
+fn form_fault(
+    form: &'static str,
+    takes: Takes,
+    words: &[String],
+    room: u32,
+) -> Option<WordsFault<'static>> {
+    let given = words.len();
+    if given != takes.0.len() {
+        return Some(WordsFault::Count { form, takes, given });
+    }
+    for (name, word) in takes.0.iter().zip(words) {
+        let fault = word_fault(*name, word.as_str(), room);
+        if fault.is_some() {
+            return fault;
+        }
+    }
+    None
 }
 
 /// What is wrong with words that have none of the forms, over a device with a room of so many bytes; none where nothing is.
 pub fn words_fault(words: &[String], room: u32) -> Option<WordsFault<'_>> {
-    let [word, behind @ ..] = words else {
+    let [word, after @ ..] = words else {
         return Some(WordsFault::Nothing);
     };
-    let word = word.as_str();
-    if word == "--help" || word == "--version" || word == "-h" || word == "-V" {
-        return Some(WordsFault::NotAlone(Quoted(word.as_bytes())));
+    let quoted = Quoted(word.as_bytes());
+    match word.as_str() {
+        "--help" | "--version" | "-h" | "-V" => return Some(WordsFault::NotAlone(quoted)),
+        _ => {}
     }
-    for form in &FORMS {
-        if form.word != word {
-            continue;
-        }
-        if behind.len() != form.slots.len() {
-            return Some(WordsFault::Count {
-                form: form.word,
-                takes: form.takes,
-                given: behind.len(),
-            });
-        }
-        for (slot, word) in form.slots.iter().zip(behind) {
-            let fault = slot_fault(*slot, word.as_str(), room);
-            if fault.is_some() {
-                return fault;
-            }
-        }
-        return None;
+    match form_of(word.as_str()) {
+        Some((form, takes)) => form_fault(form, takes, after, room),
+        None => Some(WordsFault::NoForm(quoted)),
     }
-    Some(WordsFault::NoForm(Quoted(word.as_bytes())))
 }

@@ -10,8 +10,6 @@ mod join_rows;
 mod messages;
 mod new_rows;
 mod stream_rows;
-#[cfg(test)]
-mod tests;
 mod units;
 mod value_rows;
 

@@ -5,3 +5,5 @@
 mod linked;
 #[cfg(test)]
 mod same;
+#[cfg(test)]
+mod thin;

@@ -1,23 +1,22 @@
 // Runs over a device that fails of its own accord: a firmware after a link of its own, which refuses a message or loses it.
-ghost use Rattle.std.specs.Prelude.{◌≡◌, None, IfOk};
+ghost use Rattle.std.specs.Prelude.{◌≡◌, None};
 ghost use Rattle.fw_core.specs.Device.{firmware};
 ghost use Rattle.mbox_link.specs.Link.{link as linked_by};
 
 use crate::same::same;
+use crate::thin::thin;
 use fw_core::Firmware;
 use mbox_link::{Dsp, Fate, FaultLink};
 use sof_desk::MemDesk;
 use sof_run::run;
 use std::alloc::Global;
 use std::process::Abort;
-use std::test::Fail;
-use test_graphs::{THIN, graph};
 
 /// The greatest heap of the firmware, in bytes; it is small, since many runs are made.
 const ROOM: u32 = 4096;
 
 /// The message that its link refuses with -5, drops or loses the reply of.
-#[derive(Clone, Copy, Debug)]
+#[derive(Clone, Copy)]
 enum Failing {
     RefusesFirst,
     DropsFirst,
@@ -28,11 +27,11 @@ enum Failing {
 }
 
 // A firmware after a link that has a fate for one message.
-fn fated(alloc: Global, failing: Failing) -> Result<FaultLink<Firmware>, Fail>
-    ensures off { IfOk result (λ l. (linked_by firmware).on l ≡ None) }
-    ensures pending { IfOk result (λ l. (linked_by firmware).pending l ≡ 0) }
+fn fated(rt: &impl Abort, alloc: Global, failing: Failing) -> FaultLink<Firmware>
+    ensures off { (linked_by firmware).on result ≡ None }
+    ensures pending { (linked_by firmware).pending result ≡ 0 }
 {
-    let mut link = FaultLink::new(Firmware::new(alloc, ROOM)?);
+    let mut link = FaultLink::new(Firmware::new(alloc, ROOM).expect(rt, "there is memory"));
     let planned = match failing {
         Failing::RefusesFirst => link.plan(1, Fate::Refuse(-5)),
         Failing::DropsFirst => link.plan(1, Fate::Drop),
@@ -41,38 +40,44 @@ fn fated(alloc: Global, failing: Failing) -> Result<FaultLink<Firmware>, Fail>
         Failing::DropsNinth => link.plan(9, Fate::Drop),
         Failing::DropsTenth => link.plan(10, Fate::Drop),
     };
-    match planned {
-        Ok(()) => Ok(link),
-        Err(_) => return Err("no room for a plan")?,
-    }
+    planned.expect(rt, "there is room for a plan");
+    link
 }
 
 /// How a run ended: its status, whether the device is on, and what its link still holds.
-#[derive(Clone, Copy, Debug)]
+#[derive(Clone, Copy)]
 struct Ending {
     status: u8,
     on: bool,
     held: u32,
 }
 
+// Words that own their texts.
+fn owned(rt: &impl Abort, alloc: Global, words: &[&str]) -> Vec<String> {
+    let mut texts = Vec::new(alloc);
+    for word in words {
+        let text = String::from_str(alloc, word).expect(rt, "there is memory");
+        texts.push(text).expect(rt, "there is memory");
+    }
+    texts
+}
+
 // A run of these words over a desk and this device. Every test calls `run` through here, so its contract is read once.
 fn run_over(
+    rt: &impl Abort,
     alloc: Global,
     words: &[&str],
     failing: Failing,
     desk: &mut MemDesk,
-) -> Result<Ending, Fail> {
-    let mut texts = Vec::new(alloc);
-    for word in words {
-        texts.push(String::from_str(alloc, word)?)?;
-    }
-    let dsp = fated(alloc, failing)?;
+) -> Ending {
+    let texts = owned(rt, alloc, words);
+    let dsp = fated(rt, alloc, failing);
     let ended = run(alloc, &texts, desk, dsp);
-    Ok(Ending {
+    Ending {
         status: ended.status,
         on: ended.dsp.on(),
         held: ended.dsp.held(),
-    })
+    }
 }
 
 const SCRIPT: &[u8] = b"load
@@ -82,67 +87,36 @@ start PCM0P
 ";
 
 // Plays the script over such a device: the run ends with 0, the device is on or off, and its link holds so many plans.
-fn expect(
-    rt: &impl Abort,
-    alloc: Global,
-    failing: Failing,
-    on: bool,
-    held: u32,
-    said: &[u8],
-) -> Result<(), Fail> {
-    let topology = graph(alloc, THIN)?;
-    let mut desk = MemDesk::new(alloc, 4096)?;
-    desk.put_file("a.tplg", &topology)?;
-    desk.put_file("s.txt", SCRIPT)?;
+fn expect(rt: &impl Abort, alloc: Global, failing: Failing, on: bool, held: u32, said: &[u8]) {
+    let topology = thin(rt, alloc);
+    let mut desk = MemDesk::new(alloc, 4096).expect(rt, "there is memory");
+    desk.put_file("a.tplg", &topology)
+        .expect(rt, "there is memory");
+    desk.put_file("s.txt", SCRIPT).expect(rt, "there is memory");
     let words = ["play", "992", "a.tplg", "s.txt"];
-    let ending = run_over(alloc, words.as_slice(), failing, &mut desk)?;
+    let ending = run_over(rt, alloc, &words, failing, &mut desk);
     same(rt, &"a status", &ending.status, &0);
     same(rt, &"the power", &ending.on, &on);
     same(rt, &"what is planned", &ending.held, &held);
     same(rt, &"what is said", &desk.said(), &said);
-    Ok(())
 }
 
 // The script alone plans nothing: a refusal and a link down are the device's own. A load of the thin graph has seven messages;
 // parameters are the eighth and a start the ninth.
 #[test]
-fn a_device_refuses_and_loses_messages(rt: HostRuntime) -> Result<(), Fail> {
+fn a_device_refuses_and_loses_messages(rt: HostRuntime) {
     let alloc = rt.alloc();
-    let down = b"1 link down\n2 not loaded\n3 not loaded\n4 not loaded\n".as_slice();
-    expect(
-        &rt,
-        alloc,
-        Failing::RefusesFirst,
-        false,
-        0,
-        b"1 refused -5\n2 not loaded\n3 not loaded\n4 not loaded\n".as_slice(),
-    )?;
-    expect(&rt, alloc, Failing::DropsFirst, false, 0, down)?;
-    expect(&rt, alloc, Failing::LosesSeventh, false, 0, down)?;
-    expect(
-        &rt,
-        alloc,
-        Failing::RefusesEighth,
-        true,
-        0,
-        b"1 ok\n2 ok\n3 refused -5\n4 state open\n",
-    )?;
-    expect(
-        &rt,
-        alloc,
-        Failing::DropsNinth,
-        false,
-        0,
-        b"1 ok\n2 ok\n3 ok\n4 link down\n",
-    )?;
-    expect(
-        &rt,
-        alloc,
-        Failing::DropsTenth,
-        true,
-        1,
-        b"1 ok\n2 ok\n3 ok\n4 ok\n",
-    )
+    let refused = b"1 refused -5\n2 not loaded\n3 not loaded\n4 not loaded\n";
+    let down = b"1 link down\n2 not loaded\n3 not loaded\n4 not loaded\n";
+    expect(&rt, alloc, Failing::RefusesFirst, false, 0, refused);
+    expect(&rt, alloc, Failing::DropsFirst, false, 0, down);
+    expect(&rt, alloc, Failing::LosesSeventh, false, 0, down);
+    let said = b"1 ok\n2 ok\n3 refused -5\n4 state open\n";
+    expect(&rt, alloc, Failing::RefusesEighth, true, 0, said);
+    let said = b"1 ok\n2 ok\n3 ok\n4 link down\n";
+    expect(&rt, alloc, Failing::DropsNinth, false, 0, said);
+    let said = b"1 ok\n2 ok\n3 ok\n4 ok\n";
+    expect(&rt, alloc, Failing::DropsTenth, true, 1, said);
 }
 
 // A boot with 992 bytes, and an empty message with its reply of -22.
@@ -152,39 +126,23 @@ const TRACE: [u8; 40] = [
 ];
 
 // Replays the trace over such a device: the run ends with this status, and says so.
-fn expect_replay(
-    rt: &impl Abort,
-    alloc: Global,
-    failing: Failing,
-    status: u8,
-    said: &[u8],
-) -> Result<(), Fail> {
-    let mut desk = MemDesk::new(alloc, 4096)?;
-    desk.put_file("x.trace", TRACE.as_slice())?;
+fn expect_replay(rt: &impl Abort, alloc: Global, failing: Failing, status: u8, said: &[u8]) {
+    let mut desk = MemDesk::new(alloc, 4096).expect(rt, "there is memory");
+    desk.put_file("x.trace", &TRACE)
+        .expect(rt, "there is memory");
     let words = ["replay", "x.trace"];
-    let ending = run_over(alloc, words.as_slice(), failing, &mut desk)?;
+    let ending = run_over(rt, alloc, &words, failing, &mut desk);
     same(rt, &"a status", &ending.status, &status);
     same(rt, &"what is said", &desk.said(), &said);
-    Ok(())
 }
 
 // A message that the device drops ends a replay; its own refusal is another reply than the recorded one.
 #[test]
-fn a_device_that_fails_ends_a_replay(rt: HostRuntime) -> Result<(), Fail> {
+fn a_device_that_fails_ends_a_replay(rt: HostRuntime) {
     let alloc = rt.alloc();
-    expect_replay(&rt, alloc, Failing::DropsFirst, 10, b"device\n".as_slice())?;
-    expect_replay(
-        &rt,
-        alloc,
-        Failing::RefusesFirst,
-        2,
-        b"trace reply 20\n".as_slice(),
-    )?;
-    expect_replay(
-        &rt,
-        alloc,
-        Failing::DropsTenth,
-        0,
-        b"boots 1\nmessages 1\nticks 0\npower on\n",
-    )
+    expect_replay(&rt, alloc, Failing::DropsFirst, 10, b"device\n");
+    let said = b"trace reply 20\n";
+    expect_replay(&rt, alloc, Failing::RefusesFirst, 2, said);
+    let said = b"boots 1\nmessages 1\nticks 0\npower on\n";
+    expect_replay(&rt, alloc, Failing::DropsTenth, 0, said);
 }

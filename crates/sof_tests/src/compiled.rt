@@ -1,12 +1,9 @@
 // Compiles over a desk that fails: a front of the file and of its line is left, and the status is 3.
-use crate::runs::run_over;
+use crate::played::ends;
 use crate::same::same;
 use sof_desk::MemDesk;
 use std::alloc::Global;
-use std::test::Fail;
-
-/// The greatest heap of the firmware, in bytes.
-const ROOM: u32 = 16777216;
+use std::process::Abort;
 
 /// The source of a topology of one widget.
 const SOURCE: &[u8] = b"[[widget]]
@@ -42,78 +39,50 @@ fn file() -> [u8; 168] {
     bytes
 }
 
-// What a compile left: its status, whether the device is on, what was said and the bytes of the file.
-#[derive(Debug, Drop)]
-struct Left {
-    status: u8,
-    on: bool,
-    said: Vec<u8>,
-    out: Vec<u8>,
+// A desk with the source, and a file to write of at most `room` bytes. Its call of a number fails and still writes some bytes.
+fn laid_out(rt: &impl Abort, alloc: Global, room: usize, call: u32, passes: u32) -> MemDesk {
+    let mut desk = MemDesk::new(alloc, 4096).expect(rt, "there is memory");
+    desk.put_file("a.toml", SOURCE)
+        .expect(rt, "there is memory");
+    desk.put_out("a.tplg", room).expect(rt, "there is memory");
+    desk.fail_call(call, passes).expect(rt, "there is memory");
+    desk
 }
 
-// A compile of the source into a file of at most `room` bytes, over a desk whose call of a number fails and still writes some
-// bytes.
-fn compiled(alloc: Global, room: usize, call: u32, passes: u32) -> Result<Left, Fail> {
-    let mut desk = MemDesk::new(alloc, 4096)?;
-    desk.put_file("a.toml", SOURCE)?;
-    desk.put_out("a.tplg", room)?;
-    desk.fail_call(call, passes)?;
+// A compile over a desk that is laid out leaves a front of the file.
+fn leaves(
+    rt: &impl Abort,
+    alloc: Global,
+    row: u32,
+    desk: &mut MemDesk,
+    status: u8,
+    said: &[u8],
+    bytes: usize,
+) {
     let words = ["compile", "a.toml", "a.tplg"];
-    let ending = run_over(alloc, words.as_slice(), ROOM, &mut desk)?;
-    let said = Vec::from_slice(alloc, desk.said())?;
-    let out = Vec::from_slice(alloc, desk.file("a.tplg").ok_or("no file")?)?;
-    Ok(Left {
-        status: ending.status,
-        on: ending.on,
-        said,
-        out,
-    })
+    let on = ends(rt, alloc, row, &words, desk, status, Some(said));
+    same(rt, &row, &on, &false);
+    same(rt, &row, &desk.file("a.tplg"), &file().get(..bytes));
 }
 
 // The calls are the load, the file's creation, its bytes, and the line. The fifth never comes.
 #[test]
-fn a_compile_that_fails_leaves_a_front_of_its_file_and_line(rt: HostRuntime) -> Result<(), Fail> {
-    let whole = compiled(rt.alloc(), 168, 5, 0)?;
-    same(&rt, &"its status", &whole.status, &0);
-    same(
-        &rt,
-        &"what is said",
-        &whole.said.as_slice(),
-        &b"wrote 168\n".as_slice(),
-    );
-    same(&rt, &"the file", &whole.out.as_slice(), &file().as_slice());
-    for (call, passes, bytes, said) in [
-        (1u32, 0u32, 0usize, b"".as_slice()),
-        (2, 0, 0, b""),
-        (3, 36, 36, b""),
-        (4, 3, 168, b"wro"),
+fn a_compile_that_fails_leaves_a_front_of_its_file_and_line(rt: HostRuntime) {
+    for (call, passes, status, bytes, said) in [
+        (1u32, 0u32, 3u8, 0usize, b"".as_slice()),
+        (2, 0, 3, 0, b""),
+        (3, 36, 3, 36, b""),
+        (4, 3, 3, 168, b"wro"),
+        (5, 0, 0, 168, b"wrote 168\n"),
     ] {
-        let left = compiled(rt.alloc(), 168, call, passes)?;
-        same(&rt, &call, &left.status, &3);
-        same(&rt, &call, &left.on, &false);
-        same(&rt, &call, &left.said.as_slice(), &said);
-        same(
-            &rt,
-            &call,
-            &Some(left.out.as_slice()),
-            &whole.out.get(..bytes),
-        );
+        let mut desk = laid_out(&rt, rt.alloc(), 168, call, passes);
+        leaves(&rt, rt.alloc(), call, &mut desk, status, said, bytes);
     }
-    Ok(())
 }
 
 // The file has room for one byte less than the topology has.
 #[test]
-fn a_file_without_room_leaves_a_front_of_its_bytes(rt: HostRuntime) -> Result<(), Fail> {
-    let whole = compiled(rt.alloc(), 168, 5, 0)?;
-    let left = compiled(rt.alloc(), 167, 5, 0)?;
-    same(&rt, &"its status", &left.status, &3);
-    same(&rt, &"what is said", &left.said.len(), &0);
-    same(
-        &rt,
-        &"the file",
-        &Some(left.out.as_slice()),
-        &whole.out.get(..167),
-    );
-    Ok(())
+fn a_file_without_room_leaves_a_front_of_its_bytes(rt: HostRuntime) {
+    let mut desk = laid_out(&rt, rt.alloc(), 167, 5, 0);
+    leaves(&rt, rt.alloc(), 5, &mut desk, 3, b"", 167);
 }

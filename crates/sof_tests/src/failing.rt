@@ -1,8 +1,9 @@
 // Runs over a desk that fails: a front of the whole run is left, and the status is 3.
-use crate::played::{played, played_thin};
+use crate::graphs::{THIN, graph};
+use crate::played::{Failing, desk_with, ends};
 use crate::same::same;
-use std::test::Fail;
-use test_graphs::{THIN, graph};
+use std::alloc::Global;
+use std::process::Abort;
 
 const SHOWN: &[u8] = b"1 ok
 2 show
@@ -15,62 +16,54 @@ edge 0 1 2
 stream PCM0P closed
 ";
 
-// The first two calls load the topology and the script, and then each line is one.
-#[test]
-fn each_call_of_a_load_and_show_that_fails_leaves_a_front(rt: HostRuntime) -> Result<(), Fail> {
-    for (call, passes, on, length) in [
-        (1u32, 0u32, false, 0usize),
-        (2, 0, false, 0),
-        (3, 0, true, 0),
-        (4, 0, true, 5),
-        (5, 0, true, 12),
-        (6, 0, true, 21),
-        (7, 0, true, 51),
-        (8, 0, true, 79),
-        (9, 0, true, 111),
-        (10, 0, true, 144),
-        (11, 0, true, 155),
-        (4, 2, true, 7),
-        (5, 3, true, 15),
-    ] {
-        let failing = Some((call, passes));
-        let outcome = played_thin(rt.alloc(), "992", b"load\nshow\n", failing)?;
-        same(&rt, &call, &outcome.ending.status, &3);
-        same(&rt, &call, &outcome.ending.on, &on);
-        same(
-            &rt,
-            &call,
-            &Some(outcome.said.as_slice()),
-            &SHOWN.get(..length),
-        );
-    }
-    Ok(())
+// A load and a show over the thin graph, whose file is `topology`, end so where a call fails.
+fn load_and_show_ends(
+    rt: &impl Abort,
+    alloc: Global,
+    topology: &[u8],
+    failing: Failing,
+    want: (u8, bool),
+    length: usize,
+) {
+    let words = ["play", "992", "a.tplg", "s.txt"];
+    let mut desk = desk_with(rt, alloc, topology, b"load\nshow\n", failing);
+    let (call, said) = (failing.0, SHOWN.get(..length));
+    let on = ends(rt, alloc, call, &words, &mut desk, want.0, said);
+    same(rt, &call, &on, &want.1);
 }
 
-// A call beyond the last one of the run.
+// The first two calls load the topology and the script, and then each line is one. A twelfth call never comes.
 #[test]
-fn a_call_that_never_comes_fails_nothing(rt: HostRuntime) -> Result<(), Fail> {
-    let failing = Some((12, 0));
-    let outcome = played_thin(rt.alloc(), "992", b"load\nshow\n", failing)?;
-    same(&rt, &12, &outcome.ending.status, &0);
-    same(&rt, &12, &outcome.said.as_slice(), &SHOWN);
-    Ok(())
+fn each_call_of_a_load_and_show_that_fails_leaves_a_front(rt: HostRuntime) {
+    let topology = graph(&rt, rt.alloc(), THIN);
+    for (call, passes, status, on, length) in [
+        (1u32, 0u32, 3u8, false, 0usize),
+        (2, 0, 3, false, 0),
+        (3, 0, 3, true, 0),
+        (4, 0, 3, true, 5),
+        (5, 0, 3, true, 12),
+        (6, 0, 3, true, 21),
+        (7, 0, 3, true, 51),
+        (8, 0, 3, true, 79),
+        (9, 0, 3, true, 111),
+        (10, 0, 3, true, 144),
+        (11, 0, 3, true, 155),
+        (4, 2, 3, true, 7),
+        (5, 3, 3, true, 15),
+        (12, 0, 0, true, 175),
+    ] {
+        let failing = (call, passes);
+        load_and_show_ends(&rt, rt.alloc(), &topology, failing, (status, on), length);
+    }
 }
 
 // The third call of a broken topology says its fault.
 #[test]
-fn a_fault_that_is_cut_is_a_failure(rt: HostRuntime) -> Result<(), Fail> {
+fn a_fault_that_is_cut_is_a_failure(rt: HostRuntime) {
     let words = ["play", "992", "a.tplg", "s.txt"];
-    let script = Some(b"load\n".as_slice());
-    let outcome = played(rt.alloc(), words.as_slice(), b"CoS", script, Some((3, 6)))?;
-    same(&rt, &"its status", &outcome.ending.status, &3);
-    same(
-        &rt,
-        &"what is said",
-        &outcome.said.as_slice(),
-        &b"topolo".as_slice(),
-    );
-    Ok(())
+    let mut desk = desk_with(&rt, rt.alloc(), b"CoS", b"load\n", (3, 6));
+    let said = Some(b"topolo".as_slice());
+    ends(&rt, rt.alloc(), 3, &words, &mut desk, 3, said);
 }
 
 const COUNTS: &[u8] = b"pipelines 1
@@ -82,11 +75,26 @@ controls 0
 need 992
 ";
 
+// A check of the thin graph ends so where a call fails.
+fn check_ends(
+    rt: &impl Abort,
+    alloc: Global,
+    topology: &[u8],
+    failing: Failing,
+    status: u8,
+    length: usize,
+) {
+    let mut desk = desk_with(rt, alloc, topology, b"", failing);
+    let words = ["check", "a.tplg"];
+    let (call, said) = (failing.0, COUNTS.get(..length));
+    let on = ends(rt, alloc, call, &words, &mut desk, status, said);
+    same(rt, &call, &on, &false);
+}
+
 // The load is the first call of a check, and then each line is one. A ninth call never comes.
 #[test]
-fn a_check_that_fails_leaves_a_front_of_its_lines(rt: HostRuntime) -> Result<(), Fail> {
-    let alloc = rt.alloc();
-    let topology = graph(alloc, THIN)?;
+fn a_check_that_fails_leaves_a_front_of_its_lines(rt: HostRuntime) {
+    let topology = graph(&rt, rt.alloc(), THIN);
     for (call, passes, status, length) in [
         (1u32, 0u32, 3u8, 0usize),
         (2, 0, 3, 0),
@@ -100,17 +108,7 @@ fn a_check_that_fails_leaves_a_front_of_its_lines(rt: HostRuntime) -> Result<(),
         (8, 8, 3, 73),
         (9, 0, 0, 74),
     ] {
-        let failing = Some((call, passes));
-        let words = ["check", "a.tplg"];
-        let outcome = played(alloc, words.as_slice(), &topology, None, failing)?;
-        same(&rt, &call, &outcome.ending.status, &status);
-        same(&rt, &call, &outcome.ending.on, &false);
-        same(
-            &rt,
-            &call,
-            &Some(outcome.said.as_slice()),
-            &COUNTS.get(..length),
-        );
+        let failing = (call, passes);
+        check_ends(&rt, rt.alloc(), &topology, failing, status, length);
     }
-    Ok(())
 }

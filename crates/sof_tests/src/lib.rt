@@ -10,6 +10,8 @@ mod failing;
 #[cfg(test)]
 mod given;
 #[cfg(test)]
+mod graphs;
+#[cfg(test)]
 mod played;
 mod rows;
 #[cfg(test)]

@@ -1,52 +1,45 @@
-// A run over a desk in memory and the firmware.
-use crate::runs::{Ending, run_over};
+// Desks that fail by plan, and what a run over one comes to.
+use crate::runs::run_over;
+use crate::same::same;
 use sof_desk::MemDesk;
 use std::alloc::Global;
-use std::test::Fail;
-use test_graphs::{THIN, graph};
+use std::process::Abort;
 
-/// The greatest heap of the firmware, in bytes.
-const ROOM: u32 = 16777216;
+/// The greatest heap of the firmware, in bytes; it is small, since many runs are made.
+const ROOM: u32 = 4096;
 
-/// What a run came to: how it ended, and what was said.
-#[derive(Debug, Drop)]
-pub struct Outcome {
-    pub ending: Ending,
-    pub said: Vec<u8>,
-}
+/// The number from 1 of a call that fails, and how many bytes of it are still written. No call has the number 0.
+pub type Failing = (u32, u32);
 
-/// A call that fails, by its number from 1, and how many bytes of it are still written.
-pub type Failing = Option<(u32, u32)>;
-
-/// A run of these words over a desk with a topology as `a.tplg` and, where there is one, a script as `s.txt`.
-pub fn played(
+/// A desk with a topology as `a.tplg` and a script as `s.txt`, of which a call fails.
+pub fn desk_with(
+    rt: &impl Abort,
     alloc: Global,
-    words: &[&str],
     topology: &[u8],
-    script: Option<&[u8]>,
-    failing: Failing,
-) -> Result<Outcome, Fail> {
-    let mut desk = MemDesk::new(alloc, 4096)?;
-    desk.put_file("a.tplg", topology)?;
-    if let Some(bytes) = script {
-        desk.put_file("s.txt", bytes)?;
-    }
-    if let Some((call, written)) = failing {
-        desk.fail_call(call, written)?;
-    }
-    let ending = run_over(alloc, words, ROOM, &mut desk)?;
-    let said = Vec::from_slice(alloc, desk.said())?;
-    Ok(Outcome { ending, said })
-}
-
-/// A run of a script over the thin graph.
-pub fn played_thin(
-    alloc: Global,
-    heap: &'static str,
     script: &[u8],
     failing: Failing,
-) -> Result<Outcome, Fail> {
-    let topology = graph(alloc, THIN)?;
-    let words = ["play", heap, "a.tplg", "s.txt"];
-    played(alloc, words.as_slice(), &topology, Some(script), failing)
+) -> MemDesk {
+    let mut desk = MemDesk::new(alloc, 4096).expect(rt, "there is memory");
+    desk.put_file("a.tplg", topology)
+        .expect(rt, "there is memory");
+    desk.put_file("s.txt", script).expect(rt, "there is memory");
+    desk.fail_call(failing.0, failing.1)
+        .expect(rt, "there is memory");
+    desk
+}
+
+/// A run of these words over a desk ends with this status, and so much said; whether the device is on then. A failure tells the row.
+pub fn ends(
+    rt: &impl Abort,
+    alloc: Global,
+    row: u32,
+    words: &[&str],
+    desk: &mut MemDesk,
+    status: u8,
+    said: Option<&[u8]>,
+) -> bool {
+    let ending = run_over(rt, alloc, words, ROOM, desk);
+    same(rt, &row, &ending.status, &status);
+    same(rt, &row, &Some(desk.said()), &said);
+    ending.on
 }

@@ -1,5 +1,5 @@
 -- What a picture's labels say, in units: bytes, Hz, ms, µs and dB.
-use Rattle.std.specs.Prelude.{ℕ, suc, ◌/◌, ◌%◌, ℤ, pos, negsuc, ◌==◌, ◌&&◌, not, if◌then◌else◌, List, [], ◌∷◌, ◌++◌, find, codes, decimal, Option, Some, None}
+use Rattle.std.specs.Prelude.{ℕ, suc, ◌/◌, ◌%◌, ℤ, pos, negsuc, ◌==◌, ◌&&◌, not, if◌then◌else◌, List, [], ◌∷◌, ◌++◌, length, find, codes, decimal, Option, Some, None}
 use Rattle.std.specs.List.{flat_map}
 use Rattle.std.specs.Option.{option_map_or}
 use Rattle.stream_law.specs.declared.graph.Comp.{Comp}
@@ -77,13 +77,16 @@ ramp_label ramp = if ramp == 0 then [] else codes "\\nramp " ++ decimal ramp ++ 
 
 -- a control's name, where it has one
 unfoldable pub title_label : List ℕ → List ℕ
-title_label [] = []
-title_label (byte ∷ bytes) = codes "\\ncontrol " ++ escaped (byte ∷ bytes)
+title_label name = if length name == 0 then [] else codes "\\ncontrol " ++ escaped name
+
+-- silence, and the gains of the values from 1 on, where there are such
+unfoldable pub muted_label : ℕ → ℤ → ℕ → List ℕ
+muted_label max lowest step = codes "\\nmute" ++ (if max == 0 then [] else codes ", " ++ gain_span lowest step 1 max)
 
 -- the gains of a volume's values; value 0 is silent where mute is not 0
 unfoldable pub gain_label : ℕ → ℕ → ℤ → ℕ → ℕ → List ℕ
 gain_label min max lowest step mute =
-    if min == 0 && not (mute == 0) then codes "\\nmute" ++ (if max == 0 then [] else codes ", " ++ gain_span lowest step 1 max)
+    if min == 0 && not (mute == 0) then muted_label max lowest step
     else codes "\\n" ++ gain_span lowest step min max
 
 -- what a live control takes: a volume's values, channels and gains, the number of a mux's choices, the greatest size of an equaliser's

@@ -27,9 +27,13 @@ shown_pcms_in b = map shown_pcm (pcms_in b.body)
 abbrev pub shown_pcms_of : Topology → List ShownPcm
 shown_pcms_of t = flat_map shown_pcms_in t.blocks
 
+-- the name of the stream of a direction
+abbrev pub stream_name : Bool → ShownPcm → List ℕ
+stream_name capture p = if capture then p.capture else p.play
+
 -- the stream of a direction has this name
 abbrev pub has_stream : Bool → List ℕ → ShownPcm → Bool
-has_stream capture name p = bytes_eq name (if capture then p.capture else p.play)
+has_stream capture name p = bytes_eq name (stream_name capture p)
 
 -- the first PCM whose stream of a direction has this name
 abbrev pub shown_pcm_with : List ShownPcm → Bool → List ℕ → Option ShownPcm

@@ -22,9 +22,10 @@ fn say_halves(line: &mut Vec<u8>, halves: u32) -> Result<(), NoMemory>
 fn say_decibels(line: &mut Vec<u8>, halves: i32) -> Result<(), NoMemory>
     ensures { OnOk result (line.new.items ≡ line.old.items ++ law.decibel_words halves) }
 {
-    if halves < 0 {
-        say(line, b"-")?;
+    if halves >= 0 {
+        return say_halves(line, halves.unsigned_abs());
     }
+    say(line, b"-")?;
     say_halves(line, halves.unsigned_abs())
 }
 
@@ -45,6 +46,19 @@ fn say_gain_span(
     say(line, b" dB")
 }
 
+// Silence, and the gains of the values from 1 on.
+#[tactic(auto, unfolding(crate::specs::Labels::muted_label))]
+fn say_muted(line: &mut Vec<u8>, max: u32, lowest: i32, step: u32) -> Result<(), NoMemory>
+    ensures { OnOk result (line.new.items ≡ line.old.items ++ law.muted_label max lowest step) }
+{
+    say(line, b"\\nmute")?;
+    if max == 0 {
+        return Ok(());
+    }
+    say(line, b", ")?;
+    say_gain_span(line, lowest, step, 1, max)
+}
+
 /// The gains of a volume's values from `min` to `max`. Value 0 is silent where `mute` is not 0.
 #[tactic(auto, unfolding(crate::specs::Labels::gain_label))]
 pub fn say_gains(
@@ -57,14 +71,9 @@ pub fn say_gains(
 ) -> Result<(), NoMemory>
     ensures { OnOk result (line.new.items ≡ line.old.items ++ law.gain_label min max lowest step mute) }
 {
-    if min != 0 || mute == 0 {
-        say(line, b"\\n")?;
-        return say_gain_span(line, lowest, step, min, max);
+    if min == 0 && mute != 0 {
+        return say_muted(line, max, lowest, step);
     }
-    say(line, b"\\nmute")?;
-    if max == 0 {
-        return Ok(());
-    }
-    say(line, b", ")?;
-    say_gain_span(line, lowest, step, 1, max)
+    say(line, b"\\n")?;
+    say_gain_span(line, lowest, step, min, max)
 }

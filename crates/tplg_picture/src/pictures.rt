@@ -4,7 +4,7 @@ ghost use Rattle.std.specs.List.{flat_map};
 ghost use Rattle.tplg_picture.specs.Picture as law;
 
 use crate::lines::{cluster_line, edge_statement, node_statement, title_line};
-use crate::shown::{Shown, shown};
+use crate::shown::{Shown, shown_names};
 use crate::words::text_of;
 use sof_base::{Items, NoMemory};
 use std::alloc::Global;
@@ -120,6 +120,6 @@ pub fn picture(
 ) -> Result<Items<Items<u8>>, NoMemory>
     ensures { IfOk result (λ lines. lines ≡ law.picture_of topology.now plan.now) }
 {
-    let shown = shown(alloc, topology)?;
+    let shown = shown_names(alloc, topology)?;
     picture_with(alloc, plan, &shown)
 }

@@ -64,11 +64,16 @@ fn shown_pcms(alloc: Global, topology: &Topology) -> Result<Items<ShownPcm>, NoM
     Ok(out)
 }
 
+fn stream_name(pcm: &ShownPcm, capture: bool) -> &Name44
+    ensures { result.now ≡ law.stream_name capture pcm.now }
+{
+    if capture { &pcm.capture } else { &pcm.play }
+}
+
 fn has_stream(pcm: &ShownPcm, capture: bool, name: &[u8]) -> bool
     ensures { result ≡ law.has_stream capture name.now pcm.now }
 {
-    let stream = if capture { &pcm.capture } else { &pcm.play };
-    name == stream.as_bytes()
+    name == stream_name(pcm, capture).as_bytes()
 }
 
 /// The first PCM whose stream of a direction has a name.
@@ -121,7 +126,7 @@ fn live_names(alloc: Global, topology: &Topology) -> Result<Items<Items<u8>>, No
 }
 
 /// The names of a topology that a picture shows.
-pub fn shown(alloc: Global, topology: &Topology) -> Result<Shown, NoMemory>
+pub fn shown_names(alloc: Global, topology: &Topology) -> Result<Shown, NoMemory>
     ensures { IfOk result (λ shown. shown ≡ law.shown_of topology.now) }
 {
     let pcms = shown_pcms(alloc, topology)?;

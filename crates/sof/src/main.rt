@@ -3,14 +3,17 @@
 #![tactic(auto)]
 
 mod reasons;
+mod warnings;
 
-use crate::reasons::{reason, tell_waves};
+use crate::reasons::reason;
+use crate::warnings::{plays, tell_warnings};
 use fw_core::Firmware;
 use sof_base::NoMemory;
 use sof_desk::Desk;
 use sof_faults::{ShownName, words_fault};
 use sof_files::{OsDesk, Subject, Trouble};
 use sof_run::run;
+use sof_warnings::{Answered, Listener};
 use std::fmt::Display;
 use std::fs::File;
 use std::io::ErrorKind;
@@ -115,25 +118,43 @@ fn words(rt: &HostRuntime) -> Result<Vec<String>, u8> {
     }
 }
 
+// Whether a trouble is that nobody reads standard output any more, as where `head` has read enough.
+fn is_reader_gone(trouble: &Trouble) -> bool {
+    match trouble.subject {
+        Subject::Output => trouble.reason.kind() == ErrorKind::BrokenPipe,
+        _ => false,
+    }
+}
+
+// Tells a trouble, where somebody is there whom it troubles.
+fn tell_trouble(rt: &HostRuntime, trouble: &Trouble) {
+    if !is_reader_gone(trouble) {
+        tell(rt, ShownTrouble(trouble));
+    }
+}
+
 // Prints a text; 3 where the output failed.
 fn print(rt: &HostRuntime, text: &str) -> u8 {
     match print!(rt; "{text}") {
         Ok(()) => 0,
         Err(reason) => {
             let subject = Subject::Output;
-            tell(rt, Trouble { subject, reason });
+            tell_trouble(rt, &Trouble { subject, reason });
             3
         }
     }
 }
 
-// Whether a form plays a script without a trace.
-fn is_untraced(form: &str) -> bool {
-    form == "play" || form == "dynamic"
-}
-
-// Tells why the words led to a status, and what a script binds that is not what it seems; what there is no memory for is left out.
-fn explain(rt: &HostRuntime, words: &[String], status: u8) -> Result<(), NoMemory> {
+// Tells why the words led to a status, and where it is 0 what is not as it seems; what there is no memory for is left out.
+fn explain(
+    rt: &HostRuntime,
+    words: &[String],
+    status: u8,
+    answers: &[Answered],
+) -> Result<(), NoMemory> {
+    if status == 0 {
+        return tell_warnings(rt, words, answers);
+    }
     if status == 1 {
         if let Some(fault) = words_fault(words, ROOM) {
             tell(rt, fault);
@@ -142,29 +163,23 @@ fn explain(rt: &HostRuntime, words: &[String], status: u8) -> Result<(), NoMemor
     if let Some(sentence) = reason(rt, words, status)? {
         tell(rt, sentence.as_str());
     }
-    if status != 0 {
-        return Ok(());
-    }
-    match words {
-        [form, _, _, script] if is_untraced(form.as_str()) => tell_waves(rt, script.as_str()),
-        [form, _, _, script, _] if form.as_str() == "trace" => tell_waves(rt, script.as_str()),
-        _ => Ok(()),
-    }
+    Ok(())
 }
 
 // The top call over real files and a firmware.
 fn play(rt: &HostRuntime, words: &[String]) -> Result<u8, NoMemory> {
     let dsp = Firmware::new(rt.alloc(), ROOM)?;
-    let mut desk = OsDesk::new(rt, rt.alloc())?;
+    let real = OsDesk::new(rt, rt.alloc())?;
+    let mut desk = Listener::new(rt.alloc(), real, plays(words));
     let mut status = run(rt.alloc(), words, &mut desk, dsp).status;
     // A run that said no line has its files emptied at its end.
     if status == 0 && desk.say(b"").is_err() {
         status = 3;
     }
-    if let Some(trouble) = desk.trouble() {
-        tell(rt, ShownTrouble(trouble));
+    if let Some(trouble) = desk.desk().trouble() {
+        tell_trouble(rt, trouble);
     }
-    let _ = explain(rt, words, status);
+    let _ = explain(rt, words, status, desk.answers());
     Ok(status)
 }
 

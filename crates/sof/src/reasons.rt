@@ -1,37 +1,35 @@
 // Why a run came to its status, read off its files once more.
 ghost use Rattle.std.specs.Prelude.{◌≤◌, length, IfOk, IfSome};
 
-use crate::{ROOM, tell};
+use crate::ROOM;
 use fw_core::Firmware;
 use sof_base::NoMemory;
 use sof_desk::{Desk, LoadFault};
 use sof_faults::{
-    Misfit, Wave, binding_sentence, misfit_sentence, no_source_sentence, script_sentence,
+    Misfit, binding_sentence, misfit_sentence, no_source_sentence, script_sentence,
     source_sentence, topology_sentence, trace_sentence,
 };
 use sof_files::OsDesk;
 use sof_run::{ReplayFault, record_at_fault};
-use sof_script::parse;
+use sof_warnings::{text_sentence, ticks_sentence};
 use std::fs;
-use std::fs::File;
-use std::io::Read;
 
 /// The most bytes of a topology, a script and a source that the top call loads.
-const LIMIT: usize = 1048576;
+pub const LIMIT: usize = 1048576;
 
 /// And those of a trace.
 const TRACE_LIMIT: usize = 16777216;
 
-// Whether a name is that of a file whose bytes are there once more: no pipe, and no terminal.
-fn is_kept(rt: &HostRuntime, name: &str) -> bool {
+/// Whether a name is that of a file whose bytes are there once more: no pipe, and no terminal.
+pub fn is_kept(rt: &HostRuntime, name: &str) -> bool {
     match fs::metadata(rt, name) {
         Ok(about) => about.is_file(),
         Err(_) => false,
     }
 }
 
-// The bytes of a file that the run loaded, at most so many; none where it cannot be loaded again.
-fn loaded(rt: &HostRuntime, name: &str, limit: usize) -> Result<Option<Vec<u8>>, NoMemory>
+/// The bytes of a file that the run loaded, at most so many; none where it cannot be loaded again.
+pub fn loaded(rt: &HostRuntime, name: &str, limit: usize) -> Result<Option<Vec<u8>>, NoMemory>
     ensures { IfOk result (λ bytes. IfSome bytes (λ b. length b.items ≤ limit)) }
 {
     if !is_kept(rt, name) {
@@ -47,19 +45,21 @@ fn loaded(rt: &HostRuntime, name: &str, limit: usize) -> Result<Option<Vec<u8>>,
 
 // What is wrong with the topology file of a name, as a sentence.
 fn topology_reason(rt: &HostRuntime, name: &str) -> Result<Option<String>, NoMemory> {
-    match loaded(rt, name, LIMIT)? {
-        Some(bytes) => topology_sentence(rt.alloc(), name, &bytes),
-        None => Ok(None),
+    let Some(bytes) = loaded(rt, name, LIMIT)? else {
+        return Ok(None);
+    };
+    // no topology is a text
+    let text = text_sentence(rt.alloc(), name, &bytes)?;
+    if text.is_some() {
+        return Ok(text);
     }
+    topology_sentence(rt.alloc(), name, &bytes)
 }
 
 // Why no source of the topology file of a name was made.
 fn no_source_reason(rt: &HostRuntime, name: &str) -> Result<Option<String>, NoMemory> {
-    let Some(bytes) = loaded(rt, name, LIMIT)? else {
-        return Ok(None);
-    };
-    let reason = topology_sentence(rt.alloc(), name, &bytes)?;
-    if reason.is_some() {
+    let reason = topology_reason(rt, name)?;
+    if reason.is_some() || !is_kept(rt, name) {
         return Ok(reason);
     }
     Ok(Some(no_source_sentence(rt.alloc(), name)?))
@@ -117,6 +117,14 @@ fn script_reason(
     }
 }
 
+// That the ticks of the script of a name are too many.
+fn ticks_reason(rt: &HostRuntime, script: &str) -> Result<Option<String>, NoMemory> {
+    match loaded(rt, script, LIMIT)? {
+        Some(lines) => ticks_sentence(rt.alloc(), script, &lines),
+        None => Ok(None),
+    }
+}
+
 /// Why the words led to a status that is about a file: found in the files again, when all else is done.
 pub fn reason(rt: &HostRuntime, words: &[String], status: u8) -> Result<Option<String>, NoMemory> {
     match (status, words) {
@@ -129,38 +137,7 @@ pub fn reason(rt: &HostRuntime, words: &[String], status: u8) -> Result<Option<S
         (4, [_, _, topology, script] | [_, _, topology, script, _]) => {
             script_reason(rt, topology.as_str(), script.as_str())
         }
+        (8, [_, _, _, script] | [_, _, _, script, _]) => ticks_reason(rt, script.as_str()),
         _ => Ok(None),
     }
-}
-
-// Whether the file of a name begins as a WAV does.
-fn is_wave(rt: &HostRuntime, name: &str) -> bool {
-    if !is_kept(rt, name) {
-        return false;
-    }
-    let Ok(mut file) = File::open(rt, name) else {
-        return false;
-    };
-    let mut head = [0; 12];
-    match file.read(&mut head) {
-        Ok(12) => &head[..4] == b"RIFF".as_slice() && &head[8..] == b"WAVE".as_slice(),
-        _ => false,
-    }
-}
-
-/// Tells of each input of a script that is a WAV, of whose header the program knows nothing.
-pub fn tell_waves(rt: &HostRuntime, script: &str) -> Result<(), NoMemory> {
-    let Some(lines) = loaded(rt, script, LIMIT)? else {
-        return Ok(());
-    };
-    let Ok(script) = parse(rt.alloc(), &lines) else {
-        return Ok(());
-    };
-    for binding in script.bindings.items() {
-        let file = binding.file.as_str();
-        if binding.input && is_wave(rt, file) {
-            tell(rt, Wave(file));
-        }
-    }
-    Ok(())
 }

@@ -13,8 +13,8 @@ mod usage;
 mod words;
 
 pub use script_fault::{binding_sentence, script_sentence};
-pub use shown::{ShownName, Wave};
+pub use shown::{Shown, ShownName};
 pub use source_fault::source_sentence;
-pub use topology_fault::{no_source_sentence, topology_sentence};
+pub use topology_fault::{no_source_sentence, topology_in, topology_sentence};
 pub use trace_fault::{Misfit, misfit_sentence, trace_sentence};
 pub use words::{WordsFault, words_fault};

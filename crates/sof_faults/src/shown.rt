@@ -1,7 +1,6 @@
 // Names and bytes as a terminal may show them.
 use std::fmt;
 use std::fmt::Display;
-use thiserror::Error;
 
 /// The most bytes of a token that are shown.
 const MOST: usize = 80;
@@ -57,8 +56,3 @@ impl Display for ShownName<'_> {
         Ok(())
     }
 }
-
-/// What is told of an input that is a WAV, by the name of its file.
-#[derive(Clone, Copy, Debug, Error)]
-#[error("{}: a WAV is played with its header; see 'sound.py raw'", ShownName(.0))]
-pub struct Wave<'a>(pub &'a str);

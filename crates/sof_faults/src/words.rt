@@ -20,6 +20,13 @@ pub enum WordsFault<'a> {
         takes: Takes,
         given: usize,
     },
+    #[error("usage: sof {form} {takes}; 'sof --help' tells more")]
+    Usage {
+        form: &'static str,
+        takes: Takes,
+    },
+    #[error("usage: sof FORM ..; 'sof --help' tells the forms")]
+    Help,
     #[error("HEAP is at most {0}, in decimal")]
     Heap(u32),
     #[error("N is from 1 to 1000, in decimal")]
@@ -87,6 +94,26 @@ fn word_fault(name: &'static str, word: &str, room: u32) -> Option<WordsFault<'s
     }
 }
 
+// Whether the words after that of a form ask how it is used, or are none.
+fn asks_usage(words: &[String]) -> bool {
+    match words {
+        [] => true,
+        [word] => word.as_str() == "--help" || word.as_str() == "-h",
+        _ => false,
+    }
+}
+
+// What is told where help is asked for by a word, maybe on a form.
+fn help_fault(words: &[String]) -> WordsFault<'static> {
+    let [word] = words else {
+        return WordsFault::Help;
+    };
+    match form_of(word.as_str()) {
+        Some((form, takes)) => WordsFault::Usage { form, takes },
+        None => WordsFault::Help,
+    }
+}
+
 // What is wrong with the words after that of a form.
 fn form_fault(
     form: &'static str,
@@ -115,10 +142,14 @@ pub fn words_fault(words: &[String], room: u32) -> Option<WordsFault<'_>> {
     let quoted = Quoted(word.as_bytes());
     match word.as_str() {
         "--help" | "--version" | "-h" | "-V" => return Some(WordsFault::NotAlone(quoted)),
+        "help" => return Some(help_fault(after)),
         _ => {}
     }
     match form_of(word.as_str()) {
-        Some((form, takes)) => form_fault(form, takes, after, room),
+        Some((form, takes)) => match form_fault(form, takes, after, room) {
+            Some(_) if asks_usage(after) => Some(WordsFault::Usage { form, takes }),
+            fault => fault,
+        },
         None => Some(WordsFault::NoForm(quoted)),
     }
 }

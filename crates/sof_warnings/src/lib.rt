@@ -1,0 +1,19 @@
+//! Says in words what a run was not told by its status: a buffer that is too small for its stream, a heap that is too small for a load,
+//! an input that is a WAV, and also a text for a topology and a limit that was passed. A desk of its own keeps how a script's commands
+//! were answered.
+#![tactic(auto)]
+
+mod buffers;
+mod ids;
+mod listener;
+mod runs;
+mod text;
+mod ticks;
+mod wave;
+mod ways;
+
+pub use listener::{Answered, Listener};
+pub use runs::{Played, check_warnings, play_warnings};
+pub use text::text_sentence;
+pub use ticks::ticks_sentence;
+pub use wave::Wave;

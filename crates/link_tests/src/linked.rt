@@ -1,5 +1,5 @@
 // Runs over a device that fails of its own accord: a firmware after a link of its own, which refuses a message or loses it.
-ghost use Rattle.std.specs.Prelude.{◌≡◌, None};
+ghost use Rattle.std.specs.Prelude.{◌≡◌, None, IfOk};
 ghost use Rattle.fw_core.specs.Device.{firmware};
 ghost use Rattle.mbox_link.specs.Link.{link as linked_by};
 
@@ -11,6 +11,7 @@ use sof_desk::MemDesk;
 use sof_run::run;
 use std::alloc::Global;
 use std::process::Abort;
+use std::test::Fail;
 
 /// The greatest heap of the firmware, in bytes; it is small, since many runs are made.
 const ROOM: u32 = 4096;
@@ -27,11 +28,11 @@ enum Failing {
 }
 
 // A firmware after a link that has a fate for one message.
-fn fated(rt: &impl Abort, alloc: Global, failing: Failing) -> FaultLink<Firmware>
-    ensures off { (linked_by firmware).on result ≡ None }
-    ensures pending { (linked_by firmware).pending result ≡ 0 }
+fn fated(alloc: Global, failing: Failing) -> Result<FaultLink<Firmware>, Fail>
+    ensures off { IfOk result (λ l. (linked_by firmware).on l ≡ None) }
+    ensures pending { IfOk result (λ l. (linked_by firmware).pending l ≡ 0) }
 {
-    let mut link = FaultLink::new(Firmware::new(alloc, ROOM).expect(rt, "there is memory"));
+    let mut link = FaultLink::new(Firmware::new(alloc, ROOM)?);
     let planned = match failing {
         Failing::RefusesFirst => link.plan(1, Fate::Refuse(-5)),
         Failing::DropsFirst => link.plan(1, Fate::Drop),
@@ -40,8 +41,10 @@ fn fated(rt: &impl Abort, alloc: Global, failing: Failing) -> FaultLink<Firmware
         Failing::DropsNinth => link.plan(9, Fate::Drop),
         Failing::DropsTenth => link.plan(10, Fate::Drop),
     };
-    planned.expect(rt, "there is room for a plan");
-    link
+    match planned {
+        Ok(()) => Ok(link),
+        Err(_) => return Err("no room for a plan")?,
+    }
 }
 
 /// How a run ended: its status, whether the device is on, and what its link still holds.
@@ -71,7 +74,9 @@ fn run_over(
     desk: &mut MemDesk,
 ) -> Ending {
     let texts = owned(rt, alloc, words);
-    let dsp = fated(rt, alloc, failing);
+    let Ok(dsp) = fated(alloc, failing) else {
+        panic!(rt; "there is no memory")
+    };
     let ended = run(alloc, &texts, desk, dsp);
     Ending {
         status: ended.status,

@@ -53,7 +53,7 @@ fn laid_out(rt: &impl Abort, alloc: Global, room: usize, call: u32, passes: u32)
 fn leaves(
     rt: &impl Abort,
     alloc: Global,
-    row: u32,
+    row: usize,
     desk: &mut MemDesk,
     status: u8,
     said: &[u8],
@@ -76,7 +76,15 @@ fn a_compile_that_fails_leaves_a_front_of_its_file_and_line(rt: HostRuntime) {
         (5, 0, 0, 168, b"wrote 168\n"),
     ] {
         let mut desk = laid_out(&rt, rt.alloc(), 168, call, passes);
-        leaves(&rt, rt.alloc(), call, &mut desk, status, said, bytes);
+        leaves(
+            &rt,
+            rt.alloc(),
+            call as usize,
+            &mut desk,
+            status,
+            said,
+            bytes,
+        );
     }
 }
 

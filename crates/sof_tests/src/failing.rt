@@ -27,7 +27,7 @@ fn load_and_show_ends(
 ) {
     let words = ["play", "992", "a.tplg", "s.txt"];
     let mut desk = desk_with(rt, alloc, topology, b"load\nshow\n", failing);
-    let (call, said) = (failing.0, SHOWN.get(..length));
+    let (call, said) = (failing.0 as usize, SHOWN.get(..length));
     let on = ends(rt, alloc, call, &words, &mut desk, want.0, said);
     same(rt, &call, &on, &want.1);
 }
@@ -86,7 +86,7 @@ fn check_ends(
 ) {
     let mut desk = desk_with(rt, alloc, topology, b"", failing);
     let words = ["check", "a.tplg"];
-    let (call, said) = (failing.0, COUNTS.get(..length));
+    let (call, said) = (failing.0 as usize, COUNTS.get(..length));
     let on = ends(rt, alloc, call, &words, &mut desk, status, said);
     same(rt, &call, &on, &false);
 }

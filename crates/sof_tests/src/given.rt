@@ -87,7 +87,7 @@ fn said_of_ones(place: usize) -> &'static [u8] {
 }
 
 // A replay of these bytes says so.
-fn replay_says(rt: &impl Abort, alloc: Global, row: u32, bytes: &[u8], want: &[u8]) {
+fn replay_says(rt: &impl Abort, alloc: Global, row: usize, bytes: &[u8], want: &[u8]) {
     let mut desk = MemDesk::new(alloc, 4096).expect(rt, "there is memory");
     desk.put_file("x.trace", bytes)
         .expect(rt, "there is memory");
@@ -98,19 +98,18 @@ fn replay_says(rt: &impl Abort, alloc: Global, row: u32, bytes: &[u8], want: &[u
 
 #[test]
 fn a_replay_of_a_trace_that_is_cut_is_told(rt: HostRuntime) {
-    for length in 0..177u32 {
-        let bytes = TRACE.get(..length as usize).unwrap_or(&[]);
-        let want = said_of_a_front(length as usize);
-        replay_says(&rt, rt.alloc(), length, bytes, want);
+    for length in 0..177 {
+        let bytes = TRACE.get(..length).unwrap_or(&[]);
+        replay_says(&rt, rt.alloc(), length, bytes, said_of_a_front(length));
     }
 }
 
 #[test]
 fn a_replay_of_a_word_that_is_changed_is_told(rt: HostRuntime) {
-    for k in 0..44u32 {
-        let place = 4 * k as usize;
+    for k in 0..44 {
+        let place = 4 * k;
         let mut bytes = TRACE;
         bytes[place..place + 4].copy_from_slice(&[0xFF; 4]);
-        replay_says(&rt, rt.alloc(), 4 * k, &bytes, said_of_ones(place));
+        replay_says(&rt, rt.alloc(), place, &bytes, said_of_ones(place));
     }
 }

@@ -32,7 +32,7 @@ pub fn desk_with(
 pub fn ends(
     rt: &impl Abort,
     alloc: Global,
-    row: u32,
+    row: usize,
     words: &[&str],
     desk: &mut MemDesk,
     status: u8,

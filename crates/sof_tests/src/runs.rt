@@ -32,7 +32,9 @@ pub fn run_over(
     desk: &mut MemDesk,
 ) -> Ending {
     let texts = owned(rt, alloc, words);
-    let dsp = Firmware::new(alloc, room).expect(rt, "there is memory");
+    let Ok(dsp) = Firmware::new(alloc, room) else {
+        panic!(rt; "there is no memory")
+    };
     let ended = run(alloc, &texts, desk, dsp);
     Ending {
         status: ended.status,

@@ -42,7 +42,7 @@ fn laid_out(rt: &impl Abort, alloc: Global, topology: &[u8], failing: Failing) -
 fn leaves(
     rt: &impl Abort,
     alloc: Global,
-    row: u32,
+    row: usize,
     desk: &mut MemDesk,
     status: u8,
     said: usize,
@@ -92,7 +92,7 @@ fn leaves_fronts(rt: &impl Abort, alloc: Global, topology: &[u8], call: u32) {
     let mut desk = laid_out(rt, alloc, topology, (call, 0));
     let (said, appended) = before(call);
     let status: u8 = if call < 24 { 3 } else { 0 };
-    leaves(rt, alloc, call, &mut desk, status, said, appended);
+    leaves(rt, alloc, call as usize, &mut desk, status, said, appended);
 }
 
 // The run makes 23 calls.

@@ -22,7 +22,7 @@ fn a_file_is_loaded(rt: HostRuntime) {
 
 // Opens a file and reads it three times: how many bytes come, and what stands in the room for five then.
 fn reads<D: Desk>(rt: &impl Abort, desk: &mut D, name: &str, wants: [(usize, &[u8]); 3]) {
-    desk.open(2, name).expect(rt, "it is opened");
+    assert!(rt; desk.open(2, name).is_ok(), "at {name}");
     let mut out = [0u8; 5];
     let [first, second, third] = wants;
     same(rt, &name, &desk.read(2, &mut out), &Ok(first.0));
@@ -51,7 +51,7 @@ fn a_read_gives_no_more_than_the_desk_was_told(rt: HostRuntime) {
 
 // Creates an output for a slot and appends to it twice.
 fn appends_twice(rt: &impl Abort, desk: &mut MemDesk) {
-    desk.create(7, "out.raw").expect(rt, "it is created");
+    assert!(rt; desk.create(7, "out.raw").is_ok(), "it is not created");
     same(rt, &"abc", &desk.append(7, b"abc"), &Ok(()));
     same(rt, &"def", &desk.append(7, b"def"), &Err(DeskFailed));
 }

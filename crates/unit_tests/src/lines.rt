@@ -75,7 +75,9 @@ fn lines_are_read(rt: HostRuntime) {
     let text =
         "# a comment\r\n\n in \"H 1\" \"a b\"\nload\nparams PCM0P 48000 2 s16\nset C 31 0\r\nbytes EQ fF00\n\
         refuse 3 -22\nlag 100000 16\ntick 60000\r\nout D0 #\nshow\r";
-    let script = parse(rt.alloc(), text.as_bytes()).expect(&rt, "it is a script");
+    let Ok(script) = parse(rt.alloc(), text.as_bytes()) else {
+        panic!(rt; "it is no script")
+    };
     bindings_are_read(&rt, script.bindings.items());
     same(&rt, &"ticks", &ticks(&script), &60016);
     commands_are_read(&rt, script.commands.items());

@@ -84,9 +84,10 @@ fn written_again(rt: &impl Abort, alloc: Global, bytes: &[u8]) -> Vec<u8> {
 fn arrays_are_written_as_they_were_read(rt: HostRuntime) {
     let bytes = both();
     let out = written_again(&rt, rt.alloc(), &bytes);
-    let (front, back) = out.split_at(out.len().min(2));
-    same(&rt, &"the front", &front, &[1, 2].as_slice());
-    same(&rt, &"the arrays", &back, &bytes.as_slice());
+    let front = Some([1, 2].as_slice());
+    same(&rt, &"the front", &out.get(..2), &front);
+    let arrays = Some(bytes.as_slice());
+    same(&rt, &"the arrays", &out.get(2..), &arrays);
 }
 
 fn fault_of(alloc: Global, bytes: &[u8]) -> Option<TokenFault> {

@@ -89,7 +89,7 @@ enum Told<'t> {
     Cycle(Shown<'t>),
 }
 
-fn stated(number: Option<u32>) -> Stated {
+fn stated_number(number: Option<u32>) -> Stated {
     match number {
         Some(number) => Stated::Number(number),
         None => Stated::Nothing,
@@ -267,10 +267,10 @@ impl<'a, 't> RuleFault<'a, 't> {
             5 | 6 => self.routes_fault(number, entry),
             7 => WidgetFault::Schedulers(index, schedulers_of(entries, index)),
             8 => WidgetFault::NoComponent(Quoted(entry.sname().as_bytes())),
-            9 => WidgetFault::Period(stated(entry.tokens().period)),
+            9 => WidgetFault::Period(stated_number(entry.tokens().period)),
             10 => WidgetFault::Plain(dai_fault(entry)),
             11 => host_fault(entries, number, entry),
-            12 => WidgetFault::Size(stated(entry.tokens().size)),
+            12 => WidgetFault::Size(stated_number(entry.tokens().size)),
             _ => control_fault(entry),
         }
     }

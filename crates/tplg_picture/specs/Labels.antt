@@ -51,9 +51,13 @@ unfoldable pub decibel_words : ℤ → List ℕ
 decibel_words (pos halves) = half_words halves
 decibel_words (negsuc halves) = codes "-" ++ half_words (suc halves)
 
--- the gains of a least and of a greatest value, by the hundredths of a decibel of value 0 and of each step
+-- the gain of a value, by the hundredths of a decibel of value 0 and of each step
+unfoldable pub gain_words : ℤ → ℕ → ℕ → List ℕ
+gain_words lowest step value = decibel_words (half_decibels lowest step value)
+
+-- the gains of a least and of a greatest value
 unfoldable pub gain_span : ℤ → ℕ → ℕ → ℕ → List ℕ
-gain_span lowest step least greatest = decibel_words (half_decibels lowest step least) ++ codes " to " ++ decibel_words (half_decibels lowest step greatest) ++ codes " dB"
+gain_span lowest step least greatest = gain_words lowest step least ++ codes " to " ++ gain_words lowest step greatest ++ codes " dB"
 
 -- ---- lines of a component's label, each after the `\n` that begins it
 

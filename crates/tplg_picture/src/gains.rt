@@ -29,6 +29,14 @@ fn say_decibels(line: &mut Vec<u8>, halves: i32) -> Result<(), NoMemory>
     say_halves(line, halves.unsigned_abs())
 }
 
+// The gain of a value.
+#[tactic(auto, unfolding(crate::specs::Labels::gain_words))]
+fn say_gain(line: &mut Vec<u8>, lowest: i32, step: u32, value: u32) -> Result<(), NoMemory>
+    ensures { OnOk result (line.new.items ≡ line.old.items ++ law.gain_words lowest step value) }
+{
+    say_decibels(line, half_decibels(lowest, step, value))
+}
+
 // The gains of a least and of a greatest value.
 #[tactic(auto, unfolding(crate::specs::Labels::gain_span))]
 fn say_gain_span(
@@ -40,9 +48,9 @@ fn say_gain_span(
 ) -> Result<(), NoMemory>
     ensures { OnOk result (line.new.items ≡ line.old.items ++ law.gain_span lowest step least greatest) }
 {
-    say_decibels(line, half_decibels(lowest, step, least))?;
+    say_gain(line, lowest, step, least)?;
     say(line, b" to ")?;
-    say_decibels(line, half_decibels(lowest, step, greatest))?;
+    say_gain(line, lowest, step, greatest)?;
     say(line, b" dB")
 }
 

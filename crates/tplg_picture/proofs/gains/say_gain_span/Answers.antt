@@ -1,6 +1,5 @@
-use Rattle.std.proofs.Common.{◌++◌, ◌∙◌, ap, codes, sym}
-use Rattle.stream_law.specs.Gain.{half_decibels}
-use Rattle.tplg_picture.specs.Labels.{gain_span, decibel_words}
+use Rattle.std.proofs.Common.{◌≡◌, ◌++◌, codes, sym, rules}
+use Rattle.tplg_picture.specs.Labels.{gain_span, gain_words}
 use Rattle.tplg_picture.proofs.Lists.{four_lists}
 use Rattle.tplg_picture.proofs.gains.say_gain_span.Goals as goal
 
@@ -8,8 +7,10 @@ pub returns : goal.returns
 unfolding gain_span
 returns c =
     let line = c.args.line.now.items in
-    let least = c.in_ok-say_decibels.ensures ∙ ap (λ h. line ++ decibel_words h) c.half_decibels.ensures.value in
-    let greatest = c.in_ok-say_decibels-2.ensures ∙ ap (λ h. c.say.new.line.items ++ decibel_words h) c.half_decibels-2.ensures.value in
-    rw (sym (four_lists line (decibel_words (half_decibels c.args.lowest c.args.step c.args.least)) (codes " to ") (decibel_words (half_decibels c.args.lowest c.args.step c.args.greatest)) (codes " dB"))) (
+    let lowest = c.args.lowest in
+    let step = c.args.step in
+    let least : c.say_gain.new.line.items ≡ line ++ gain_words lowest step c.args.least = search rules in
+    let greatest : c.say_gain-2.new.line.items ≡ c.say.new.line.items ++ gain_words lowest step c.args.greatest = search rules in
+    rw (sym (four_lists line (gain_words lowest step c.args.least) (codes " to ") (gain_words lowest step c.args.greatest) (codes " dB"))) (
     rw (sym least, sym c.in_ok-say.ensures, sym greatest) c.say-2.ensures
     )

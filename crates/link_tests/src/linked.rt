@@ -11,7 +11,6 @@ use sof_desk::MemDesk;
 use sof_run::run;
 use std::alloc::Global;
 use std::process::Abort;
-use std::test::Fail;
 
 /// The greatest heap of the firmware, in bytes; it is small, since many runs are made.
 const ROOM: u32 = 4096;
@@ -28,11 +27,14 @@ enum Failing {
 }
 
 // A firmware after a link that has a fate for one message.
-fn fated(alloc: Global, failing: Failing) -> Result<FaultLink<Firmware>, Fail>
+fn fated(alloc: Global, failing: Failing) -> Result<FaultLink<Firmware>, &'static str>
     ensures off { IfOk result (λ l. (linked_by firmware).on l ≡ None) }
     ensures pending { IfOk result (λ l. (linked_by firmware).pending l ≡ 0) }
 {
-    let mut link = FaultLink::new(Firmware::new(alloc, ROOM)?);
+    let Ok(dsp) = Firmware::new(alloc, ROOM) else {
+        return Err("there is no memory");
+    };
+    let mut link = FaultLink::new(dsp);
     let planned = match failing {
         Failing::RefusesFirst => link.plan(1, Fate::Refuse(-5)),
         Failing::DropsFirst => link.plan(1, Fate::Drop),
@@ -43,7 +45,7 @@ fn fated(alloc: Global, failing: Failing) -> Result<FaultLink<Firmware>, Fail>
     };
     match planned {
         Ok(()) => Ok(link),
-        Err(_) => return Err("no room for a plan")?,
+        Err(_) => Err("no room for a plan"),
     }
 }
 

@@ -17,6 +17,7 @@ use std::marker::Model;
 
 /// An equaliser in a piece of 4160 bytes: from byte 64 the blob in force, from byte 1088 the staged bytes, and from byte 2112
 /// the two numbers of each section.
+/// SOF's term: an IIR equaliser, `EQ_IIR`.
 pub struct Eq {
     piece: Piece,
     // How many bytes the blob in force has, 0 where there is none.

@@ -7,13 +7,14 @@ ghost use Rattle.fw_moves.specs.Processed.{IsShaped, IsInlet, IsOutlet};
 ghost use Rattle.fw_components.specs.Processed.{moves_at, feeds_at, channels_moved, most_moved, made_at, output_at, eq_numbers_at, numbers_made_at, processed};
 
 use crate::registry::Registry;
-use fw_moves::{carry, carry_one, find_passage};
+use fw_moves::{copy_between, copy_frames, plan_copy};
 
 impl Registry {
     /// The volume, mixer, mux, equaliser or demux of this id takes `n` frames out of each buffer `looked`, and puts what it makes of
     /// them into those that are `fed`, which have room for them: a demux into each what it keeps for it, any other into the one that
     /// there is. A volume, an equaliser and a demux look at one buffer. All have its channels, and each is named once. This takes no
     /// memory.
+    /// SOF's terms: `looked` are the source buffers, `fed` the sink buffers.
     pub fn process(&mut self, id: u32, looked: &[u32], fed: &[u32], n: u32)
         requires unit { moves_at self.old id (length looked.now) ≡ true }
         requires single { IsDistinct nat_eq (looked.now ++ fed.now) }
@@ -25,7 +26,7 @@ impl Registry {
         ensures staged { staged_in self.new.comps id ≡ staged_in self.old.comps id }
     {
         match self.comp_hints.place_of(self.comps.as_slice(), id) {
-            Some(at) => carry(
+            Some(at) => copy_frames(
                 &mut self.comps[at],
                 self.joins.as_slice(),
                 &self.buffer_hints,
@@ -56,9 +57,9 @@ impl Registry {
         match self.comp_hints.place_of(self.comps.as_slice(), id) {
             Some(at) => {
                 let buffers = self.buffers.as_slice();
-                let way = find_passage(&self.buffer_hints, buffers, looked[0], fed[0], most);
+                let way = plan_copy(&self.buffer_hints, buffers, looked[0], fed[0], most);
                 let joins = self.joins.as_slice();
-                carry_one(
+                copy_between(
                     &mut self.comps[at],
                     joins,
                     &self.buffer_hints,

@@ -15,7 +15,7 @@ use Rattle.mbox_link.specs.Step.{no_device, busy, invalid, is_used, has_comp, ha
 use Rattle.mbox_link.specs.Step as step
 use Rattle.row_laws.specs.Tiled.{heap_bytes}
 use Rattle.row_laws.specs.Wired.{is_node}
-use Rattle.row_laws.specs.Kept.{IsKeptState}
+use Rattle.row_laws.specs.Kept.{FirmwareInvariant}
 use Rattle.row_laws.specs.RowLaws.{RowIsKept}
 use Rattle.row_laws.proofs.RowKept.{comp_free-kept, buffer_free-kept, pipe_free-kept}
 use Rattle.row_laws.proofs.FreeKept.{no-buffer, no-comp, free-whole}
@@ -126,10 +126,10 @@ all-left id xs bs cs ds es fs a b c =
     ∙ sym (filter-split (λ c. not (c.id == id)) xs (bs ++ cs) ∙ ap (λ zs. filter (λ c. not (c.id == id)) xs ++ zs) (filter-split (λ c. not (c.id == id)) bs cs))
 
 -- a pipeline's id is that of no component and of no buffer
-no-pipe : (f : FwState) (id : ℕ) → IsKeptState f → is_node f.graph id ≡ true → has_pipe f.graph id ≡ false
+no-pipe : (f : FwState) (id : ℕ) → FirmwareInvariant f → is_node f.graph id ≡ true → has_pipe f.graph id ≡ false
 no-pipe f id kept node = false_from_ne_true (has_pipe f.graph id) (λ e. let p = any-in (λ p. p.id == id) f.graph.pipes e in true≢false (sym node ∙ ap (is_node f.graph) (sym (eqb-true p.0.id id p.2)) ∙ in-all (λ (p : Pipe). is_node f.graph p.id ≡ false) f.graph.pipes p.0 kept.wired.alone p.1))
 
-no-node : (f : FwState) (id : ℕ) → IsKeptState f → has_pipe f.graph id ≡ true → is_node f.graph id ≡ false
+no-node : (f : FwState) (id : ℕ) → FirmwareInvariant f → has_pipe f.graph id ≡ true → is_node f.graph id ≡ false
 no-node f id kept pipe = let p = any-in (λ p. p.id == id) f.graph.pipes pipe in ap (is_node f.graph) (sym (eqb-true p.0.id id p.2)) ∙ in-all (λ (p : Pipe). is_node f.graph p.id ≡ false) f.graph.pipes p.0 kept.wired.alone p.1
 
 -- ---- what is staged
@@ -310,7 +310,7 @@ freed-kept items.Component id f g kept is = comp_free-kept id f g kept is
 freed-kept items.Buffer id f g kept is = buffer_free-kept id f g kept is
 freed-kept items.Pipeline id f g kept is = pipe_free-kept id f g kept is
 
-freed-whole : (what : Item) (id : ℕ) (f g : FwState) → IsKeptState f → rows.row_of_free what f id ≡ Ok g → heap_bytes g.heap ≡ heap_bytes f.heap
+freed-whole : (what : Item) (id : ℕ) (f g : FwState) → FirmwareInvariant f → rows.row_of_free what f id ≡ Ok g → heap_bytes g.heap ≡ heap_bytes f.heap
 freed-whole items.Component id f g kept is = ap (λ (x : FwState). heap_bytes x.heap) (sym (comp-tests f g id is).1) ∙ free-whole f kept id
 freed-whole items.Buffer id f g kept is = ap (λ (x : FwState). heap_bytes x.heap) (sym (buffer-tests f g id is).1) ∙ free-whole f kept id
 freed-whole items.Pipeline id f g kept is = ap (λ (x : FwState). heap_bytes x.heap) (sym (pipe-tests f g id is).1) ∙ free-whole f kept id

@@ -7,7 +7,7 @@ use Rattle.stream_law.specs.Ways.{components}
 use Rattle.stream_law.specs.Seen.{remembers}
 use Rattle.stream_law.specs.Placed.{HasDistinct}
 use Rattle.stream_law.proofs.Members.{IsIn, in-all, kept-in}
-use Rattle.row_laws.specs.Kept.{IsKeptState}
+use Rattle.row_laws.specs.Kept.{FirmwareInvariant}
 use Rattle.row_laws.proofs.Found.{found-each}
 use Rattle.fw_units.specs.declared.component.Component.{Component}
 use Rattle.fw_units.specs.Units.{comp_by, numbers_by}
@@ -65,5 +65,5 @@ there-less ds p (h ∷ hs) there = by (p h) (there-less ds p hs there.1)
     by true rest = (there.0, rest)
     by false rest = rest
 
-pub histories-are : (g : FwState) (u : Tables) → IsKeptState g → view_of g ≡ view_by u → AreThere u.comps g.histories → g.histories ≡ histories_of u
+pub histories-are : (g : FwState) (u : Tables) → FirmwareInvariant g → view_of g ≡ view_by u → AreThere u.comps g.histories → g.histories ≡ histories_of u
 histories-are g u kept view there = histories-there (remembers (view_by u)) u.comps g.histories (subst (λ (v : View). map (λ (h : History). h.comp) g.histories ≡ filter (remembers v) (components v.graph)) view kept.histories.comps) there

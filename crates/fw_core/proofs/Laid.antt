@@ -6,7 +6,7 @@ use Rattle.sof_base.specs.Holes.{usable_of, fresh_holes}
 use Rattle.sof_base.specs.Spacing.{total}
 use Rattle.stream_law.specs.State.{FwState}
 use Rattle.mbox_link.specs.Step.{fresh}
-use Rattle.row_laws.specs.Kept.{IsKeptState}
+use Rattle.row_laws.specs.Kept.{FirmwareInvariant}
 use Rattle.row_laws.proofs.HoleLists.{total-fresh}
 use Rattle.row_laws.proofs.BootKept.{boot-kept}
 use Rattle.fw_heap.specs.Regions.{RegionState}
@@ -15,12 +15,12 @@ use Rattle.fw_units.specs.Changes.{given_all}
 use Rattle.fw_components.specs.States.{AreOf, with_tables}
 use Rattle.fw_core.specs.declared.firmware.Firmware.TheInside.{Inside}
 use Rattle.fw_core.specs.Held.{state_in, IsPieceHeld}
-use Rattle.fw_core.specs.Device.{Chip, used_of}
-use Rattle.fw_core.specs.Laid.{no_tables, chip_of, IsDeviceLaid}
+use Rattle.fw_core.specs.Device.{FirmwareView, used_of}
+use Rattle.fw_core.specs.Laid.{no_tables, firmware_view, IsDeviceLaid}
 use Rattle.fw_core.proofs.Back.{all-back}
 
 -- a state is kept at any clock
-pub kept-clock : (f : FwState) (n : ℕ) → IsKeptState f → IsKeptState (record f { clock = n })
+pub kept-clock : (f : FwState) (n : ℕ) → FirmwareInvariant f → FirmwareInvariant (record f { clock = n })
 kept-clock f n kept = record {
   comps = kept.comps;
   edges = kept.edges;
@@ -60,7 +60,7 @@ module _ (f : Inside) (laid : IsDeviceLaid f) where
       by true is = all-back f.registry f.region (laid.on is)
       by false is = ap (λ (t : Tables). given_all (all_of t) f.region.holes) (laid.off is).0 ∙ (laid.off is).1
 
-  pub laid-used : (n : ℕ) → n + total f.region.holes ≡ f.region.usable → n ≡ used_of (chip_of f).state
+  pub laid-used : (n : ℕ) → n + total f.region.holes ≡ f.region.usable → n ≡ used_of (firmware_view f).state
   laid-used n sum = by f.on refl
     where
       by : (h : Bool) → f.on ≡ h → n ≡ used_of (cond h (Some (state_in f.registry f.region f.clock)) None)
@@ -68,14 +68,14 @@ module _ (f : Inside) (laid : IsDeviceLaid f) where
       by false is = let all : total f.region.holes ≡ f.region.usable = ap total (laid.off is).1 ∙ total-fresh f.region.usable in omega arith
 
   -- a state that it has is that of its tables
-  pub laid-tables : (g : FwState) → (chip_of f).state ≡ Some g → with_tables f.registry g ≡ g
+  pub laid-tables : (g : FwState) → (firmware_view f).state ≡ Some g → with_tables f.registry g ≡ g
   laid-tables g is = by f.on is
     where
       by : (h : Bool) → cond h (Some (state_in f.registry f.region f.clock)) None ≡ Some g → with_tables f.registry g ≡ g
       by true is = let same : state_in f.registry f.region f.clock ≡ g = cc in subst (λ (g : FwState). with_tables f.registry g ≡ g) same refl
       by false is = cc
 
-  pub laid-off : (chip_of f).state ≡ None → f.on ≡ false
+  pub laid-off : (firmware_view f).state ≡ None → f.on ≡ false
   laid-off is = by f.on is
     where
       by : (h : Bool) → cond h (Some (state_in f.registry f.region f.clock)) None ≡ None → h ≡ false
@@ -83,8 +83,8 @@ module _ (f : Inside) (laid : IsDeviceLaid f) where
       by false is = refl
 
 -- where it has a state it is on
-pub is-on : (f : Inside) (d : Chip) → chip_of f ≡ d → is_some d.state ≡ true → f.on ≡ true
-is-on f d was some = by f.on (ap (λ (d : Chip). is_some d.state) was ∙ some)
+pub is-on : (f : Inside) (d : FirmwareView) → firmware_view f ≡ d → is_some d.state ≡ true → f.on ≡ true
+is-on f d was some = by f.on (ap (λ (d : FirmwareView). is_some d.state) was ∙ some)
   where
     by : (h : Bool) → is_some (cond h (Some (state_in f.registry f.region f.clock)) None) ≡ true → h ≡ true
     by true e = refl
@@ -95,7 +95,7 @@ is-on f d was some = by f.on (ap (λ (d : Chip). is_some d.state) was ∙ some)
 -- nothing is there, and the heap is one hole
 pub fresh-held : (heap : ℕ) (r : RegionState) → r.holes ≡ fresh_holes (usable_of heap) → r.usable ≡ usable_of heap → IsPieceHeld no_tables r
 fresh-held heap r holes usable = record {
-  kept = λ clock. subst (λ hs. IsKeptState (state_in no_tables (record { home = r.home; size = r.size; usable = r.usable; holes = hs }) clock)) (sym holes) (kept-clock (fresh heap) clock (boot-kept heap));
+  kept = λ clock. subst (λ hs. FirmwareInvariant (state_in no_tables (record { home = r.home; size = r.size; usable = r.usable; holes = hs }) clock)) (sym holes) (kept-clock (fresh heap) clock (boot-kept heap));
   homes = tt;
   whole = let all : total r.holes ≡ usable_of heap = ap total holes ∙ total-fresh (usable_of heap) in zero-add (total r.holes) ∙ all ∙ sym usable;
   shapes = record { comps = tt; buffers = tt; ramps = tt };

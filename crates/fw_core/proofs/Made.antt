@@ -22,7 +22,7 @@ use Rattle.mbox_link.specs.Step as rows
 use Rattle.ipc3_model.specs.Allowed.{is_buffer_size, is_period_allowed}
 use Rattle.row_laws.specs.Tiled.{heap_bytes}
 use Rattle.row_laws.specs.Wired.{is_node}
-use Rattle.row_laws.specs.Kept.{IsKeptState, IsSettingOf, IsRampOf}
+use Rattle.row_laws.specs.Kept.{FirmwareInvariant, IsSettingOf, IsRampOf}
 use Rattle.row_laws.proofs.RowKept.{comp_new-kept, buffer_new-kept, pipe_new-kept}
 use Rattle.row_laws.proofs.Growing.{all-placed}
 use Rattle.row_laws.proofs.NewKept.{unused-node}
@@ -174,7 +174,7 @@ new-row : (used other full hole : Bool) (h : FwState) → used ≡ false → oth
 new-row used other full hole h a b c d = λ i. cond (a i || b i) (Err rows.busy) (cond (c i || not (d i)) (Err rows.no_memory) (Ok h))
 
 -- a carved heap has as many bytes
-carve-whole : (f : FwState) (id bytes : ℕ) → IsKeptState f → 0 < bytes → rows.has_hole f bytes ≡ true → rows.is_used f.graph id ≡ false → heap_bytes (rows.heap_with_piece id bytes f.heap) ≡ heap_bytes f.heap
+carve-whole : (f : FwState) (id bytes : ℕ) → FirmwareInvariant f → 0 < bytes → rows.has_hole f bytes ≡ true → rows.is_used f.graph id ≡ false → heap_bytes (rows.heap_with_piece id bytes f.heap) ≡ heap_bytes f.heap
 carve-whole f id bytes kept some hole unused = (carve-tiled (heap_bytes f.heap) id bytes f.heap kept.tiled some hole (no-piece f.graph f.heap id kept.pieces unused)).whole
 
 some-bytes : (k : Kind) → 0 < rows.comp_bytes k
@@ -268,7 +268,7 @@ module _ (t : Tables) (r s : RegionState) (c : Component) (bytes : ℕ) (held : 
       streams = sym (streams-new c t.comps new plain other up) i;
     }
 
-    comp-state : (clock : ℕ) → IsKeptState (rows.with_comp c.id c.pipe (kind_by c.unit) (setting_by c.unit) (ramp_by c.unit) (state_in t r clock)) → rows.with_comp c.id c.pipe (kind_by c.unit) (setting_by c.unit) (ramp_by c.unit) (state_in t r clock) ≡ state_in (with_component c t) s clock
+    comp-state : (clock : ℕ) → FirmwareInvariant (rows.with_comp c.id c.pipe (kind_by c.unit) (setting_by c.unit) (ramp_by c.unit) (state_in t r clock)) → rows.with_comp c.id c.pipe (kind_by c.unit) (setting_by c.unit) (ramp_by c.unit) (state_in t r clock) ≡ state_in (with_component c t) s clock
     comp-state clock kept =
         let g = rows.with_comp c.id c.pipe (kind_by c.unit) (setting_by c.unit) (ramp_by c.unit) (state_in t r clock) in
         state-is (with_component c t) s clock g

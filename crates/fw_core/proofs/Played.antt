@@ -13,7 +13,7 @@ use Rattle.stream_law.specs.Order.{is_among}
 use Rattle.stream_law.specs.Seen.{flows}
 use Rattle.stream_law.proofs.Members.{IsIn, in-all, in-each}
 use Rattle.mbox_link.specs.Step as rows
-use Rattle.row_laws.specs.Kept.{IsKeptState}
+use Rattle.row_laws.specs.Kept.{FirmwareInvariant}
 use Rattle.fw_heap.specs.Regions.{RegionState}
 use Rattle.fw_units.specs.declared.component.Component.{Component}
 use Rattle.fw_units.specs.declared.component.Unit as units
@@ -51,7 +51,7 @@ set-lengths host phase params c = by (c.id == host)
     by true = unit c.unit
     by false = refl
 
-module _ (t u : Tables) (r : RegionState) (held : IsPieceHeld t r) (after : IsKeptState (state_in u r 0)) (to : StreamView → StreamView) (change : IsChange (state_in t r 0) (state_in u r 0) to) where
+module _ (t u : Tables) (r : RegionState) (held : IsPieceHeld t r) (after : FirmwareInvariant (state_in u r 0)) (to : StreamView → StreamView) (change : IsChange (state_in t r 0) (state_in u r 0) to) where
   -- what was Live and still is
   still-fits : (size : Component → ℕ) (c : Component) → is_among (components (graph_of t) ++ buffers (graph_of t)) c.id ≡ true → Fits (view_by t) size c → live (view_by t) c.id ≡ true → live (view_by u) c.id ≡ true → size c ≡ channels_of (view_by u) c.id
   still-fits size c there fits was now = fits was ∙ sym (change-shape (state_in t r 0) (state_in u r 0) to (held.kept 0) after change c.id there was now).1
@@ -61,7 +61,7 @@ module _ (t u : Tables) (r : RegionState) (held : IsPieceHeld t r) (after : IsKe
 
 -- ---- PCM_PARAMS
 
-module _ (t u : Tables) (r : RegionState) (host direction : ℕ) (p : Params) (held : IsPieceHeld t r) (after : IsKeptState (state_in u r 0)) where
+module _ (t u : Tables) (r : RegionState) (host direction : ℕ) (p : Params) (held : IsPieceHeld t r) (after : FirmwareInvariant (state_in u r 0)) where
   pub params-shapes : u ≡ record { comps = map (set_at host Prepared (Some p)) t.comps; buffers = t.buffers; pipes = t.pipes; joins = t.joins } → rows.pcm_params (state_in t r 0) host direction p ≡ Ok (state_in u r 0) → HasShapes u
   params-shapes done row = record {
     comps = in-each (Fits (view_by u) moves) u.comps (λ d there on.
@@ -128,7 +128,7 @@ settled-id w c = by (flows w c.id)
     by true = refl
     by false = refl
 
-module _ (t u : Tables) (r : RegionState) (what : Trigger) (host : ℕ) (held : IsPieceHeld t r) (after : IsKeptState (state_in u r 0)) (own : tables.IsKept t) where
+module _ (t u : Tables) (r : RegionState) (what : Trigger) (host : ℕ) (held : IsPieceHeld t r) (after : FirmwareInvariant (state_in u r 0)) (own : tables.IsKept t) where
   pub triggered-shapes : IsTriggered what host t u → triggered what (state_in t r 0) host ≡ Ok (state_in u r 0) → HasShapes u
   triggered-shapes done row = record {
     comps = each (map to t.comps) u.comps (fits-map (view_by t) moves to (set-id host phase params) (set-moves host phase params) t.comps held.shapes.comps) among done.comps;

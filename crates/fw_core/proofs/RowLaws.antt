@@ -6,7 +6,7 @@ use Rattle.sof_base.specs.declared.errno.Errno.{Errno}
 use Rattle.stream_law.specs.State.{FwState, View, view_of}
 use Rattle.mbox_link.specs.Step.{busy, no_memory}
 use Rattle.row_laws.specs.Tiled.{heap_bytes}
-use Rattle.row_laws.specs.Kept.{IsKeptState}
+use Rattle.row_laws.specs.Kept.{FirmwareInvariant}
 use Rattle.row_laws.specs.RowLaws.{RowIsKept}
 use Rattle.fw_heap.specs.Regions.{RegionState}
 use Rattle.fw_components.specs.Tables.{Tables}
@@ -58,7 +58,7 @@ told-by (Err error) (Err e) v s is leads = ap (λ (n : ℤ). let r : Result FwSt
 -- all that is said of a row, by what it tells
 pub row-is : {X : Type 0} (row : FwState → Result FwState ℤ) (t u : Tables) (r s : RegionState) (answer : Result X Errno) → IsPieceHeld t r
     → ((clock : ℕ) → answer_of (state_in u s clock) answer ≡ row (state_in t r clock))
-    → RowIsKept row → ((f g : FwState) → IsKeptState f → row f ≡ Ok g → heap_bytes g.heap ≡ heap_bytes f.heap)
+    → RowIsKept row → ((f g : FwState) → FirmwareInvariant f → row f ≡ Ok g → heap_bytes g.heap ≡ heap_bytes f.heap)
     → OnOk answer (AreOf s.home u) → OnOk answer (row (state_in t r 0) ≡ Ok (state_in u s 0) → HasShapes u) → ((s.home ≡ r.home) × (s.size ≡ r.size) × (s.usable ≡ r.usable)) → OnErr answer ((u ≡ t) × (s ≡ r)) → IsRow row t u r s answer
 row-is {X} row t u r s answer held told keeps whole homes shapes same kept = record { told = told; held = by answer told homes shapes kept; same = same; kept = kept }
   where

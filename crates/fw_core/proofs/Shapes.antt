@@ -24,7 +24,7 @@ use Rattle.stream_law.proofs.Members.{IsIn, in-all, in-each}
 use Rattle.mbox_link.specs.Step as rows
 use Rattle.row_laws.specs.Wired.{is_node}
 use Rattle.row_laws.specs.Played.{AreStreamsPlayable, KeepsLive}
-use Rattle.row_laws.specs.Kept.{IsKeptState}
+use Rattle.row_laws.specs.Kept.{FirmwareInvariant}
 use Rattle.row_laws.proofs.Fewer.{filter-every}
 use Rattle.row_laws.proofs.FreeKept.{comp_free-live, comp_free-rate, comp_free-channels, buffer_free-live, buffer_free-rate, buffer_free-channels}
 use Rattle.row_laws.proofs.Growing.{hosts-apart, live-wider, rate-wider, channels-wider}
@@ -97,7 +97,7 @@ ramps-map v to ids same (c ∷ cs) fits = (
 )
 
 -- what no node names is not Live
-pub unlit : (f : FwState) (id : ℕ) → IsKeptState f → is_node f.graph id ≡ false → live (view_of f) id ≡ false
+pub unlit : (f : FwState) (id : ℕ) → FirmwareInvariant f → is_node f.graph id ≡ false → live (view_of f) id ≡ false
 unfolding live
 unlit f id kept gone = none f.streams (hosts-apart f.graph id (or_parts (rows.has_comp f.graph id) (rows.has_edge f.graph id) gone).0 f.streams kept.played.owned)
   where
@@ -111,30 +111,30 @@ unlit f id kept gone = none f.streams (hosts-apart f.graph id (or_parts (rows.ha
 
 -- ---- rows of the graph
 
-pub comp_new-same : (id pipe : ℕ) (kind : Kind) (setting : Setting) (ramp : ℕ) (f g : FwState) → IsKeptState f → rows.comp_new f id pipe kind setting ramp ≡ Ok g → (x : ℕ) → IsSame (view_of f) (view_of g) x
+pub comp_new-same : (id pipe : ℕ) (kind : Kind) (setting : Setting) (ramp : ℕ) (f g : FwState) → FirmwareInvariant f → rows.comp_new f id pipe kind setting ramp ≡ Ok g → (x : ℕ) → IsSame (view_of f) (view_of g) x
 comp_new-same id pipe kind setting ramp f g kept is x =
     let tests = new-tests (rows.is_used f.graph id) (rows.is_complete f.graph pipe) (nat_le 128 (length f.graph.comps)) (rows.has_hole f (rows.comp_bytes kind)) (rows.with_comp id pipe kind setting ramp f) g is in
     let c : Comp = record { id = id; kind = kind; pipe = pipe; setting = setting; ramp = ramp } in
     let gone = unused-node f.graph id tests.0 in
     subst (λ (g : FwState). IsSame (view_of f) (view_of g) x) tests.2 record { lives = live-wider f.graph c gone kept.wired f.streams kept.played x; rates = rate-wider f.graph c gone kept.wired f.streams kept.played x; channels = channels-wider f.graph c gone kept.wired f.streams kept.played x }
 
-pub buffer_new-same : (id pipe size : ℕ) (f g : FwState) → IsKeptState f → rows.buffer_new f id pipe size ≡ Ok g → (x : ℕ) → IsSame (view_of f) (view_of g) x
+pub buffer_new-same : (id pipe size : ℕ) (f g : FwState) → FirmwareInvariant f → rows.buffer_new f id pipe size ≡ Ok g → (x : ℕ) → IsSame (view_of f) (view_of g) x
 buffer_new-same id pipe size f g kept is x =
     let tests = new-tests (rows.is_used f.graph id) (rows.is_complete f.graph pipe) (nat_le 128 (length f.graph.edges)) (rows.has_hole f (rows.buffer_bytes size)) (rows.with_buffer id pipe size f) g is in
     let gone = unused-node f.graph id tests.0 in
     subst (λ (g : FwState). IsSame (view_of f) (view_of g) x) tests.2 record { lives = live-longer f.graph id pipe size gone kept.wired f.streams kept.played x; rates = rate-longer f.graph id pipe size gone kept.wired f.streams kept.played x; channels = channels-longer f.graph id pipe size gone kept.wired f.streams kept.played x }
 
 -- other pipelines change nothing
-pub pipes-same : (f g : FwState) (pipes : List Pipe) → IsKeptState f → view_of g ≡ record { graph = rows.with_pipes pipes f.graph; streams = f.streams } → (x : ℕ) → IsSame (view_of f) (view_of g) x
+pub pipes-same : (f g : FwState) (pipes : List Pipe) → FirmwareInvariant f → view_of g ≡ record { graph = rows.with_pipes pipes f.graph; streams = f.streams } → (x : ℕ) → IsSame (view_of f) (view_of g) x
 pipes-same f g pipes kept is x = subst (λ (v : View). IsSame (view_of f) v x) (sym is) record { lives = live-other f.graph pipes f.streams kept.played x; rates = rate-other f.graph pipes f.streams kept.played x; channels = channels-other f.graph pipes f.streams kept.played x }
 
-pub comp_free-same : (id : ℕ) (f g : FwState) → IsKeptState f → list_any (rows.touches id) f.graph.joins ≡ false → rows.has_comp f.graph id ≡ true → rows.without_comp id f ≡ g → (x : ℕ) → IsSame (view_of f) (view_of g) x
+pub comp_free-same : (id : ℕ) (f g : FwState) → FirmwareInvariant f → list_any (rows.touches id) f.graph.joins ≡ false → rows.has_comp f.graph id ≡ true → rows.without_comp id f ≡ g → (x : ℕ) → IsSame (view_of f) (view_of g) x
 comp_free-same id f g kept free there is x = subst (λ (g : FwState). IsSame (view_of f) (view_of g) x) is record { lives = comp_free-live f kept id there free x; rates = comp_free-rate f kept id there free x; channels = comp_free-channels f kept id there free x }
 
-pub buffer_free-same : (id : ℕ) (f g : FwState) → IsKeptState f → rows.has_edge f.graph id ≡ true → rows.is_held f.graph f.streams id ≡ false → stays (view_of f) (rows.without_edge id f.graph) ≡ true → rows.without_buffer id f ≡ g → (x : ℕ) → IsSame (view_of f) (view_of g) x
+pub buffer_free-same : (id : ℕ) (f g : FwState) → FirmwareInvariant f → rows.has_edge f.graph id ≡ true → rows.is_held f.graph f.streams id ≡ false → stays (view_of f) (rows.without_edge id f.graph) ≡ true → rows.without_buffer id f ≡ g → (x : ℕ) → IsSame (view_of f) (view_of g) x
 buffer_free-same id f g kept there free stay is x = subst (λ (g : FwState). IsSame (view_of f) (view_of g) x) is record { lives = buffer_free-live f kept id there free stay x; rates = buffer_free-rate f kept id there free stay x; channels = buffer_free-channels f kept id there free stay x }
 
-pub set_value-same : (id : ℕ) (setting : Setting) (f : FwState) → IsKeptState f → (x : ℕ) → IsSame (view_of f) (rows.with_setting_at f id setting) x
+pub set_value-same : (id : ℕ) (setting : Setting) (f : FwState) → FirmwareInvariant f → (x : ℕ) → IsSame (view_of f) (rows.with_setting_at f id setting) x
 set_value-same id setting f kept x =
     record {
       lives = subst (λ ss. live (record { graph = after; streams = ss }) x ≡ live (view_of f) x) (filter-every f.streams) (live-same f.graph after (λ s. true) f.streams kept.played (bare-set id setting f.graph f.streams) (ways-set id setting f.graph f.streams) x);
@@ -146,7 +146,7 @@ set_value-same id setting f kept x =
     after = rows.with_comps (map (rows.with_setting id setting) f.graph.comps) f.graph
 
 -- a join leaves what is there
-pub connect-same : (source sink : ℕ) (f g : FwState) → IsKeptState f → rows.connect f source sink ≡ Ok g → (x : ℕ) → is_among (components f.graph ++ buffers f.graph) x ≡ true → IsSame (view_of f) (view_of g) x
+pub connect-same : (source sink : ℕ) (f g : FwState) → FirmwareInvariant f → rows.connect f source sink ≡ Ok g → (x : ℕ) → is_among (components f.graph ++ buffers f.graph) x ≡ true → IsSame (view_of f) (view_of g) x
 connect-same source sink f g kept is x there =
     let j : Join = record { source = source; sink = sink } in
     let new : FwState = record f { graph = with_join f.graph j } in
@@ -170,7 +170,7 @@ pub record IsChange (f g : FwState) (to : StreamView → StreamView) : Type 0 wh
   pub keeps : KeepsLive to f.streams
 
 -- what is Live before and after has the same rate and the same channels
-pub change-shape : (f g : FwState) (to : StreamView → StreamView) → IsKeptState f → IsKeptState g → IsChange f g to → (x : ℕ) → is_among (components f.graph ++ buffers f.graph) x ≡ true → live (view_of f) x ≡ true → live (view_of g) x ≡ true → (rate_of (view_of g) x ≡ rate_of (view_of f) x) × (channels_of (view_of g) x ≡ channels_of (view_of f) x)
+pub change-shape : (f g : FwState) (to : StreamView → StreamView) → FirmwareInvariant f → FirmwareInvariant g → IsChange f g to → (x : ℕ) → is_among (components f.graph ++ buffers f.graph) x ≡ true → live (view_of f) x ≡ true → live (view_of g) x ≡ true → (rate_of (view_of g) x ≡ rate_of (view_of f) x) × (channels_of (view_of g) x ≡ channels_of (view_of f) x)
 change-shape f g to kept after change x there was now =
     let stays = shape-stays f.graph f.streams to change.keeps kept.played (subst AreStreamsPlayable change.view after.played) x there was (ap (λ (v : View). live v x) (sym change.view) ∙ now) in
     (ap (λ (v : View). rate_of v x) change.view ∙ stays.0, ap (λ (v : View). channels_of v x) change.view ∙ stays.1)
@@ -195,7 +195,7 @@ change-lives f g to change less x now = back f.streams (sym (ap (λ (v : View). 
         by (inr e) rest = or_right (is_live_phase s.phase && on_way f.graph s.host x) (list_any (λ s. is_live_phase s.phase && on_way f.graph s.host x) ss) (rest e)
 
 -- PCM_PARAMS
-pub params-change : (host direction : ℕ) (p : Params) (f g : FwState) → IsKeptState f → rows.pcm_params f host direction p ≡ Ok g → IsChange f g (rows.set_stream host Prepared (Some p))
+pub params-change : (host direction : ℕ) (p : Params) (f g : FwState) → FirmwareInvariant f → rows.pcm_params f host direction p ≡ Ok g → IsChange f g (rows.set_stream host Prepared (Some p))
 params-change host direction p f g kept is =
     let new : FwState = seen (rows.with_params f host p) None f in
     let moving : Bool = rows.is_stream_phase is_live_phase (rows.phase_at f host) in
@@ -227,7 +227,7 @@ changed-is f g host from to is =
     let right = not-false (kind && phase) (passed (not (kind && phase)) rows.invalid (Ok new) g a) in
     (ap view_of (sym (same-ok new g (pass (not (kind && phase)) rows.invalid (Ok new) g a))), (and_parts kind phase right).1)
 
-pub triggered-change : (t : Trigger) (host : ℕ) (f g : FwState) → IsKeptState f → triggered t f host ≡ Ok g → (to : StreamView → StreamView) × IsChange f g to
+pub triggered-change : (t : Trigger) (host : ℕ) (f g : FwState) → FirmwareInvariant f → triggered t f host ≡ Ok g → (to : StreamView → StreamView) × IsChange f g to
 triggered-change what.Start host f g kept is = (rows.set_phase host Running, record { view = (changed-is f g host rows.is_prepared (rows.set_phase host Running) is).0; keeps = keeps-phase host Running f.streams })
 triggered-change what.Stop host f g kept is = (rows.set_phase host Prepared, record { view = (changed-is f g host is_live_phase (rows.set_phase host Prepared) is).0; keeps = keeps-phase host Prepared f.streams })
 triggered-change what.Pause host f g kept is = (rows.set_phase host Paused, record { view = (changed-is f g host is_running_phase (rows.set_phase host Paused) is).0; keeps = keeps-phase host Paused f.streams })

@@ -5,7 +5,7 @@ use Rattle.stream_law.specs.State.{FwState}
 use Rattle.stream_law.specs.Move.{next_clock}
 use Rattle.stream_law.specs.TickMoves.{Move}
 use Rattle.row_laws.specs.Tiled.{heap_bytes}
-use Rattle.row_laws.specs.Kept.{IsKeptState}
+use Rattle.row_laws.specs.Kept.{FirmwareInvariant}
 use Rattle.row_laws.proofs.RingViews.{seen-each}
 use Rattle.row_laws.proofs.TickKept.{empty-first, tick-kept}
 use Rattle.fw_heap.specs.Regions.{RegionState}
@@ -28,7 +28,7 @@ can-tick t r held = record {
 -- what is so between messages is so after a tick
 pub tick-held : (t u : Tables) (r : RegionState) (clock : ℕ) (io after : Io) → IsPieceHeld t r → Move (state_in t r clock) io (state_in u r (next_clock clock)) after → CanTick u → AreOf r.home u → IsPieceHeld u r
 tick-held t u r clock io after held moved can homes = record {
-  kept = λ n. kept-clock (state_in u r (next_clock clock)) n (subst IsKeptState (sym moved.state) (tick-kept (state_in t r clock) io (held.kept clock)));
+  kept = λ n. kept-clock (state_in u r (next_clock clock)) n (subst FirmwareInvariant (sym moved.state) (tick-kept (state_in t r clock) io (held.kept clock)));
   homes = homes;
   whole = ap (λ (f : FwState). heap_bytes f.heap) moved.state ∙ held.whole;
   shapes = can.shapes;

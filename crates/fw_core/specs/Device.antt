@@ -8,7 +8,7 @@ use Rattle.mbox_link.specs.Calls.{World, Meaning}
 use Rattle.row_laws.specs.Tiled.{carved_bytes}
 
 -- a firmware: off, or on with a state; how often it was booted; the greatest heap in bytes; and the region of its heap
-pub record Chip : Type 0 where
+pub record FirmwareView : Type 0 where
   pub state : Option FwState
   pub boots : ℕ
   pub most : ℕ
@@ -28,25 +28,25 @@ abbrev pub reply_to : Option FwState → List ℕ → Option (List ℕ)
 reply_to None request = None
 reply_to (Some f) request = Some (step f request).1
 
--- the chip with another state
-abbrev pub with_state : Option FwState → Chip → Chip
-with_state state chip = record chip { state = state }
+-- the firmware with another state
+abbrev pub with_state : Option FwState → FirmwareView → FirmwareView
+with_state state view = record view { state = state }
 
 -- after a tick, which moves nothing where it is off
-abbrev pub after_tick : Option FwState → World Chip → World Chip
+abbrev pub after_tick : Option FwState → World FirmwareView → World FirmwareView
 after_tick None w = w
 after_tick (Some f) w = record { device = with_state (Some (ticked (f, w.io)).0) w.device; io = (ticked (f, w.io)).1 }
 
 -- it has no link that can fail or refuse
-abbrev pub firmware : Meaning Chip
+abbrev pub firmware : Meaning FirmwareView
 firmware =
     record {
-      on = λ chip. chip.state;
-      faults = λ chip. [];
-      refusals = λ chip. [];
-      boots = λ chip. chip.boots;
-      pending = λ chip. 0;
-      most = λ chip. chip.most;
+      on = λ view. view.state;
+      faults = λ view. [];
+      refusals = λ view. [];
+      boots = λ view. view.boots;
+      pending = λ view. 0;
+      most = λ view. view.most;
       boot = λ heap w v. v ≡ record w { state = Some (fresh heap); boots = more w.boots };
       cut = λ w v. v ≡ with_state None w;
       exchange = λ request answer w v. (answer ≡ reply_to w.device.state request) × (v ≡ record { device = with_state (stepped w.device.state request) w.device; io = w.io });

@@ -5,14 +5,14 @@ use Rattle.fw_components.specs.Tables.{Tables}
 use Rattle.fw_schedule.specs.Schedules.{IsScheduleOf}
 use Rattle.fw_core.specs.declared.firmware.Firmware.TheInside.{Inside}
 use Rattle.fw_core.specs.Held.{state_in, IsPieceHeld}
-use Rattle.fw_core.specs.Device.{Chip}
+use Rattle.fw_core.specs.Device.{FirmwareView}
 
 -- nothing is there
 abbrev pub no_tables : Tables
 no_tables = record { comps = []; buffers = []; pipes = []; joins = [] }
 
-abbrev pub chip_of : Inside → Chip
-chip_of f = record {
+abbrev pub firmware_view : Inside → FirmwareView
+firmware_view f = record {
   state = if f.on then Some (state_in f.registry f.region f.clock) else None;
   boots = f.boots;
   most = f.region.size;

@@ -32,12 +32,12 @@ pub struct Firmware {
 }
 
 impl Model for Firmware {
-    ghost use Rattle.fw_core.specs.Device.{Chip};
-    ghost use Rattle.fw_core.specs.Laid.{chip_of, IsDeviceLaid};
+    ghost use Rattle.fw_core.specs.Device.{FirmwareView};
+    ghost use Rattle.fw_core.specs.Laid.{firmware_view, IsDeviceLaid};
 
-    ghost Value = { Chip };
+    ghost Value = { FirmwareView };
 
-    ghost view = { chip_of };
+    ghost view = { firmware_view };
 
     ghost invariant = { IsDeviceLaid };
 }

@@ -7,5 +7,5 @@ mod moving;
 mod workspace;
 
 pub use making::spans;
-pub use moving::{Passage, carry, carry_one, find_passage};
+pub use moving::{CopyPlan, copy_between, copy_frames, plan_copy};
 pub use workspace::Workspace;

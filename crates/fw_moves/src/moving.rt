@@ -20,20 +20,20 @@ use stream_law::Join;
 
 /// Where two buffers stand, and how many frames may go from the first to the second.
 #[derive(Clone, Copy)]
-pub struct Passage {
+pub struct CopyPlan {
     pub from: usize,
     pub to: usize,
     pub count: u32,
 }
 
-/// The passage between two buffers for no more than so many frames: for as many as the first holds and the second has room for.
-pub fn find_passage(
+/// The plan of a copy between two buffers of at most so many frames: of as many as the first holds and the second has room for.
+pub fn plan_copy(
     hints: &Hints,
     buffers: &[Component],
     inlet: u32,
     outlet: u32,
     most: u32,
-) -> Passage
+) -> CopyPlan
     requires ascends { Ascends (λ c. c.id) buffers.now }
     requires inlet { has_id buffers.now inlet ≡ true }
     requires outlet { has_id buffers.now outlet ≡ true }
@@ -50,11 +50,11 @@ pub fn find_passage(
     let there = buffers[from].held();
     let bound = space.min(most);
     let count = there.min(bound);
-    Passage { from, to, count }
+    CopyPlan { from, to, count }
 }
 
 /// Moves `n` frames out of the buffers that it looks at into those that it feeds.
-pub fn carry(
+pub fn copy_frames(
     component: &mut Component,
     joins: &[Join],
     hints: &Hints,
@@ -82,7 +82,7 @@ pub fn carry(
 }
 
 /// The same from one buffer into one other, which stand at these places.
-pub fn carry_one(
+pub fn copy_between(
     component: &mut Component,
     joins: &[Join],
     hints: &Hints,

@@ -95,12 +95,12 @@ fn move_by(
 {
     if step.runs(clock) {
         let most = step.quota(clock);
-        carry(registry, io, out, scratch, step, most, ends);
+        copy_component(registry, io, out, scratch, step, most, ends);
     }
 }
 
 // A component of a kind moves its frames, at most so many as its quota.
-fn carry(
+fn copy_component(
     registry: &mut Registry,
     io: &mut Inputs,
     out: &mut Outputs,

@@ -20,7 +20,7 @@ use Rattle.host_widgets.specs.declared.kept.Power.TheVariants.{Unloaded, On, Off
 use Rattle.host_widgets.specs.declared.kept.Record.{Record}
 use Rattle.host_widgets.specs.Host.{Outcome}
 use Rattle.host_widgets.specs.Named.{is_named, loaded_fault, off_fault}
-use Rattle.host_widgets.specs.Orders.{Order, Carried}
+use Rattle.host_widgets.specs.Orders.{Procedure, Carried}
 use Rattle.host_widgets.specs.TestedOrders.{Tested}
 use Rattle.host_ctl.specs.ControlAsks.{named_control, channels_of, takes_value, spread, kind_fault, setting_fault, set_fault, name_fault, get_fault, read_fault}
 use Rattle.host_ctl.specs.ControlAnswers.{MaySet}
@@ -29,7 +29,7 @@ use Rattle.host_ctl.proofs.ControlsThere.{found-here, lost-here}
 
 -- ---- a call by its test
 
-module _ {D : Type 0} (means : Meaning D) (plan : Plan) (heap : ℕ) (test : Option HostFault) (o : Order) (kept : Record) (w : World D) where
+module _ {D : Type 0} (means : Meaning D) (plan : Plan) (heap : ℕ) (test : Option HostFault) (o : Procedure) (kept : Record) (w : World D) where
   pub tested-early : (r : Result ℕ HostFault) (fault : HostFault) (result : Outcome) → IfErr r (λ f. test ≡ Some f) → r ≡ Err fault → result ≡ Err fault → Tested means plan heap test o kept kept w w result
   tested-early r fault result early is this =
       let some : test ≡ Some fault = subst (λ (x : Result ℕ HostFault). IfErr x (λ f. test ≡ Some f)) is early in

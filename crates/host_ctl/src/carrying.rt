@@ -23,8 +23,8 @@ ghost use Rattle.host_ctl.specs.ControlPlaces.{control_here, record_here, with_v
 use crate::asking::channels_of;
 use arrayvec::ArrayVec;
 use host_widgets::{
-    Answer, ControlRec, HostFault, Power, Record, Side, hear, is_down, link_down, part_count, pass,
-    same_numbers, send_parts, set_message,
+    Answer, ControlRec, HostCall, HostFault, Power, Record, is_down, link_down, part_count,
+    same_numbers, send_parts, set_message, transact, transact_no_reply,
 };
 use ipc3_model::{Body, CTRL_ENUM, CTRL_SWITCH, CTRL_VOLUME, Message};
 use mbox_link::Dsp;
@@ -76,7 +76,7 @@ pub fn keep(kept: &mut Record, place: usize, values: &Bounded<u32, 8>)
 
 // A control is set while the power is on.
 fn put<P: Dsp>(
-    side: &mut Side<'_, P>,
+    side: &mut HostCall<'_, P>,
     place: usize,
     values: &Bounded<u32, 8>,
 ) -> Result<(), HostFault>
@@ -93,14 +93,14 @@ fn put<P: Dsp>(
 {
     let control = &side.plan.controls.items()[place];
     let message = set_message(control.comp, &control.kind, values);
-    pass(&message, side)?;
+    transact_no_reply(&message, side)?;
     keep(side.kept, place, values);
     Ok(())
 }
 
 /// A control is set: where the power is off, the record alone changes.
 pub fn set<P: Dsp>(
-    side: &mut Side<'_, P>,
+    side: &mut HostCall<'_, P>,
     place: usize,
     values: &Bounded<u32, 8>,
 ) -> Result<(), HostFault>
@@ -141,7 +141,7 @@ pub fn keep_blob(kept: &mut Record, place: usize, blob: &[u8])
 }
 
 // Sends a blob to an equaliser in its parts. A failed link cuts the device and takes the record down.
-fn pass_parts<P: Dsp>(side: &mut Side<'_, P>, comp: u32, blob: &[u8]) -> Result<(), HostFault>
+fn pass_parts<P: Dsp>(side: &mut HostCall<'_, P>, comp: u32, blob: &[u8]) -> Result<(), HostFault>
     requires blob { is_blob blob.now ≡ true }
     requires on { is_some (P.means.on side.old.dsp.now) ≡ true }
     requires room { HasRoom (61440 * P.means.pending side.old.dsp.now) side.old.out.now }
@@ -157,7 +157,7 @@ fn pass_parts<P: Dsp>(side: &mut Side<'_, P>, comp: u32, blob: &[u8]) -> Result<
 }
 
 // An equaliser gets a blob while the power is on. The record changes once its last part has passed.
-fn install<P: Dsp>(side: &mut Side<'_, P>, place: usize, blob: &[u8]) -> Result<(), HostFault>
+fn install<P: Dsp>(side: &mut HostCall<'_, P>, place: usize, blob: &[u8]) -> Result<(), HostFault>
     requires ready { IsReady P.means side.old }
     requires power { side.old.kept.now.power ≡ Power.On }
     requires place { place < length side.old.plan.now.controls }
@@ -177,7 +177,11 @@ fn install<P: Dsp>(side: &mut Side<'_, P>, place: usize, blob: &[u8]) -> Result<
 }
 
 /// An equaliser gets a blob: where the power is off, the record alone changes.
-pub fn set_bytes<P: Dsp>(side: &mut Side<'_, P>, place: usize, blob: &[u8]) -> Result<(), HostFault>
+pub fn set_bytes<P: Dsp>(
+    side: &mut HostCall<'_, P>,
+    place: usize,
+    blob: &[u8],
+) -> Result<(), HostFault>
     requires ready { IsReady P.means side.old }
     requires loaded { side.old.kept.now.power ≡ Power.Unloaded → ⊥ }
     requires place { place < length side.old.plan.now.controls }
@@ -211,7 +215,7 @@ fn values_of(body: Body) -> Answer
 }
 
 // The firmware is asked for the values of a volume, a mux or a demux.
-fn ask<P: Dsp>(side: &mut Side<'_, P>, place: usize, command: u32) -> Result<Answer, HostFault>
+fn ask<P: Dsp>(side: &mut HostCall<'_, P>, place: usize, command: u32) -> Result<Answer, HostFault>
     requires ready { IsReady P.means side.old }
     requires power { side.old.kept.now.power ≡ Power.On }
     requires place { place < length side.old.plan.now.controls }
@@ -230,7 +234,7 @@ fn ask<P: Dsp>(side: &mut Side<'_, P>, place: usize, command: u32) -> Result<Ans
         id: side.plan.controls.items()[place].comp,
         command,
     };
-    let reply = hear(&message, side)?;
+    let reply = transact(&message, side)?;
     Ok(values_of(reply.body))
 }
 
@@ -279,7 +283,7 @@ fn append_reply(told: &mut ArrayVec<u8, 1024>, body: &Body)
 // The firmware is asked for each part of the blob that an equaliser has by the record, of which there are so many. What the
 // replies carry is put together.
 fn ask_all<P: Dsp>(
-    side: &mut Side<'_, P>,
+    side: &mut HostCall<'_, P>,
     place: usize,
     count: u32,
     told: &mut ArrayVec<u8, 1024>,
@@ -306,7 +310,7 @@ fn ask_all<P: Dsp>(
             id: side.plan.controls.items()[place].comp,
             index,
         };
-        let reply = hear(&message, side)?;
+        let reply = transact(&message, side)?;
         append_reply(told, &reply.body);
     }
     Ok(())
@@ -324,7 +328,7 @@ fn bytes_answer(told: &ArrayVec<u8, 1024>) -> Answer
 }
 
 // What the firmware says of an equaliser: each part of its blob is asked for.
-fn ask_parts<P: Dsp>(side: &mut Side<'_, P>, place: usize) -> Result<Answer, HostFault>
+fn ask_parts<P: Dsp>(side: &mut HostCall<'_, P>, place: usize) -> Result<Answer, HostFault>
     requires ready { IsReady P.means side.old }
     requires power { side.old.kept.now.power ≡ Power.On }
     requires place { place < length side.old.plan.now.controls }
@@ -347,7 +351,7 @@ fn ask_parts<P: Dsp>(side: &mut Side<'_, P>, place: usize) -> Result<Answer, Hos
 }
 
 /// What the firmware says of a control: its values are asked for, or each part of its blob.
-pub fn read<P: Dsp>(side: &mut Side<'_, P>, place: usize) -> Result<Answer, HostFault>
+pub fn read<P: Dsp>(side: &mut HostCall<'_, P>, place: usize) -> Result<Answer, HostFault>
     requires ready { IsReady P.means side.old }
     requires power { side.old.kept.now.power ≡ Power.On }
     requires place { place < length side.old.plan.now.controls }

@@ -19,7 +19,7 @@ ghost use Rattle.host_ctl.specs.ControlAnswers.{outcome_of, IsSetFor, Shows};
 use crate::asking::{installable_place, named_place, readable_place, settable_place};
 use crate::carrying;
 use crate::carrying::all_values;
-use host_widgets::{Answer, ControlRec, HostFault, Record, Side};
+use host_widgets::{Answer, ControlRec, HostCall, HostFault, Record};
 use mbox_link::Dsp;
 use sof_base::Name44;
 use sof_io::{Inputs, Outputs};
@@ -55,7 +55,7 @@ pub fn set<P: Dsp>(
     let place = settable_place(plan, kept, name, values)?;
     let all = all_values(&plan.controls.items()[place].kind, values);
     carrying::set(
-        &mut Side {
+        &mut HostCall {
             plan,
             heap,
             kept,
@@ -97,7 +97,7 @@ pub fn set_bytes<P: Dsp>(
 {
     let place = installable_place(plan, kept, name, blob)?;
     carrying::set_bytes(
-        &mut Side {
+        &mut HostCall {
             plan,
             heap,
             kept,
@@ -209,7 +209,7 @@ pub fn read<P: Dsp>(
 {
     let place = readable_place(plan, kept, name)?;
     carrying::read(
-        &mut Side {
+        &mut HostCall {
             plan,
             heap,
             kept,

@@ -16,7 +16,7 @@ use Rattle.host_widgets.specs.HostActs.{Act, Make, Join, Put, Part, Finish, Prep
 use Rattle.host_widgets.specs.OneAct.{act_rules, performed, own, outcome_by, lag_of}
 use Rattle.host_widgets.specs.Walk.{Walked, walk, followed_by, goes_past, first_of}
 use Rattle.host_widgets.specs.ActCalls.{ActDid, ActsDid, Onwards, next_of, calls_of}
-use Rattle.host_widgets.specs.Orders.{Order, Carried, goes_on_after_refusal, end_by}
+use Rattle.host_widgets.specs.Orders.{Procedure, Carried, goes_on_after_refusal, end_by}
 use Rattle.host_widgets.specs.Routines.{JobDone, walk_routine}
 use Rattle.host_dynamic.specs.DynamicActs.{DynamicAct, Ordinary}
 use Rattle.host_dynamic.specs.Dynamic.{UpState, up_own, up_act_rules, plain_job}
@@ -118,15 +118,15 @@ module _ (plan : Plan) (heap : ℕ) where
           (goes-did act acts s (lag_of m) ms did.0 v (λ t on. acts-did acts ms t did.0 v all.1 on) (outcome_by m.fate (own plan heap s.kept act)) did.2),
     )
 
-  module _ {D : Type 0} (means : Meaning D) (s : UpState) (o : Order) (none : AllByRecursion MakesNone o.acts) (kept' : Record) (w v : World D) (result : Outcome) (c : Carried means plan heap o s.kept kept' w v result) where
+  module _ {D : Type 0} (means : Meaning D) (s : UpState) (o : Procedure) (none : AllByRecursion MakesNone o.acts) (kept' : Record) (w v : World D) (result : Outcome) (c : Carried means plan heap o s.kept kept' w v result) where
     abbrev pub left : UpState
     left = (walk_routine (up_act_rules plan) next_of s c.meetings (plain_job plan s o).routine).kept
 
-    alike : IsAlike (walk (up_act_rules plan) (goes_on_after_refusal o.manner) next_of s c.meetings (map Ordinary o.acts)) (walk (act_rules plan heap) (goes_on_after_refusal o.manner) next_of s.kept c.meetings o.acts)
-    alike = walk-alike next_of (goes_on_after_refusal o.manner) o.acts s c.meetings none
+    alike : IsAlike (walk (up_act_rules plan) (goes_on_after_refusal o.ending) next_of s c.meetings (map Ordinary o.acts)) (walk (act_rules plan heap) (goes_on_after_refusal o.ending) next_of s.kept c.meetings o.acts)
+    alike = walk-alike next_of (goes_on_after_refusal o.ending) o.acts s c.meetings none
 
     abbrev end_so : Record → Outcome → Record × List Moment
-    end_so now outcome = end_by o.manner plan o.done s.kept now outcome
+    end_so now outcome = end_by o.ending plan o.done s.kept now outcome
 
     pub plain-done : JobDone means (up_act_rules plan) heap (plain_job plan s o) left w v result
     plain-done = record {
@@ -138,7 +138,7 @@ module _ (plan : Plan) (heap : ℕ) where
         [],
         c.sent,
         sym (append-nil c.meetings),
-        acts-did means (goes_on_after_refusal o.manner) o.acts c.meetings s c.begun c.sent none c.walked,
+        acts-did means (goes_on_after_refusal o.ending) o.acts c.meetings s c.begun c.sent none c.walked,
         (refl, subst (λ (x : Record × Outcome). Led means c.sent (calls_of heap (end_so x.0 x.1).1) v) (λ i. (sym alike.record_is i, sym alike.outcome i)) c.ends.1),
       );
       came = c.came ∙ sym alike.outcome;

@@ -20,7 +20,7 @@ use Rattle.host_widgets.specs.AnsweredOrders.{ActsAnswered, OrderAnswered, Teste
 use Rattle.host_widgets.specs.Host.{Outcome, verdict}
 use Rattle.host_widgets.specs.HostActs.{Act, Make, Join, Put, Part, Finish, Prepare, Trig, Free, Save, Ask, after, with_blob}
 use Rattle.host_widgets.specs.Kept.{with_control}
-use Rattle.host_widgets.specs.Orders.{Order, plain_end, sends}
+use Rattle.host_widgets.specs.Orders.{Procedure, plain_end, sends}
 use Rattle.host_widgets.specs.Routines.{JobDone, JobTested}
 use Rattle.host_widgets.specs.Walk.{walk}
 use Rattle.host_widgets.proofs.AnsweredActs.{Answering}
@@ -189,7 +189,7 @@ module _ (plan : Plan) where
           by powers.Unloaded is x = none-sent (off (λ e. cc (sym is ∙ e))) answer kept' v result x
 
       -- by a test
-      pub tested-job : (test : Option HostFault) (o : Order) (kept' : Record) (v : World D) (result : Outcome) → TestedAnswered means plan heap test o kept kept' w v result →
+      pub tested-job : (test : Option HostFault) (o : Procedure) (kept' : Record) (v : World D) (result : Outcome) → TestedAnswered means plan heap test o kept kept' w v result →
           (OrderAnswered means plan heap o kept kept' w v result → JobDone means (up_act_rules plan) heap (plain_job plan at_first o) (up_state_in means kept' up v.device) w v result) →
           JobTested means (up_act_rules plan) heap test (plain_job plan at_first o) at_first (up_state_in means kept' up v.device) w v result
       tested-job test o kept' v result x done_so = record {

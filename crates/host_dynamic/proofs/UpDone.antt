@@ -25,7 +25,7 @@ use Rattle.host_widgets.specs.Host.{Outcome}
 use Rattle.host_widgets.specs.HostActs.{Part, Put, Prepare, Trig, Ask, with_values, with_blob}
 use Rattle.host_widgets.specs.HostRecord.{no_stream}
 use Rattle.host_widgets.specs.Kept.{control_at, with_control}
-use Rattle.host_widgets.specs.Orders.{Order, sends}
+use Rattle.host_widgets.specs.Orders.{Procedure, sends}
 use Rattle.host_widgets.specs.Routines.{JobTested}
 use Rattle.mbox_link.specs.BlobParts.{parts}
 use Rattle.host_pcm.specs.declared.asking.Ask.{Ask as Asking}
@@ -60,11 +60,11 @@ module _ {D : Type 0} (means : Meaning D) (plan : Plan) (sound : IsSound plan) (
   s = up_state_in means kept up w.device
 
   -- the order's job was done where no test fails; and the device is on then where the power is
-  pub record HasTested (test : Option HostFault) (o : Order) (kept' : Record) (v : World D) (result : Outcome) : Type 0 where
+  pub record HasTested (test : Option HostFault) (o : Procedure) (kept' : Record) (v : World D) (result : Outcome) : Type 0 where
     pub tested : JobTested means (up_act_rules plan) heap test (plain_job plan s o) s (up_state_in means kept' up v.device) w v result
     pub switched_then : IsSwitched kept'.power (means.on v.device)
 
-  pub tested-by : (test : Option HostFault) (o : Order) (kept' : Record) (v : World D) (result : Outcome) → ((fault : HostFault) → test ≡ Some fault → (result ≡ Err fault) × (v ≡ w) × (kept' ≡ kept)) → (test ≡ None → IsDoneSo means plan heap up o kept kept' w v result) →
+  pub tested-by : (test : Option HostFault) (o : Procedure) (kept' : Record) (v : World D) (result : Outcome) → ((fault : HostFault) → test ≡ Some fault → (result ≡ Err fault) × (v ≡ w) × (kept' ≡ kept)) → (test ≡ None → IsDoneSo means plan heap up o kept kept' w v result) →
       HasTested test o kept' v result
   tested-by test o kept' v result early late = by test refl
     where
@@ -131,10 +131,10 @@ module _ {D : Type 0} (means : Meaning D) (plan : Plan) (sound : IsSound plan) (
         sym (comp-up-by plan sound up (control_here plan i).comp there.comp there.there)
         ∙ ap (λ (o : Option ControlPlan). option_map_or (λ (k : ControlPlan). is_up plan.graph up k.comp) o true) (sym (named-here plan sound kept is.record_is i low name at)) ∙ here
 
-    up-order : (o : Order) → is_control_up plan up name ≡ true → o ≡ control_order plan up name o
+    up-order : (o : Procedure) → is_control_up plan up name ≡ true → o ≡ control_order plan up name o
     up-order o here = ap (λ (b : Bool). if b then o else unsent o) (sym here)
 
-    down-order : (o : Order) → is_control_up plan up name ≡ false → unsent o ≡ control_order plan up name o
+    down-order : (o : Procedure) → is_control_up plan up name ≡ false → unsent o ≡ control_order plan up name o
     down-order o down = ap (λ (b : Bool). if b then o else unsent o) (sym down)
 
     -- ---- values
@@ -163,7 +163,7 @@ module _ {D : Type 0} (means : Meaning D) (plan : Plan) (sound : IsSound plan) (
     pub set-done : (values : List ℕ) (kept' : Record) (v : World D) (result : Outcome) → is_control_up plan up name ≡ true → TestedAnswered means plan heap (set_fault plan kept name values) (set_order plan kept name values) kept kept' w v result →
         HasTested (set_fault plan kept name values) (control_order plan up name (set_order plan kept name values)) kept' v result
     set-done values kept' v result here t =
-        subst (λ (o : Order). HasTested (set_fault plan kept name values) o kept' v result) (up-order (set_order plan kept name values) here)
+        subst (λ (o : Procedure). HasTested (set_fault plan kept name values) o kept' v result) (up-order (set_order plan kept name values) here)
         (tested-by (set_fault plan kept name values) (set_order plan kept name values) kept' v result t.early (λ none. set-so values kept' v result here none (t.late none)))
 
     -- in the record alone
@@ -192,7 +192,7 @@ module _ {D : Type 0} (means : Meaning D) (plan : Plan) (sound : IsSound plan) (
     pub set-kept : (values : List ℕ) (kept' : Record) (result : Outcome) → is_control_up plan up name ≡ false → KeptAlone (set_fault plan kept name values) (set_order plan kept name values).done kept kept' result →
         HasTested (set_fault plan kept name values) (control_order plan up name (set_order plan kept name values)) kept' w result
     set-kept values kept' result down t =
-        subst (λ (o : Order). HasTested (set_fault plan kept name values) o kept' w result) (down-order (set_order plan kept name values) down)
+        subst (λ (o : Procedure). HasTested (set_fault plan kept name values) o kept' w result) (down-order (set_order plan kept name values) down)
         (tested-by (set_fault plan kept name values) (unsent (set_order plan kept name values)) kept' w result (λ fault is. ((t.early fault is).0, refl, (t.early fault is).1)) (λ none. unset-so values kept' none (t.late none).1 result (t.late none).0))
 
     -- ---- a blob
@@ -219,7 +219,7 @@ module _ {D : Type 0} (means : Meaning D) (plan : Plan) (sound : IsSound plan) (
     pub bytes-done : (blob : List ℕ) (kept' : Record) (v : World D) (result : Outcome) → is_control_up plan up name ≡ true → TestedAnswered means plan heap (bytes_fault plan kept name blob) (bytes_order plan kept name blob) kept kept' w v result →
         HasTested (bytes_fault plan kept name blob) (control_order plan up name (bytes_order plan kept name blob)) kept' v result
     bytes-done blob kept' v result here t =
-        subst (λ (o : Order). HasTested (bytes_fault plan kept name blob) o kept' v result) (up-order (bytes_order plan kept name blob) here)
+        subst (λ (o : Procedure). HasTested (bytes_fault plan kept name blob) o kept' v result) (up-order (bytes_order plan kept name blob) here)
         (tested-by (bytes_fault plan kept name blob) (bytes_order plan kept name blob) kept' v result t.early (λ none. install-so blob kept' v result here none (t.late none)))
 
     uninstalled-so : (blob : List ℕ) (kept' : Record) → bytes_fault plan kept name blob ≡ None → kept' ≡ (bytes_order plan kept name blob).done kept → (result : Outcome) → result ≡ Ok tt → IsDoneSo means plan heap up (unsent (bytes_order plan kept name blob)) kept kept' w w result
@@ -245,7 +245,7 @@ module _ {D : Type 0} (means : Meaning D) (plan : Plan) (sound : IsSound plan) (
     pub bytes-kept : (blob : List ℕ) (kept' : Record) (result : Outcome) → is_control_up plan up name ≡ false → KeptAlone (bytes_fault plan kept name blob) (bytes_order plan kept name blob).done kept kept' result →
         HasTested (bytes_fault plan kept name blob) (control_order plan up name (bytes_order plan kept name blob)) kept' w result
     bytes-kept blob kept' result down t =
-        subst (λ (o : Order). HasTested (bytes_fault plan kept name blob) o kept' w result) (down-order (bytes_order plan kept name blob) down)
+        subst (λ (o : Procedure). HasTested (bytes_fault plan kept name blob) o kept' w result) (down-order (bytes_order plan kept name blob) down)
         (tested-by (bytes_fault plan kept name blob) (unsent (bytes_order plan kept name blob)) kept' w result (λ fault is. ((t.early fault is).0, refl, (t.early fault is).1)) (λ none. uninstalled-so blob kept' none (t.late none).1 result (t.late none).0))
 
     -- ---- what is asked for

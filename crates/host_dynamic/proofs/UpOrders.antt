@@ -13,7 +13,7 @@ use Rattle.host_widgets.specs.ActCalls.{calls_of}
 use Rattle.host_widgets.specs.AnsweredOrders.{ActsAnswered, OrderAnswered}
 use Rattle.host_widgets.specs.Host.{Outcome}
 use Rattle.host_widgets.specs.HostActs.{Act}
-use Rattle.host_widgets.specs.Orders.{Order, Plain, plain_end, sends}
+use Rattle.host_widgets.specs.Orders.{Procedure, Plain, plain_end, sends}
 use Rattle.host_widgets.specs.Routines.{Routine, Finished, JobDone}
 use Rattle.host_dynamic.specs.DynamicActs.{DynamicAct, Ordinary}
 use Rattle.host_dynamic.specs.Dynamic.{UpState, there_by, settled, up_act_rules, plain_job, unsent}
@@ -26,7 +26,7 @@ use Rattle.host_dynamic.proofs.UpAnswered.{Split, split, all-power, sends-job}
 use Rattle.host_dynamic.proofs.UpSending.{StagedFirst, AreAnswered, EndsThere, HasSent, after_all, sent-did}
 
 -- the job of an order was done, and the device is on then where the power is
-pub record IsDoneSo {D : Type 0} (means : Meaning D) (plan : Plan) (heap : ℕ) (up : List ℕ) (o : Order) (kept kept' : Record) (w v : World D) (result : Outcome) : Type 0 where
+pub record IsDoneSo {D : Type 0} (means : Meaning D) (plan : Plan) (heap : ℕ) (up : List ℕ) (o : Procedure) (kept kept' : Record) (w v : World D) (result : Outcome) : Type 0 where
   pub job : JobDone means (up_act_rules plan) heap (plain_job plan (up_state_in means kept up w.device) o) (up_state_in means kept' up v.device) w v result
   pub switched_then : IsSwitched kept'.power (means.on v.device)
 
@@ -62,8 +62,8 @@ module _ (plan : Plan) {D : Type 0} (means : Meaning D) (heap : ℕ) (done : Rec
     abbrev s : UpState
     s = up_state_in means kept up w.device
 
-    abbrev order : List Act → Order
-    order xs = record { first = []; acts = xs; manner = Plain; done = done; answer = answer }
+    abbrev order : List Act → Procedure
+    order xs = record { first = []; acts = xs; ending = Plain; done = done; answer = answer }
 
     abbrev then_by : UpState → Outcome → Routine UpState DynamicAct
     then_by now outcome = let e = plain_end done now.kept outcome in Finished (settled e.0 now) e.1

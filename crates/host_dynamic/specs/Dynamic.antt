@@ -24,7 +24,7 @@ use Rattle.host_widgets.specs.Host.{Outcome, errno, conflicts}
 use Rattle.host_widgets.specs.HostActs.{Make, Prepare, after}
 use Rattle.host_widgets.specs.Kept.{first_record, with_power, went_down, with_stream}
 use Rattle.host_widgets.specs.ActRules.{ActRules}
-use Rattle.host_widgets.specs.Orders.{Order, goes_on_after_refusal, end_by, where_on}
+use Rattle.host_widgets.specs.Orders.{Procedure, goes_on_after_refusal, end_by, where_on}
 use Rattle.host_widgets.specs.Routines.{Routine, Finished, Sending, Job}
 use Rattle.host_pcm.specs.Asks.{is_closed}
 use Rattle.host_pcm.specs.StreamCalls.{opened_stream, shut}
@@ -85,12 +85,12 @@ up_act_rules plan = record {
 -- ---- commands that neither make nor unmake
 
 -- the ordinary host's order, with its end
-abbrev pub plain_job : Plan → UpState → Order → Job UpState DynamicAct
+abbrev pub plain_job : Plan → UpState → Procedure → Job UpState DynamicAct
 plain_job plan s o = record {
   first = o.first;
   from = s;
-  routine = Sending (map Ordinary o.acts) (goes_on_after_refusal o.manner)
-      (λ now outcome. let e = end_by o.manner plan o.done s.kept now.kept outcome in Finished (settled e.0 now) e.1);
+  routine = Sending (map Ordinary o.acts) (goes_on_after_refusal o.ending)
+      (λ now outcome. let e = end_by o.ending plan o.done s.kept now.kept outcome in Finished (settled e.0 now) e.1);
   answer = o.answer;
 }
 
@@ -201,10 +201,10 @@ abbrev pub is_control_up : Plan → List ℕ → List ℕ → Bool
 is_control_up plan up name = option_map_or (λ (k : ControlPlan). is_up plan.graph up k.comp) (named_control plan name) true
 
 -- the record alone changes
-abbrev pub unsent : Order → Order
-unsent o = record { first = o.first; acts = []; manner = o.manner; done = o.done; answer = o.answer }
+abbrev pub unsent : Procedure → Procedure
+unsent o = record { first = o.first; acts = []; ending = o.ending; done = o.done; answer = o.answer }
 
-abbrev pub control_order : Plan → List ℕ → List ℕ → Order → Order
+abbrev pub control_order : Plan → List ℕ → List ℕ → Procedure → Procedure
 control_order plan up name o = if is_control_up plan up name then o else unsent o
 
 -- what is asked of the firmware asks for the power, and that the component is up

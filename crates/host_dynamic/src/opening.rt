@@ -28,7 +28,7 @@ use crate::making::{all_widgets, widget_index};
 use crate::needing::need_of;
 use arrayvec::ArrayVec;
 use host_pcm::{Ask, close_at, open_at, tested};
-use host_widgets::{Found, HostFault, Power, Record, Side, StreamRec, link_down};
+use host_widgets::{Found, HostCall, HostFault, Power, Record, StreamRec, link_down};
 use mbox_link::Dsp;
 use sof_base::{Bounded, Name44};
 use sof_io::{Inputs, Outputs};
@@ -126,7 +126,7 @@ fn list_of(indices: &[u32]) -> Bounded<u32, 32>
 // ---- making and unmaking
 
 // The device is cut, and no stream moves.
-fn go_down<P: Dsp>(side: &mut Side<'_, P>)
+fn go_down<P: Dsp>(side: &mut HostCall<'_, P>)
     ensures calls { Did P.means Cut (world_of side.old) (world_of side.new) }
     ensures kept { side.new.kept.now ≡ went_down side.old.kept.now }
     ensures same { SameSide side.old side.new }
@@ -135,7 +135,7 @@ fn go_down<P: Dsp>(side: &mut Side<'_, P>)
 }
 
 // Unmakes what these ids name; a failure cuts the device.
-fn unmake_or_cut<P: Dsp>(side: &mut Side<'_, P>, made: &[u32]) -> Result<(), HostFault>
+fn unmake_or_cut<P: Dsp>(side: &mut HostCall<'_, P>, made: &[u32]) -> Result<(), HostFault>
     requires plan { IsSound side.old.plan.now }
     requires on { is_some (P.means.on side.old.dsp.now) ≡ true }
     requires room { HasRoom (61440 * P.means.pending side.old.dsp.now) side.old.out.now }
@@ -163,7 +163,7 @@ fn first_told(refusal: HostFault, done: Result<(), HostFault>) -> Result<(), Hos
 
 // After a failure while pipelines were made: a refusal unmakes what these ids name, and a failed link cuts the device.
 fn unmake_after<P: Dsp>(
-    side: &mut Side<'_, P>,
+    side: &mut HostCall<'_, P>,
     made: &[u32],
     fault: HostFault,
 ) -> Result<(), HostFault>
@@ -186,7 +186,7 @@ fn unmake_after<P: Dsp>(
 }
 
 // Makes the pipelines of these indices. A refusal unmakes what was made; a failed link, and a failure while unmaking, cut the device.
-fn make_or_unmake<P: Dsp>(side: &mut Side<'_, P>, indices: &[u32]) -> Result<(), HostFault>
+fn make_or_unmake<P: Dsp>(side: &mut HostCall<'_, P>, indices: &[u32]) -> Result<(), HostFault>
     requires plan { IsSound side.old.plan.now }
     requires kept { IsRecordOf side.old.plan.now side.old.kept.now }
     requires few { length (widgets_of side.old.plan.now indices.now) ≤ 288 }
@@ -205,7 +205,7 @@ fn make_or_unmake<P: Dsp>(side: &mut Side<'_, P>, indices: &[u32]) -> Result<(),
 }
 
 // Makes the pipelines of these indices, where the power is on.
-fn make_where_on<P: Dsp>(side: &mut Side<'_, P>, indices: &[u32]) -> Result<(), HostFault>
+fn make_where_on<P: Dsp>(side: &mut HostCall<'_, P>, indices: &[u32]) -> Result<(), HostFault>
     requires plan { IsSound side.old.plan.now }
     requires kept { IsRecordOf side.old.plan.now side.old.kept.now }
     requires few { length (widgets_of side.old.plan.now indices.now) ≤ 288 }
@@ -221,7 +221,7 @@ fn make_where_on<P: Dsp>(side: &mut Side<'_, P>, indices: &[u32]) -> Result<(), 
 }
 
 // Unmakes what these ids name, where the power is on.
-fn unmake_where_on<P: Dsp>(side: &mut Side<'_, P>, made: &[u32]) -> Result<(), HostFault>
+fn unmake_where_on<P: Dsp>(side: &mut HostCall<'_, P>, made: &[u32]) -> Result<(), HostFault>
     requires plan { IsSound side.old.plan.now }
     requires on { side.old.kept.now.power ≡ Power.On → is_some (P.means.on side.old.dsp.now) ≡ true }
     requires room { HasRoom (61440 * P.means.pending side.old.dsp.now) side.old.out.now }
@@ -264,7 +264,7 @@ pub fn open<P: Dsp>(
 {
     let place = tested(plan, kept, name, Ask::Opening)?;
     let indices = lacking(plan, up.items(), plan.streams.items()[place].host);
-    let mut side = Side {
+    let mut side = HostCall {
         plan,
         heap,
         kept,
@@ -344,7 +344,7 @@ pub fn close<P: Dsp>(
     ensures agree { UpAgrees P.means plan.now kept.new up.new dsp.new }
 {
     let place = tested(plan, kept, name, Ask::Closing)?;
-    let mut side = Side {
+    let mut side = HostCall {
         plan,
         heap,
         kept,

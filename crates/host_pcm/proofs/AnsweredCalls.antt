@@ -25,7 +25,7 @@ use Rattle.host_widgets.specs.Host.{Outcome, IsRecordOf, verdict}
 use Rattle.host_widgets.specs.HostActs.{Act, Trig, Free, after, triggered_stream}
 use Rattle.host_widgets.specs.HostRecord.{closed}
 use Rattle.host_widgets.specs.Kept.{changed, with_stream}
-use Rattle.host_widgets.specs.Orders.{Order, sends}
+use Rattle.host_widgets.specs.Orders.{Procedure, sends}
 use Rattle.host_widgets.specs.StreamStands.{takes_trigger}
 use Rattle.host_widgets.proofs.AnsweredActs.{Answering, one-passed, one-failed, sends-rest}
 use Rattle.host_widgets.proofs.PlainOrders.{plain}
@@ -131,9 +131,9 @@ module _ {D : Type 0} (means : Meaning D) (plan : Plan) (heap k : ℕ) (kept : R
   pub free-answered : IsSound plan → (within : k < length plan.streams) (long : length kept.streams ≡ length plan.streams) (on : kept.power ≡ On) → (stream_at kept k).found ≡ Prepared → (kept' : Record) (v : World D) (result : Outcome) →
       ActsAnswered means plan heap shuts (Free host ∷ []) kept kept' w v result → OrderAnswered means plan heap (place_order plan kept k Closing) kept kept' w v result
   free-answered sound within long on found kept' v result x =
-      subst (λ (o : Order). OrderAnswered means plan heap o kept kept' w v result) (by-found means plan heap sound k within kept long on Prepared (Free host ∷ []) found refl) x
+      subst (λ (o : Procedure). OrderAnswered means plan heap o kept kept' w v result) (by-found means plan heap sound k within kept long on Prepared (Free host ∷ []) found refl) x
 
   pub stops-answered : (sound : IsSound plan) (within : k < length plan.streams) (long : length kept.streams ≡ length plan.streams) (on : kept.power ≡ On) → takes_trigger Stop (stream_at kept k).found ≡ true → (kept' : Record) (v : World D) (result : Outcome) →
       ActsAnswered means plan heap shuts (Trig host Stop ∷ Free host ∷ []) kept kept' w v result → OrderAnswered means plan heap (place_order plan kept k Closing) kept kept' w v result
   stops-answered sound within long on moves kept' v result x =
-      subst (λ (o : Order). OrderAnswered means plan heap o kept kept' w v result) (order-is means plan heap sound k within kept long on moves) x
+      subst (λ (o : Procedure). OrderAnswered means plan heap o kept kept' w v result) (order-is means plan heap sound k within kept long on moves) x

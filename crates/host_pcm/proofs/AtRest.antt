@@ -24,7 +24,7 @@ use Rattle.host_widgets.specs.ActLists.{close_by}
 use Rattle.host_widgets.specs.Expected.{phase_of, stream_view}
 use Rattle.host_widgets.specs.ViewOf.{graph_by}
 use Rattle.host_widgets.specs.Host.{Agrees, Sides}
-use Rattle.host_widgets.specs.Orders.{Order, Carried, sends}
+use Rattle.host_widgets.specs.Orders.{Procedure, Carried, sends}
 use Rattle.host_widgets.proofs.StreamRows.{AllAt}
 use Rattle.host_widgets.proofs.StreamPlaces.{place-all}
 use Rattle.host_widgets.proofs.RecordsStay.{may, Less, record-less}
@@ -125,7 +125,7 @@ close-none host Found_On is = refl
 pub open-carried : {D : Type 0} (means : Meaning D) (plan : Plan) (sound : IsSound plan) (heap k : ℕ) (within : k < length plan.streams) (kept : Record) (w : World D) → length kept.streams ≡ length plan.streams →
     Carried means plan heap (place_order plan kept k Opening) kept (with_stream_at k (opened_stream closed) kept) w w (Ok tt)
 open-carried means plan sound heap k within kept w long =
-    subst (λ (o : Order). Carried means plan heap o kept (with_stream_at k (opened_stream closed) kept) w w (Ok tt)) (sym (sends-none kept.power (with_stream plan (host_at plan k) opened_stream)))
+    subst (λ (o : Procedure). Carried means plan heap o kept (with_stream_at k (opened_stream closed) kept) w w (Ok tt)) (sym (sends-none kept.power (with_stream plan (host_at plan k) opened_stream)))
     (no-acts means plan heap (with_stream plan (host_at plan k) opened_stream) kept (with_stream_at k (opened_stream closed) kept) w (place-changed plan sound k within opened_stream kept long))
 
 module _ {D : Type 0} (means : Meaning D) (plan : Plan) (sound : IsSound plan) (heap k : ℕ) (within : k < length plan.streams) (kept : Record) (w : World D) (agrees : Agrees means plan kept w.device)
@@ -156,7 +156,7 @@ module _ {D : Type 0} (means : Meaning D) (plan : Plan) (sound : IsSound plan) (
     pub rest-agrees : Agrees means plan (with_stream_at k c kept) w.device
     rest-agrees = subst (λ (r : Record). Agrees means plan r w.device) (sym (place-changed plan sound k within (λ r. c) kept agrees.record_is.streams)) agrees-later
 
-  abbrev CarriedSo : Order → Record → Type 0
+  abbrev CarriedSo : Procedure → Record → Type 0
   CarriedSo order kept' = Carried means plan heap order kept kept' w w (Ok tt)
 
   -- nor does a closing of a stream without parameters, or while the power is off
@@ -168,7 +168,7 @@ module _ {D : Type 0} (means : Meaning D) (plan : Plan) (sound : IsSound plan) (
       (loaded kept.power up)
 
   pub close-carried : (kept.power ≡ On → is_idle (stream_at kept k).found ≡ true) → CarriedSo (place_order plan kept k Closing) (with_stream_at k closed kept)
-  close-carried was = subst (λ (o : Order). CarriedSo o (with_stream_at k closed kept)) (sym (close-order was))
+  close-carried was = subst (λ (o : Procedure). CarriedSo o (with_stream_at k closed kept)) (sym (close-order was))
       (no-acts means plan heap (with_stream plan (host_at plan k) shut) kept (with_stream_at k closed kept) w (place-changed plan sound k within shut kept agrees.record_is.streams))
 
 -- ---- what the arms of a match know

@@ -17,7 +17,7 @@ use Rattle.host_widgets.specs.Kept.{with_stream}
 use Rattle.host_widgets.specs.HostActs.{Act, Trig, Free, after, triggered_stream}
 use Rattle.host_widgets.specs.ActLists.{close_by}
 use Rattle.host_widgets.specs.Host.{Outcome}
-use Rattle.host_widgets.specs.Orders.{Order, Carried, sends}
+use Rattle.host_widgets.specs.Orders.{Procedure, Carried, sends}
 use Rattle.host_pcm.specs.declared.asking.Ask.TheVariants.{Closing}
 use Rattle.host_widgets.specs.StreamStands.{takes_trigger}
 use Rattle.host_pcm.specs.Asks.{stream_at}
@@ -48,7 +48,7 @@ module _ {D : Type 0} (means : Meaning D) (plan : Plan) (heap : ℕ) where
     -- a stream that is prepared is freed
     pub free-closes : (stream_at kept k).found ≡ Prepared → (kept' : Record) (w v : World D) (result : Outcome) → ActCarried means plan heap (Free (host_at plan k)) kept kept' w v result → Carried means plan heap (place_order plan kept k Closing) kept kept' w v result
     free-closes found kept' w v result x =
-        subst (λ (o : Order). Carried means plan heap o kept kept' w v result) (by-found Prepared (Free (host_at plan k) ∷ []) found refl) (by result x)
+        subst (λ (o : Procedure). Carried means plan heap o kept kept' w v result) (by-found Prepared (Free (host_at plan k) ∷ []) found refl) (by result x)
       where
         by : (result : Outcome) → ActCarried means plan heap (Free (host_at plan k)) kept kept' w v result → Carried means plan heap (plain (Free (host_at plan k) ∷ []) shuts) kept kept' w v result
         by (Ok passed) x = passes-alone means plan heap (Free (host_at plan k)) shuts kept kept' w v x (freed-shut kept' x.ends.0)
@@ -72,7 +72,7 @@ module _ {D : Type 0} (means : Meaning D) (plan : Plan) (heap : ℕ) where
 
       pub stop-failed : (k1 : Record) (w m : World D) (fault : HostFault) → ActCarried means plan heap (Trig (host_at plan k) Stop) kept k1 w m (Err fault) → Carried means plan heap (place_order plan kept k Closing) kept k1 w m (Err fault)
       stop-failed k1 w m fault x =
-          subst (λ (o : Order). Carried means plan heap o kept k1 w m (Err fault)) order-is (ends-with means plan heap (Trig (host_at plan k) Stop) (Free (host_at plan k) ∷ []) shuts kept w fault k1 m x)
+          subst (λ (o : Procedure). Carried means plan heap o kept k1 w m (Err fault)) order-is (ends-with means plan heap (Trig (host_at plan k) Stop) (Free (host_at plan k) ∷ []) shuts kept w fault k1 m x)
 
       -- a stream that was put at a place is there
       put-there : (rs : List StreamRec) (i : ℕ) (r : StreamRec) → i < length rs → get_or (set rs i r) i closed ≡ r
@@ -96,7 +96,7 @@ module _ {D : Type 0} (means : Meaning D) (plan : Plan) (heap : ℕ) where
       module _ (k1 : Record) (w m : World D) (first : ActCarried means plan heap (Trig (host_at plan k) Stop) kept k1 w m (Ok tt)) where
         pub stop-then : (k2 : Record) (v : World D) (result : Outcome) → ActCarried means plan heap (Free (host_at plan k)) k1 k2 m v result → Carried means plan heap (place_order plan kept k Closing) kept k2 w v result
         stop-then k2 v result x =
-            subst (λ (o : Order). Carried means plan heap o kept k2 w v result) order-is
+            subst (λ (o : Procedure). Carried means plan heap o kept k2 w v result) order-is
             (goes-on means plan heap (Trig (host_at plan k) Stop) (Free (host_at plan k) ∷ []) shuts kept w k1 k2 m v result first (by result x))
           where
             by : (result : Outcome) → ActCarried means plan heap (Free (host_at plan k)) k1 k2 m v result → Carried means plan heap (plain (Free (host_at plan k) ∷ []) shuts) k1 k2 m v result

@@ -5,7 +5,7 @@ use Rattle.tplg_plan.specs.declared.plans.Plan.{Plan}
 use Rattle.host_widgets.specs.declared.answers.HostFault.{HostFault}
 use Rattle.host_widgets.specs.declared.kept.Record.{Record}
 use Rattle.host_widgets.specs.Host.{Outcome}
-use Rattle.host_widgets.specs.Orders.{Carried, Order}
+use Rattle.host_widgets.specs.Orders.{Carried, Procedure}
 use Rattle.host_pcm.specs.declared.asking.Ask.{Ask}
 use Rattle.host_pcm.specs.Asks.{early_fault, stream_at}
 use Rattle.host_pcm.specs.StreamOrders.{stream_order, asking_order}
@@ -29,7 +29,7 @@ abbrev pub host_at : Plan → ℕ → ℕ
 host_at plan k = (get_or plan.streams k no_stream).host
 
 -- of the stream at a place
-abbrev pub place_order : Plan → Record → ℕ → Ask → Order
+abbrev pub place_order : Plan → Record → ℕ → Ask → Procedure
 place_order plan kept k ask = asking_order plan kept (host_at plan k) (stream_at kept k).found ask
 
 -- the record with another stream at a place

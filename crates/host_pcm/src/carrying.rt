@@ -16,7 +16,9 @@ ghost use Rattle.host_widgets.specs.ActCarried.{ActCarried};
 ghost use Rattle.host_widgets.specs.Sides.{IsReady, SameSide, world_of};
 
 use crate::asking::Ask;
-use host_widgets::{Found, HostFault, Power, Record, Side, StreamRec, Trigger, direction, pass};
+use host_widgets::{
+    Found, HostCall, HostFault, Power, Record, StreamRec, Trigger, direction, transact_no_reply,
+};
 use ipc3_model::Message;
 use mbox_link::Dsp;
 use sof_base::Params;
@@ -47,7 +49,7 @@ pub fn open(kept: &mut Record, place: usize)
 }
 
 /// A stream has parameters.
-pub fn prepare<P: Dsp>(side: &mut Side<'_, P>, place: usize, p: Params) -> Result<(), HostFault>
+pub fn prepare<P: Dsp>(side: &mut HostCall<'_, P>, place: usize, p: Params) -> Result<(), HostFault>
     requires ready { IsReady P.means side.old }
     requires power { side.old.kept.now.power ≡ Power.On }
     requires place { place < length side.old.plan.now.streams }
@@ -66,7 +68,7 @@ pub fn prepare<P: Dsp>(side: &mut Side<'_, P>, place: usize, p: Params) -> Resul
         direction: direction(stream.capture),
         params: p,
     };
-    pass(&message, side)?;
+    transact_no_reply(&message, side)?;
     side.kept.streams.put(
         place,
         StreamRec {
@@ -78,7 +80,11 @@ pub fn prepare<P: Dsp>(side: &mut Side<'_, P>, place: usize, p: Params) -> Resul
 }
 
 /// A stream is triggered.
-pub fn trigger<P: Dsp>(side: &mut Side<'_, P>, place: usize, what: Trigger) -> Result<(), HostFault>
+pub fn trigger<P: Dsp>(
+    side: &mut HostCall<'_, P>,
+    place: usize,
+    what: Trigger,
+) -> Result<(), HostFault>
     requires ready { IsReady P.means side.old }
     requires power { side.old.kept.now.power ≡ Power.On }
     requires place { place < length side.old.plan.now.streams }
@@ -92,7 +98,7 @@ pub fn trigger<P: Dsp>(side: &mut Side<'_, P>, place: usize, what: Trigger) -> R
 {
     let host = side.plan.streams.items()[place].host;
     let params = side.kept.streams.items()[place].params;
-    pass(&what.message(host), side)?;
+    transact_no_reply(&what.message(host), side)?;
     side.kept.streams.put(
         place,
         StreamRec {
@@ -104,7 +110,7 @@ pub fn trigger<P: Dsp>(side: &mut Side<'_, P>, place: usize, what: Trigger) -> R
 }
 
 // A stream that is prepared is without parameters, and closed.
-fn free<P: Dsp>(side: &mut Side<'_, P>, place: usize) -> Result<(), HostFault>
+fn free<P: Dsp>(side: &mut HostCall<'_, P>, place: usize) -> Result<(), HostFault>
     requires plan { IsSound side.old.plan.now }
     requires streams { length side.old.kept.now.streams ≡ length side.old.plan.now.streams }
     requires on { is_some (P.means.on side.old.dsp.now) ≡ true }
@@ -120,7 +126,7 @@ fn free<P: Dsp>(side: &mut Side<'_, P>, place: usize) -> Result<(), HostFault>
     ensures same { SameSide side.old side.new }
 {
     let host = side.plan.streams.items()[place].host;
-    pass(&Message::PcmFree { id: host }, side)?;
+    transact_no_reply(&Message::PcmFree { id: host }, side)?;
     shut(side.kept, place);
     Ok(())
 }
@@ -140,7 +146,7 @@ fn shut(kept: &mut Record, place: usize)
 }
 
 // A stream that moves or is held is stopped, and freed.
-fn stop_and_free<P: Dsp>(side: &mut Side<'_, P>, place: usize) -> Result<(), HostFault>
+fn stop_and_free<P: Dsp>(side: &mut HostCall<'_, P>, place: usize) -> Result<(), HostFault>
     requires ready { IsReady P.means side.old }
     requires power { side.old.kept.now.power ≡ Power.On }
     requires place { place < length side.old.plan.now.streams }
@@ -158,7 +164,7 @@ fn stop_and_free<P: Dsp>(side: &mut Side<'_, P>, place: usize) -> Result<(), Hos
 }
 
 // A stream is closed while the power is on.
-fn close_on<P: Dsp>(side: &mut Side<'_, P>, place: usize) -> Result<(), HostFault>
+fn close_on<P: Dsp>(side: &mut HostCall<'_, P>, place: usize) -> Result<(), HostFault>
     requires ready { IsReady P.means side.old }
     requires power { side.old.kept.now.power ≡ Power.On }
     requires place { place < length side.old.plan.now.streams }
@@ -181,7 +187,7 @@ fn close_on<P: Dsp>(side: &mut Side<'_, P>, place: usize) -> Result<(), HostFaul
 }
 
 /// A stream is closed: where it has parameters and the power is on, it is stopped where it runs or is paused, and freed.
-pub fn close<P: Dsp>(side: &mut Side<'_, P>, place: usize) -> Result<(), HostFault>
+pub fn close<P: Dsp>(side: &mut HostCall<'_, P>, place: usize) -> Result<(), HostFault>
     requires ready { IsReady P.means side.old }
     requires loaded { side.old.kept.now.power ≡ Power.Unloaded → ⊥ }
     requires place { place < length side.old.plan.now.streams }

@@ -17,7 +17,7 @@ ghost use Rattle.host_pcm.specs.StreamOrders.{stream_order};
 
 use crate::asking::{Ask, tested};
 use crate::carrying;
-use host_widgets::{HostFault, Record, Side, Trigger};
+use host_widgets::{HostCall, HostFault, Record, Trigger};
 use mbox_link::Dsp;
 use sof_base::{Name44, Params};
 use sof_io::{Inputs, Outputs};
@@ -49,7 +49,7 @@ pub fn ask<P: Dsp>(
     ensures agree { Agrees P.means plan.now kept.old dsp.old → Agrees P.means plan.now kept.new dsp.new }
 {
     let place = tested(plan, kept, name, ask)?;
-    let mut side = Side {
+    let mut side = HostCall {
         plan,
         heap,
         kept,

@@ -21,7 +21,7 @@ ghost use Rattle.host_pm.specs.PowerTests.{resume_fault};
 ghost use Rattle.host_pm.specs.Resumed.{ResumeLeft};
 
 use crate::telling::tell;
-use host_widgets::{Found, HostFault, Power, Record, Side, StreamRec, bring_up, direction};
+use host_widgets::{Found, HostCall, HostFault, Power, Record, StreamRec, bring_up, direction};
 use ipc3_model::Message;
 use mbox_link::Dsp;
 use sof_io::{Inputs, Outputs};
@@ -75,7 +75,7 @@ pub fn prepare_all<P: Dsp>(
 }
 
 // Sends a freshly booted device all that the record says, up to the first message that does not pass.
-fn bring_back<P: Dsp>(side: &mut Side<'_, P>) -> Result<(), HostFault>
+fn bring_back<P: Dsp>(side: &mut HostCall<'_, P>) -> Result<(), HostFault>
     requires plan { IsSound side.old.plan.now }
     requires kept { IsRecordOf side.old.plan.now side.old.kept.now }
     requires rests { list_any (λ r. is_live_phase (phase_of r.found)) side.old.kept.now.streams ≡ false }
@@ -96,7 +96,7 @@ fn bring_back<P: Dsp>(side: &mut Side<'_, P>) -> Result<(), HostFault>
 }
 
 // Boots the device, brings it up and prepares its streams. A failure cuts it, and the record stays.
-fn power_up<P: Dsp>(side: &mut Side<'_, P>) -> Result<(), HostFault>
+fn power_up<P: Dsp>(side: &mut HostCall<'_, P>) -> Result<(), HostFault>
     requires plan { IsSound side.old.plan.now }
     requires agree { Agrees P.means side.old.plan.now side.old.kept.now side.old.dsp.now }
     requires room { HasRoom (61440 * P.means.pending side.old.dsp.now) side.old.out.now }
@@ -146,7 +146,7 @@ pub fn resume<P: Dsp>(
     match kept.power {
         Power::Unloaded => Err(HostFault::NotLoaded),
         Power::On => Err(HostFault::State(Found::On)),
-        Power::Off => power_up(&mut Side {
+        Power::Off => power_up(&mut HostCall {
             plan,
             heap,
             kept,

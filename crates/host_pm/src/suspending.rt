@@ -14,7 +14,7 @@ ghost use Rattle.host_pm.specs.InTurn.{InTurn, WentDown};
 ghost use Rattle.host_pm.specs.PowerTests.{suspend_fault};
 
 use crate::telling::tell;
-use host_widgets::{Found, HostFault, Power, Record, Side, Trigger, link_down};
+use host_widgets::{Found, HostCall, HostFault, Power, Record, Trigger, link_down};
 use ipc3_model::Message;
 use mbox_link::Dsp;
 use sof_io::{Inputs, Outputs};
@@ -102,7 +102,7 @@ fn send_down<P: Dsp>(
 }
 
 // Sends all messages, and cuts the device whatever their results.
-fn go_down<P: Dsp>(side: &mut Side<'_, P>) -> Result<(), HostFault>
+fn go_down<P: Dsp>(side: &mut HostCall<'_, P>) -> Result<(), HostFault>
     requires ready { IsReady P.means side.old }
     requires power { side.old.kept.now.power ≡ Power.On }
     ensures down { WentDown P.means side.old.plan.now side.old.heap side.old.kept.now side.new.kept.now (world_of side.old) (world_of side.new) result }
@@ -143,7 +143,7 @@ pub fn suspend<P: Dsp>(
     match kept.power {
         Power::Unloaded => Err(HostFault::NotLoaded),
         Power::Off => Err(HostFault::Off),
-        Power::On => go_down(&mut Side {
+        Power::On => go_down(&mut HostCall {
             plan,
             heap,
             kept,

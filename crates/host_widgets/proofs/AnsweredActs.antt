@@ -16,7 +16,7 @@ use Rattle.host_widgets.specs.ActMessages.{act_message}
 use Rattle.host_widgets.specs.AnsweredOrders.{ActsAnswered, OrderAnswered, TestedAnswered}
 use Rattle.host_widgets.specs.Host.{Outcome, verdict}
 use Rattle.host_widgets.specs.HostActs.{Act, after}
-use Rattle.host_widgets.specs.Orders.{Order, sends}
+use Rattle.host_widgets.specs.Orders.{Procedure, sends}
 
 module _ {D : Type 0} (means : Meaning D) (plan : Plan) (heap : ℕ) where
   -- what follows an answer
@@ -112,11 +112,11 @@ module _ {D : Type 0} (means : Meaning D) (plan : Plan) (heap : ℕ) where
 
   -- ---- by a test
 
-  pub early-answered : (test : Option HostFault) (o : Order) (kept : Record) (w : World D) (fault : HostFault) (result : Outcome) → test ≡ Some fault → result ≡ Err fault → TestedAnswered means plan heap test o kept kept w w result
+  pub early-answered : (test : Option HostFault) (o : Procedure) (kept : Record) (w : World D) (fault : HostFault) (result : Outcome) → test ≡ Some fault → result ≡ Err fault → TestedAnswered means plan heap test o kept kept w w result
   early-answered test o kept w fault result is this = record {
     early = λ f e. (let same : fault ≡ f = cc (sym is ∙ e) in (this ∙ ap (λ (x : HostFault). Err x) same, refl, refl));
     late = λ none. absurd (cc (sym is ∙ none));
   }
 
-  pub late-answered : (test : Option HostFault) (o : Order) (kept kept' : Record) (w v : World D) (result : Outcome) → test ≡ None → OrderAnswered means plan heap o kept kept' w v result → TestedAnswered means plan heap test o kept kept' w v result
+  pub late-answered : (test : Option HostFault) (o : Procedure) (kept kept' : Record) (w v : World D) (result : Outcome) → test ≡ None → OrderAnswered means plan heap o kept kept' w v result → TestedAnswered means plan heap test o kept kept' w v result
   late-answered test o kept kept' w v result none x = record { early = λ f e. absurd (cc (sym none ∙ e)); late = λ is. x }

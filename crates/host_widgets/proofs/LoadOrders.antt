@@ -12,12 +12,12 @@ use Rattle.host_widgets.specs.Kept.{first_record, with_power}
 use Rattle.host_widgets.specs.ActLists.{bring_up}
 use Rattle.host_widgets.specs.ActCalls.{calls_of}
 use Rattle.host_widgets.specs.Host.{Outcome}
-use Rattle.host_widgets.specs.Orders.{Order, Carried, Plain, brought_end, loading, where_on}
+use Rattle.host_widgets.specs.Orders.{Procedure, Carried, Plain, brought_end, loading, where_on}
 use Rattle.host_widgets.specs.TestedOrders.{ActsCame, Tested}
 
 -- an unload, by the power
-abbrev pub unloading_at : Plan → Power → Order
-unloading_at plan power = record { first = where_on power (past.Cut ∷ []); acts = []; manner = Plain; done = λ now. first_record plan; answer = answers.Done }
+abbrev pub unloading_at : Plan → Power → Procedure
+unloading_at plan power = record { first = where_on power (past.Cut ∷ []); acts = []; ending = Plain; done = λ now. first_record plan; answer = answers.Done }
 
 module _ {D : Type 0} (means : Meaning D) (plan : Plan) (heap : ℕ) where
   -- ---- bringing up
@@ -54,7 +54,7 @@ module _ {D : Type 0} (means : Meaning D) (plan : Plan) (heap : ℕ) where
 
   -- ---- a test
 
-  module _ (test : Option HostFault) (o : Order) (kept kept' : Record) (w v : World D) (result : Outcome) where
+  module _ (test : Option HostFault) (o : Procedure) (kept kept' : Record) (w v : World D) (result : Outcome) where
     pub told-early : (fault : HostFault) → test ≡ Some fault → result ≡ Err fault → v ≡ w → kept' ≡ kept → Tested means plan heap test o kept kept' w v result
     told-early fault is said same stays = record {
       early = λ f told. (said ∙ ap (λ (x : HostFault). Err x) (let one : Some fault ≡ Some f = sym is ∙ told in let inner : fault ≡ f = cc one in inner), same, stays);

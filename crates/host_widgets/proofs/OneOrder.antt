@@ -10,13 +10,13 @@ use Rattle.host_widgets.specs.declared.kept.Power.TheVariants.{On}
 use Rattle.host_widgets.specs.declared.kept.Record.{Record}
 use Rattle.host_widgets.specs.HostActs.{Act}
 use Rattle.host_widgets.specs.Host.{Outcome}
-use Rattle.host_widgets.specs.Orders.{Order, Carried, sends}
+use Rattle.host_widgets.specs.Orders.{Procedure, Carried, sends}
 use Rattle.host_widgets.specs.ActCarried.{ActCarried}
 use Rattle.host_widgets.proofs.PlainOrders.{plain, ends-with, passes-alone}
 
 -- an order that answers otherwise is carried out in the same way
-pub answering : {D : Type 0} (means : Meaning D) (plan : Plan) (heap : ℕ) (o : Order) (answer : Answer) (kept kept' : Record) (w v : World D) (result : Outcome) → Carried means plan heap o kept kept' w v result →
-    Carried means plan heap (record { first = o.first; acts = o.acts; manner = o.manner; done = o.done; answer = answer }) kept kept' w v result
+pub answering : {D : Type 0} (means : Meaning D) (plan : Plan) (heap : ℕ) (o : Procedure) (answer : Answer) (kept kept' : Record) (w v : World D) (result : Outcome) → Carried means plan heap o kept kept' w v result →
+    Carried means plan heap (record { first = o.first; acts = o.acts; ending = o.ending; done = o.done; answer = answer }) kept kept' w v result
 answering means plan heap o answer kept kept' w v result x =
     record { meetings = x.meetings; begun = x.begun; sent = x.sent; first = x.first; walked = x.walked; came = x.came; ends = x.ends }
 

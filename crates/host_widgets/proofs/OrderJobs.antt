@@ -9,11 +9,11 @@ use Rattle.host_widgets.specs.declared.kept.Record.{Record}
 use Rattle.host_widgets.specs.Host.{Outcome}
 use Rattle.host_widgets.specs.OneAct.{act_rules}
 use Rattle.host_widgets.specs.ActCalls.{next_of}
-use Rattle.host_widgets.specs.Orders.{Order, Carried}
+use Rattle.host_widgets.specs.Orders.{Procedure, Carried}
 use Rattle.host_widgets.specs.TestedOrders.{Tested}
 use Rattle.host_widgets.specs.Routines.{JobDone, JobTested, order_job, walk_routine}
 
-module _ {D : Type 0} (means : Meaning D) (plan : Plan) (heap : ℕ) (o : Order) (kept kept' : Record) (w v : World D) (result : Outcome) where
+module _ {D : Type 0} (means : Meaning D) (plan : Plan) (heap : ℕ) (o : Procedure) (kept kept' : Record) (w v : World D) (result : Outcome) where
   abbrev pub order-done : Carried means plan heap o kept kept' w v result → JobDone means (act_rules plan heap) heap (order_job plan kept o) kept' w v result
   order-done c = record {
     meetings = c.meetings;

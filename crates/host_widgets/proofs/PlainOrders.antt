@@ -13,12 +13,12 @@ use Rattle.host_widgets.specs.Host.{Outcome}
 use Rattle.host_widgets.specs.OneAct.{act_rules, performed, lag_of}
 use Rattle.host_widgets.specs.Walk.{Walked, walk, followed_by, goes_past}
 use Rattle.host_widgets.specs.ActCalls.{ActsDid, Onwards, next_of, calls_of}
-use Rattle.host_widgets.specs.Orders.{Order, Carried, Ends, Plain, plain_end}
+use Rattle.host_widgets.specs.Orders.{Procedure, Carried, Ends, Plain, plain_end}
 use Rattle.host_widgets.specs.ActCarried.{ActCarried}
 
 -- acts alone, and this record once all passed
-abbrev pub plain : List Act → (Record → Record) → Order
-plain acts done = record { first = []; acts = acts; manner = Plain; done = done; answer = answers.Done }
+abbrev pub plain : List Act → (Record → Record) → Procedure
+plain acts done = record { first = []; acts = acts; ending = Plain; done = done; answer = answers.Done }
 
 -- nothing goes on after a fault
 pub ends-at : (fault : HostFault) → goes_past false (Err fault) ≡ false

@@ -1,10 +1,10 @@
 -- Sides that refer to the same.
 use Rattle.std.proofs.Common.{◌∙◌}
-use Rattle.host_widgets.specs.declared.side.Side.{Side}
+use Rattle.host_widgets.specs.declared.host_call.HostCall.{HostCall}
 use Rattle.host_widgets.specs.Sides.{SameSide}
 
 -- one side after the other
-pub same-on : {P : Type 0} (a b c : Side P) → SameSide a b → SameSide b c → SameSide a c
+pub same-on : {P : Type 0} (a b c : HostCall P) → SameSide a b → SameSide b c → SameSide a c
 same-on a b c first then = record {
   plan = then.plan ∙ first.plan;
   heap = then.heap ∙ first.heap;

@@ -9,7 +9,7 @@ use Rattle.host_widgets.specs.ActCarried.{PlainEnd}
 use Rattle.host_widgets.specs.ActMessages.{act_message}
 use Rattle.host_widgets.specs.Host.{Outcome, verdict}
 use Rattle.host_widgets.specs.HostActs.{Act, after}
-use Rattle.host_widgets.specs.Orders.{Order}
+use Rattle.host_widgets.specs.Orders.{Procedure}
 
 -- These acts were sent by one exchange each, up to the first that did not pass, and no other call was made but a cut after a failed
 -- link. One that passed leaves the record after it, and all of them the record that is done. A refusal leaves the record so far, and a
@@ -23,10 +23,10 @@ ActsAnswered {D} means plan heap done (act ∷ acts) kept kept' w v result =
     (λ fault. (result ≡ Err fault) × PlainEnd means heap (Err fault) kept kept' mid v)
 
 -- those of an order that ends alone
-abbrev pub OrderAnswered : {D : Type 0} → Meaning D → Plan → ℕ → Order → Record → Record → World D → World D → Outcome → Type 0
+abbrev pub OrderAnswered : {D : Type 0} → Meaning D → Plan → ℕ → Procedure → Record → Record → World D → World D → Outcome → Type 0
 OrderAnswered means plan heap o kept kept' w v result = ActsAnswered means plan heap o.done o.acts kept kept' w v result
 
 -- where the test tells a fault, that is answered, with nothing changed and no call made; else the order's acts were sent, and answered so
-pub record TestedAnswered {D : Type 0} (means : Meaning D) (plan : Plan) (heap : ℕ) (test : Option HostFault) (o : Order) (kept kept' : Record) (w v : World D) (result : Outcome) : Type 0 where
+pub record TestedAnswered {D : Type 0} (means : Meaning D) (plan : Plan) (heap : ℕ) (test : Option HostFault) (o : Procedure) (kept kept' : Record) (w v : World D) (result : Outcome) : Type 0 where
   pub early : (fault : HostFault) → test ≡ Some fault → (result ≡ Err fault) × (v ≡ w) × (kept' ≡ kept)
   pub late : test ≡ None → OrderAnswered means plan heap o kept kept' w v result

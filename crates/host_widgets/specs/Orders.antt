@@ -20,25 +20,25 @@ use Rattle.host_widgets.specs.ActCalls.{ActsDid, next_of, calls_of}
 use Rattle.host_widgets.specs.ActLists.{bring_up, bring_back, go_down}
 
 -- how a command ends: alone, or bringing the device up or back, or down
-pub data Manner : Type 0 where
-  Plain : Manner
-  Loading : Manner
-  Resuming : Manner
-  Suspending : Manner
+pub data Ending : Type 0 where
+  Plain : Ending
+  Loading : Ending
+  Resuming : Ending
+  Suspending : Ending
 
 -- What a command does: moments of the device before any message, acts, how it ends, the record once all passed, and the answer
 -- then.
-pub record Order : Type 0 where
+pub record Procedure : Type 0 where
   pub first : List Moment
   pub acts : List Act
-  pub manner : Manner
+  pub ending : Ending
   pub done : Record → Record
   pub answer : Answer
 
 -- after a refusal, acts go on only where the device goes down
-abbrev pub goes_on_after_refusal : Manner → Bool
+abbrev pub goes_on_after_refusal : Ending → Bool
 goes_on_after_refusal Suspending = true
-goes_on_after_refusal manner = false
+goes_on_after_refusal ending = false
 
 -- ---- how it ends: the record, and the last moments
 
@@ -54,7 +54,7 @@ brought_end done failed now (Ok passed) = (done now, [])
 brought_end done failed now (Err fault) = (failed, Cut ∷ [])
 
 -- by the record at the command's start, the record so far, and the result of its acts
-abbrev pub end_by : Manner → Plan → (Record → Record) → Record → Record → Outcome → Record × List Moment
+abbrev pub end_by : Ending → Plan → (Record → Record) → Record → Record → Outcome → Record × List Moment
 end_by Plain plan done start now outcome = plain_end done now outcome
 end_by Loading plan done start now outcome = brought_end done (first_record plan) now outcome
 end_by Resuming plan done start now outcome = brought_end done start now outcome
@@ -63,52 +63,52 @@ end_by Suspending plan done start now outcome = (went_down now, Cut ∷ [])
 -- ---- rows
 
 -- one that changes nothing, with this answer
-abbrev pub quiet : Answer → Order
-quiet answer = record { first = []; acts = []; manner = Plain; done = λ kept. kept; answer = answer }
+abbrev pub quiet : Answer → Procedure
+quiet answer = record { first = []; acts = []; ending = Plain; done = λ kept. kept; answer = answer }
 
 -- one that sends acts where the power is on, and leaves this
-abbrev pub sends : Power → List Act → (Record → Record) → Answer → Order
-sends On acts done answer = record { first = []; acts = acts; manner = Plain; done = done; answer = answer }
-sends power acts done answer = record { first = []; acts = []; manner = Plain; done = done; answer = answer }
+abbrev pub sends : Power → List Act → (Record → Record) → Answer → Procedure
+sends On acts done answer = record { first = []; acts = acts; ending = Plain; done = done; answer = answer }
+sends power acts done answer = record { first = []; acts = []; ending = Plain; done = done; answer = answer }
 
 -- moments of a device that is on
 abbrev pub where_on : Power → List Moment → List Moment
 where_on On moments = moments
 where_on power moments = []
 
-abbrev pub loading : Plan → Record → Order
-loading plan kept = record { first = Boot ∷ []; acts = bring_up plan kept; manner = Loading; done = with_power On; answer = answers.Done }
+abbrev pub loading : Plan → Record → Procedure
+loading plan kept = record { first = Boot ∷ []; acts = bring_up plan kept; ending = Loading; done = with_power On; answer = answers.Done }
 
-abbrev pub unloading : Plan → Record → Order
+abbrev pub unloading : Plan → Record → Procedure
 unloading plan kept =
-    record { first = where_on kept.power (Cut ∷ []); acts = []; manner = Plain; done = λ now. first_record plan; answer = answers.Done }
+    record { first = where_on kept.power (Cut ∷ []); acts = []; ending = Plain; done = λ now. first_record plan; answer = answers.Done }
 
-abbrev pub suspending : Plan → Record → Order
-suspending plan kept = record { first = []; acts = go_down plan kept; manner = Suspending; done = went_down; answer = answers.Done }
+abbrev pub suspending : Plan → Record → Procedure
+suspending plan kept = record { first = []; acts = go_down plan kept; ending = Suspending; done = went_down; answer = answers.Done }
 
-abbrev pub resuming : Plan → Record → Order
-resuming plan kept = record { first = Boot ∷ []; acts = bring_back plan kept; manner = Resuming; done = with_power On; answer = answers.Done }
+abbrev pub resuming : Plan → Record → Procedure
+resuming plan kept = record { first = Boot ∷ []; acts = bring_back plan kept; ending = Resuming; done = with_power On; answer = answers.Done }
 
-abbrev pub ticking : Record → Order
-ticking kept = record { first = where_on kept.power (Tick ∷ []); acts = []; manner = Plain; done = λ now. now; answer = answers.Done }
+abbrev pub ticking : Record → Procedure
+ticking kept = record { first = where_on kept.power (Tick ∷ []); acts = []; ending = Plain; done = λ now. now; answer = answers.Done }
 
 -- ---- over any device
 
 -- what a walk left is ended: the record, and the calls of the last moments
-abbrev pub Ends : {D : Type 0} → Meaning D → Plan → ℕ → Order → Record → Record → World D → World D → Walked Record Act (List Meeting) → Type 0
+abbrev pub Ends : {D : Type 0} → Meaning D → Plan → ℕ → Procedure → Record → Record → World D → World D → Walked Record Act (List Meeting) → Type 0
 Ends means plan heap o kept kept' w v walked =
-    let end = end_by o.manner plan o.done kept walked.kept walked.outcome in (kept' ≡ end.0) × Led means w (calls_of heap end.1) v
+    let end = end_by o.ending plan o.done kept walked.kept walked.outcome in (kept' ≡ end.0) × Led means w (calls_of heap end.1) v
 
 -- Its calls were made and no others: those of its first moments, one exchange for each act up to the end of the walk, and those of
 -- its last moments. By what the messages met there, its result is this, and it left this record.
-pub record Carried {D : Type 0} (means : Meaning D) (plan : Plan) (heap : ℕ) (o : Order) (kept kept' : Record) (w v : World D) (result : Outcome) : Type 0 where
+pub record Carried {D : Type 0} (means : Meaning D) (plan : Plan) (heap : ℕ) (o : Procedure) (kept kept' : Record) (w v : World D) (result : Outcome) : Type 0 where
   pub meetings : List Meeting
   pub begun : World D
   pub sent : World D
   pub first : Led means w (calls_of heap o.first) begun
-  pub walked : ActsDid means (act_rules plan heap) (goes_on_after_refusal o.manner) kept o.acts meetings begun sent
-  pub came : result ≡ (walk (act_rules plan heap) (goes_on_after_refusal o.manner) next_of kept meetings o.acts).outcome
-  pub ends : Ends means plan heap o kept kept' sent v (walk (act_rules plan heap) (goes_on_after_refusal o.manner) next_of kept meetings o.acts)
+  pub walked : ActsDid means (act_rules plan heap) (goes_on_after_refusal o.ending) kept o.acts meetings begun sent
+  pub came : result ≡ (walk (act_rules plan heap) (goes_on_after_refusal o.ending) next_of kept meetings o.acts).outcome
+  pub ends : Ends means plan heap o kept kept' sent v (walk (act_rules plan heap) (goes_on_after_refusal o.ending) next_of kept meetings o.acts)
 
 -- ---- a call, by its test
 

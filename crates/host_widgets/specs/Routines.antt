@@ -12,7 +12,7 @@ use Rattle.host_widgets.specs.HostActs.{Act}
 use Rattle.host_widgets.specs.ActRules.{ActRules}
 use Rattle.host_widgets.specs.Walk.{Walked, walk, first_of}
 use Rattle.host_widgets.specs.ActCalls.{ActsDid, next_of, calls_of}
-use Rattle.host_widgets.specs.Orders.{Order, goes_on_after_refusal, end_by}
+use Rattle.host_widgets.specs.Orders.{Procedure, goes_on_after_refusal, end_by}
 
 -- A routine is finished, with this kept and these last moments; or acts are sent, up to the first after which they do not go on, and
 -- by what is kept then and their result there is another routine.
@@ -53,11 +53,11 @@ pub record Job (S A : Type 0) : Type 0 where
   pub answer : Answer
 
 -- an order is one walk, and its end
-abbrev pub order_job : Plan → Record → Order → Job Record Act
+abbrev pub order_job : Plan → Record → Procedure → Job Record Act
 order_job plan kept o = record {
   first = o.first;
   from = kept;
-  routine = Sending o.acts (goes_on_after_refusal o.manner) (λ now outcome. let end = end_by o.manner plan o.done kept now outcome in Finished end.0 end.1);
+  routine = Sending o.acts (goes_on_after_refusal o.ending) (λ now outcome. let end = end_by o.ending plan o.done kept now outcome in Finished end.0 end.1);
   answer = o.answer;
 }
 

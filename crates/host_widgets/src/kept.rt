@@ -21,6 +21,7 @@ pub enum Power {
 
 /// How far a stream is, as the host sees it, or that the device is on. A stream that is `Prepared`, `Running` or `Paused`
 /// has parameters, and none is ever `On`.
+/// ALSA's term: the state of a PCM.
 #[derive(Clone, Copy, Debug, PartialEq, Eq)]
 pub enum Found {
     Closed,

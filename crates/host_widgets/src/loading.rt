@@ -12,14 +12,14 @@ ghost use Rattle.host_widgets.specs.TestedOrders.{Tested};
 
 use crate::answers::HostFault;
 use crate::bringing_up::bring_up;
+use crate::host_call::HostCall;
 use crate::kept::{Power, Record};
-use crate::side::Side;
 use mbox_link::Dsp;
 use sof_io::{Inputs, Outputs};
 use tplg_plan::Plan;
 
 // Boots the device and brings it up. A failure cuts it; the record changes only once all has passed.
-fn power_up<P: Dsp>(side: &mut Side<'_, P>) -> Result<(), HostFault>
+fn power_up<P: Dsp>(side: &mut HostCall<'_, P>) -> Result<(), HostFault>
     requires plan { IsSound side.old.plan.now }
     requires kept { side.old.kept.now ≡ first_record side.old.plan.now }
     requires off { P.means.on side.old.dsp.now ≡ None }
@@ -71,7 +71,7 @@ pub fn load<P: Dsp>(
     ensures outputs { out.new ≡ out.old }
 {
     match kept.power {
-        Power::Unloaded => power_up(&mut Side {
+        Power::Unloaded => power_up(&mut HostCall {
             plan,
             heap,
             kept,

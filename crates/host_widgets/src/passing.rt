@@ -7,8 +7,8 @@ ghost use Rattle.host_widgets.specs.Sides.{SameSide, world_of};
 
 use crate::answers::HostFault;
 use crate::going_down::link_down;
+use crate::host_call::HostCall;
 use crate::sending::send;
-use crate::side::Side;
 use ipc3_codec::{Message, Reply};
 use mbox_link::Dsp;
 
@@ -19,8 +19,11 @@ pub fn is_down<T>(answer: &Result<T, HostFault>) -> bool
     matches!(answer, Err(HostFault::LinkDown))
 }
 
-/// Sends the message of an act, and hands on its reply. A failed link cuts the device and takes the record down.
-pub fn hear<P: Dsp>(message: &Message, side: &mut Side<'_, P>) -> Result<Reply, HostFault>
+/// Sends the message of an act, and returns its reply.
+///
+/// `Refused(e)` where the reply's error e is negative: the record stays. `LinkDown` where the exchange failed: the device is cut, and the
+/// record goes down.
+pub fn transact<P: Dsp>(message: &Message, side: &mut HostCall<'_, P>) -> Result<Reply, HostFault>
     requires on { is_some (P.means.on side.old.dsp.now) ≡ true }
     requires room { HasRoom (61440 * P.means.pending side.old.dsp.now) side.old.out.now }
     ensures replied { Replied P.means side.old.heap (message_spelling message.now) side.old.kept.now side.new.kept.now (world_of side.old) (world_of side.new) result }
@@ -33,13 +36,16 @@ pub fn hear<P: Dsp>(message: &Message, side: &mut Side<'_, P>) -> Result<Reply, 
     answer
 }
 
-/// The same for an act whose reply says nothing more.
-pub fn pass<P: Dsp>(message: &Message, side: &mut Side<'_, P>) -> Result<(), HostFault>
+/// Sends the message of an act whose reply has no body to read. It fails as [`transact`] does, with the same cut and the same record.
+pub fn transact_no_reply<P: Dsp>(
+    message: &Message,
+    side: &mut HostCall<'_, P>,
+) -> Result<(), HostFault>
     requires on { is_some (P.means.on side.old.dsp.now) ≡ true }
     requires room { HasRoom (61440 * P.means.pending side.old.dsp.now) side.old.out.now }
     ensures passes { Passes P.means side.old.heap (message_spelling message.now) side.old.kept.now side.new.kept.now (world_of side.old) (world_of side.new) result }
     ensures same { SameSide side.old side.new }
 {
-    hear(message, side)?;
+    transact(message, side)?;
     Ok(())
 }

@@ -26,6 +26,7 @@ pub enum Fate {
 }
 
 /// What one message meets, by its number from 1 over the whole run: the ticks that come before it, and its fate.
+/// The field's term: a scheduled fault.
 #[derive(Clone, Copy, Debug, PartialEq, Eq)]
 pub struct Entry {
     pub number: u64,

@@ -6,10 +6,10 @@ use Rattle.stream_law.specs.Placed.{Ascends}
 use Rattle.stream_law.specs.Ways.{agree}
 use Rattle.mbox_link.specs.Step.{fresh}
 use Rattle.row_laws.specs.Tiled.{fresh_heap}
-use Rattle.row_laws.specs.Kept.{IsKeptState}
+use Rattle.row_laws.specs.Kept.{FirmwareInvariant}
 use Rattle.row_laws.proofs.Tiling.{fresh-tiled, retiled}
 
-pub boot-kept : (heap : ℕ) → IsKeptState (fresh heap)
+pub boot-kept : (heap : ℕ) → FirmwareInvariant (fresh heap)
 unfolding IsDistinct Ascends agree
 boot-kept heap = record {
   comps = omega arith;

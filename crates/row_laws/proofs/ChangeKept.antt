@@ -19,7 +19,7 @@ use Rattle.stream_law.specs.Seen.{flows, is_volume, keeps_numbers, remembers, ga
 use Rattle.ipc3_model.specs.Allowed.{is_buffer_size}
 use Rattle.mbox_link.specs.Step.{is_joined, takes_join, with_comps, with_setting}
 use Rattle.row_laws.specs.Played.{AreStreamsPlayable}
-use Rattle.row_laws.specs.Kept.{IsKeptState, IsSettingOf, AreHistories}
+use Rattle.row_laws.specs.Kept.{FirmwareInvariant, IsSettingOf, AreHistories}
 use Rattle.row_laws.proofs.Ascending.{ascends-keys}
 use Rattle.row_laws.proofs.Fewer.{filter-every, not-true}
 use Rattle.row_laws.proofs.Histories.{IsAlike, alike-comp, remembered-same, remembered-set, histories-by}
@@ -39,7 +39,7 @@ use Rattle.row_laws.proofs.Stagings.{staged-all}
 use Rattle.row_laws.proofs.SeenKept.{IsNext, histories-seen, in-among}
 use Rattle.row_laws.proofs.Unreached.{eqb-turned}
 
-module _ (f : FwState) (kept : IsKeptState f) where
+module _ (f : FwState) (kept : FirmwareInvariant f) where
   abbrev view : View
   view = view_of f
 
@@ -63,7 +63,7 @@ module _ (f : FwState) (kept : IsKeptState f) where
     joined-sizes [] all = tt
     joined-sizes (e ∷ es) all = (ap is_buffer_size (joined-size j e) ∙ all.0, joined-sizes es all.1)
 
-    pub kept-join : IsKeptState (record f { graph = with_join f.graph j })
+    pub kept-join : FirmwareInvariant (record f { graph = with_join f.graph j })
     kept-join = record {
       comps = kept.comps;
       edges = omega (arith, kept.edges, length-map f.graph.edges (joined_edge j));
@@ -130,7 +130,7 @@ module _ (f : FwState) (kept : IsKeptState f) where
             by true e = absurd (true≢false (sym is ∙ ap (is_of f.graph keeps_numbers) (eqb-true n id e) ∙ bare))
             by false e = set-other n e
 
-        pub kept-setting : IsKeptState (record f { graph = with_comps (map (with_setting id setting) f.graph.comps) f.graph })
+        pub kept-setting : FirmwareInvariant (record f { graph = with_comps (map (with_setting id setting) f.graph.comps) f.graph })
         kept-setting = record {
           comps = omega (arith, kept.comps, length-map f.graph.comps (with_setting id setting));
           edges = kept.edges;
@@ -185,7 +185,7 @@ module _ (f : FwState) (kept : IsKeptState f) where
         pub histories-set : AreHistories set_view (map (history_seen f set_view (Some id)) (filter (remembers set_view) (components set_view.graph)))
         histories-set = histories-seen f kept set_view (Some id) next
 
-        pub kept-marked : IsKeptState (seen set_view (Some id) f)
+        pub kept-marked : FirmwareInvariant (seen set_view (Some id) f)
         kept-marked = record {
           comps = omega (arith, kept.comps, length-map f.graph.comps (with_setting id setting));
           edges = kept.edges;

@@ -17,7 +17,7 @@ use Rattle.mbox_link.specs.Step.{has_kind, is_host, kind_at, without_piece, with
 use Rattle.row_laws.specs.Tiled.{heap_bytes}
 use Rattle.row_laws.specs.Wired.{is_node}
 use Rattle.row_laws.specs.Played.{AreStreamsPlayable}
-use Rattle.row_laws.specs.Kept.{IsKeptState, IsSettingOf, IsRampOf, IsStaged, has_piece}
+use Rattle.row_laws.specs.Kept.{FirmwareInvariant, IsSettingOf, IsRampOf, IsStaged, has_piece}
 use Rattle.row_laws.proofs.Fewer.{all-kept, all-filter, all-both, all-any, filter-every, length-filter, none-each, keys-left, not-true, distinct-filter}
 use Rattle.row_laws.proofs.Growing.{all-by}
 use Rattle.row_laws.proofs.SameWays.{played-same, agree-same, live-same, rate-same, channels-same, flows-same}
@@ -38,7 +38,7 @@ none-any : (id : ℕ) (es : List Edge) → AllByRecursion (λ e. (e.buffer == id
 none-any id [] all = refl
 none-any id (e ∷ es) all = ap (λ h. h || list_any (λ e. e.buffer == id) es) all.0 ∙ none-any id es all.1
 
-module _ (f : FwState) (kept : IsKeptState f) where
+module _ (f : FwState) (kept : FirmwareInvariant f) where
   abbrev view : View
   view = view_of f
 
@@ -98,7 +98,7 @@ module _ (f : FwState) (kept : IsKeptState f) where
     found : (n : ℕ) → (n == id) ≡ false → comp_of comp-view.graph n ≡ comp_of f.graph n
     found n other = comp-other f.graph id kept.wired kept.linked free n other
 
-    pub kept-comp_free : IsKeptState (without_comp id f)
+    pub kept-comp_free : FirmwareInvariant (without_comp id f)
     kept-comp_free = record {
       comps = omega (arith, kept.comps, length-filter (λ (x : Comp). not (x.id == id)) f.graph.comps);
       edges = kept.edges;
@@ -155,7 +155,7 @@ module _ (f : FwState) (kept : IsKeptState f) where
     edge-flows : AllByRecursion (λ r. flows edge-view r.buffer ≡ flows view r.buffer) fewer
     edge-flows = all-kept (λ (r : RingView). not (r.buffer == id)) (λ (r : RingView). Unit {0}) (λ r. flows edge-view r.buffer ≡ flows view r.buffer) (λ r far u. buffer_free-flows r.buffer (not-true (r.buffer == id) far)) f.rings (all-any (λ (r : RingView). Unit {0}) (λ r. tt) f.rings)
 
-    pub kept-buffer_free : IsKeptState (without_buffer id f)
+    pub kept-buffer_free : FirmwareInvariant (without_buffer id f)
     kept-buffer_free = record {
       comps = kept.comps;
       edges = omega (arith, kept.edges, length-filter (λ (e : Edge). not (e.buffer == id)) f.graph.edges);
@@ -220,7 +220,7 @@ module _ (f : FwState) (kept : IsKeptState f) where
     pipe-played : AreStreamsPlayable pipe-view
     pipe-played = all-streams (λ ss. AreStreamsPlayable (record { graph = pipe-view.graph; streams = ss })) (played-same f.graph pipe-view.graph (λ s. true) f.streams kept.played (bare-pipe f.graph id p found kept.wired f.streams) (ways-pipe f.graph id p found kept.wired f.streams) (agree-same f.graph pipe-view.graph (λ s. true) f.streams kept.played (bare-pipe f.graph id p found kept.wired f.streams) (ways-pipe f.graph id p found kept.wired f.streams) (λ x there. there) (echo-pipe f.graph id p found kept.wired)) (all-by (λ s. has_kind is_host (kind_at f.graph s.host) ≡ true) (λ s. true ≡ true → has_kind is_host (kind_at pipe-view.graph s.host) ≡ true) (λ s is kept. is) f.streams kept.played.owned) (ready-pipe f.graph id p found kept.wired f.streams free kept.played.each))
 
-    pub kept-pipe_free : IsKeptState (without_pipe id f)
+    pub kept-pipe_free : FirmwareInvariant (without_pipe id f)
     kept-pipe_free = record {
       comps = kept.comps;
       edges = kept.edges;

@@ -22,7 +22,7 @@ use Rattle.ipc3_model.specs.Allowed.{is_buffer_size, is_period_allowed}
 use Rattle.mbox_link.specs.Step.{comp_bytes, buffer_bytes, pipe_bytes, heap_with_piece, with_comp, with_buffer, with_pipe, with_pipes, with_host_stream, completed, has_hole, has_index, is_used, has_comp, has_edge, has_pipe}
 use Rattle.row_laws.specs.Tiled.{IsTiled, heap_bytes}
 use Rattle.row_laws.specs.Wired.{is_node}
-use Rattle.row_laws.specs.Kept.{IsKeptState, IsSettingOf, IsRampOf, ArePieces}
+use Rattle.row_laws.specs.Kept.{FirmwareInvariant, IsSettingOf, IsRampOf, ArePieces}
 use Rattle.row_laws.proofs.Ascending.{ascends-keys, distinct-placed, indices-completed}
 use Rattle.row_laws.proofs.Fewer.{none-each, all-filter, all-any}
 use Rattle.row_laws.proofs.Growing.{all-placed, all-by, hosts-apart, no-host, fresh_stream, brought, played-wider, wired-wider, live-wider, flows-wider, rate-wider, channels-wider}
@@ -53,7 +53,7 @@ no-pipe g id e = (or_parts (is_node g id) (has_pipe g id) e).1
 pub unused-node : (g : Graph) (id : ℕ) → is_used g id ≡ false → is_node g id ≡ false
 unused-node g id e = (or_parts (is_node g id) (has_pipe g id) e).0
 
-module _ (f : FwState) (kept : IsKeptState f) where
+module _ (f : FwState) (kept : FirmwareInvariant f) where
   abbrev view : View
   view = view_of f
 
@@ -87,7 +87,7 @@ module _ (f : FwState) (kept : IsKeptState f) where
     pub comp-whole : heap_bytes (heap_with_piece id (comp_bytes kind) f.heap) ≡ heap_bytes f.heap
     comp-whole = tiled-comp.whole
 
-    pub kept-comp : IsKeptState (with_comp id pipe kind setting ramp f)
+    pub kept-comp : FirmwareInvariant (with_comp id pipe kind setting ramp f)
     kept-comp = record {
       comps = omega (arith, few, length-placed (λ (x : Comp). x.id) c f.graph.comps);
       edges = kept.edges;
@@ -147,7 +147,7 @@ module _ (f : FwState) (kept : IsKeptState f) where
     pub buffer-whole : heap_bytes (heap_with_piece id (buffer_bytes size) f.heap) ≡ heap_bytes f.heap
     buffer-whole = tiled-buffer.whole
 
-    pub kept-buffer : IsKeptState (with_buffer id pipe size f)
+    pub kept-buffer : FirmwareInvariant (with_buffer id pipe size f)
     kept-buffer = record {
       comps = kept.comps;
       edges = omega (arith, few, length-placed (λ (y : Edge). y.buffer) fresh f.graph.edges);
@@ -184,7 +184,7 @@ module _ (f : FwState) (kept : IsKeptState f) where
     abbrev other : View
     other = record { graph = with_pipes pipes f.graph; streams = f.streams }
 
-    kept-pipes : IsKeptState (record f { heap = heap; graph = with_pipes pipes f.graph })
+    kept-pipes : FirmwareInvariant (record f { heap = heap; graph = with_pipes pipes f.graph })
     kept-pipes = record {
       comps = kept.comps;
       edges = kept.edges;
@@ -220,7 +220,7 @@ module _ (f : FwState) (kept : IsKeptState f) where
     pub pipe-whole : heap_bytes (heap_with_piece id (pipe_bytes) f.heap) ≡ heap_bytes f.heap
     pipe-whole = tiled-pipe.whole
 
-    pub kept-pipe : IsKeptState (with_pipe id index sched period f)
+    pub kept-pipe : FirmwareInvariant (with_pipe id index sched period f)
     kept-pipe = kept-pipes (heap_with_piece id pipe_bytes f.heap) (placed (λ q. q.id) p f.graph.pipes)
         (omega (arith, few, length-placed (λ (q : Pipe). q.id) p f.graph.pipes))
         (pieces-pipe f.graph f.heap pipe_bytes kept.pieces p)
@@ -234,7 +234,7 @@ module _ (f : FwState) (kept : IsKeptState f) where
         (Ascends-placed (λ q. q.id) (new_piece id pipe_bytes f.heap) f.heap.pieces (no-piece f.graph f.heap id kept.pieces unused) kept.ascending.pieces)
 
   -- a pipeline that is complete
-  pub kept-complete : (id : ℕ) → IsKeptState (record f { graph = with_pipes (map (completed id) f.graph.pipes) f.graph })
+  pub kept-complete : (id : ℕ) → FirmwareInvariant (record f { graph = with_pipes (map (completed id) f.graph.pipes) f.graph })
   kept-complete id = kept-pipes f.heap (map (completed id) f.graph.pipes)
       (omega (arith, kept.pipes, length-map f.graph.pipes (completed id)))
       (pieces-completed f.graph f.heap id kept.pieces)

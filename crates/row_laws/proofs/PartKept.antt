@@ -15,7 +15,7 @@ use Rattle.stream_law.specs.Made.{gains}
 use Rattle.stream_law.specs.Seen.{is_equaliser, is_volume}
 use Rattle.stream_law.proofs.Placing.{Ascends-placed, Ascends-filter}
 use Rattle.mbox_link.specs.Step.{has_kind, kind_at, unstaged, with_blob_at, blob_installed}
-use Rattle.row_laws.specs.Kept.{IsKeptState, IsSettingOf, IsStaged}
+use Rattle.row_laws.specs.Kept.{FirmwareInvariant, IsSettingOf, IsStaged}
 use Rattle.row_laws.proofs.ChangeKept.{kept-marked}
 use Rattle.row_laws.proofs.Fewer.{all-filter}
 use Rattle.row_laws.proofs.Growing.{all-placed}
@@ -23,7 +23,7 @@ use Rattle.row_laws.proofs.Stagings.{unstaged-gone}
 
 -- ---- a part that is staged, in place of what was
 
-pub kept-staged : (f : FwState) → IsKeptState f → (s : Staging) → IsStaged f.graph s → IsKeptState (record f { staging = placed (λ x. x.eq) s (unstaged s.eq f.staging) })
+pub kept-staged : (f : FwState) → FirmwareInvariant f → (s : Staging) → IsStaged f.graph s → FirmwareInvariant (record f { staging = placed (λ x. x.eq) s (unstaged s.eq f.staging) })
 kept-staged f kept s is = record {
   comps = kept.comps;
   edges = kept.edges;
@@ -56,7 +56,7 @@ blob-fits g id bytes equaliser is c found = by c.kind (sym (ap (λ (o : Option C
     by Eq e = inr is
     by kind e = absurd (false≢true e)
 
-module _ (f : FwState) (kept : IsKeptState f) (id : ℕ) (bytes : List ℕ) (equaliser : has_kind is_equaliser (kind_at f.graph id) ≡ true) (is : IsBlob bytes) where
+module _ (f : FwState) (kept : FirmwareInvariant f) (id : ℕ) (bytes : List ℕ) (equaliser : has_kind is_equaliser (kind_at f.graph id) ≡ true) (is : IsBlob bytes) where
   -- it is no volume, so no gains are set
   as-many : (c : Comp) → comp_of f.graph id ≡ Some c → is_volume c.kind ≡ true → length (gains (Blob bytes)) ≡ length (gains c.setting)
   as-many c found volume = absurd (no-both c.kind (sym (ap (λ (o : Option Comp). has_kind is_equaliser (option_map (λ (x : Comp). x.kind) o)) found) ∙ equaliser) volume)
@@ -65,7 +65,7 @@ module _ (f : FwState) (kept : IsKeptState f) (id : ℕ) (bytes : List ℕ) (equ
       no-both Eq e v = false≢true v
       no-both kind e v = false≢true e
 
-  pub kept-blob : IsKeptState (blob_installed id bytes f)
+  pub kept-blob : FirmwareInvariant (blob_installed id bytes f)
   kept-blob =
       let set = kept-marked f kept id (Blob bytes) (blob-fits f.graph id bytes equaliser is) as-many in
       record {

@@ -29,7 +29,7 @@ use Rattle.ipc3_model.specs.Messages.{decoded}
 use Rattle.ipc3_model.specs.Meanings.{IsMessage, IsAllowed, Means}
 use Rattle.mbox_link.specs.Step.{row, row_of, body, body_of, replied, step, kind_of, first_setting, first_ramp, no_memory, busy, no_device, invalid, is_used, is_complete, has_index, has_comp, has_edge, has_hole, comp_bytes, buffer_bytes, pipe_bytes, with_comp, comp_new, with_buffer, buffer_new, with_pipe, pipe_new, with_pipes, completed, complete_pipe, pipe_complete, is_joined, takes_join, is_refused_join, connect, has_complete_pipe, touches, is_held, is_index_held, without_comp, comp_free, without_edge, without_buffer, buffer_free, without_pipe, free_pipe, pipe_free, new_setting, with_setting_at, value_set, set_value, control_values_at, get_value, staging_at, keeps_order, staged_bytes, with_staged, blob_installed, part_staged, set_data, part_at, get_data, has_kind, is_stream_phase, is_host, goes, is_rate, is_way_ready, kind_at, phase_at, is_prepared, is_paused, set_stream, set_phase, with_params, pcm_params, is_refused_params, pcm_free, trigger}
 use Rattle.row_laws.specs.Played.{is_idle}
-use Rattle.row_laws.specs.Kept.{IsKeptState, IsSettingOf, IsRampOf, IsStaged}
+use Rattle.row_laws.specs.Kept.{FirmwareInvariant, IsSettingOf, IsRampOf, IsStaged}
 use Rattle.row_laws.specs.RowLaws.{IsPart, HasBytes}
 use Rattle.row_laws.proofs.Fewer.{not-false}
 use Rattle.row_laws.proofs.Fitting.{first-fits, first-ramps, values-fit, values-many}
@@ -50,15 +50,15 @@ pass true e rest g is = absurd (cc is)
 pass false e rest g is = (refl, is)
 
 -- and its state is the one that the row says
-done : (f g : FwState) → ◌≡◌ {A = Result FwState ℤ} (Ok f) (Ok g) → IsKeptState f → IsKeptState g
-done f g is kept = let same : f ≡ g = cc is in subst IsKeptState same kept
+done : (f g : FwState) → ◌≡◌ {A = Result FwState ℤ} (Ok f) (Ok g) → FirmwareInvariant f → FirmwareInvariant g
+done f g is kept = let same : f ≡ g = cc is in subst FirmwareInvariant same kept
 
 not-both : (a b : Bool) → not (a && b) ≡ false → (a ≡ true) × (b ≡ true)
 not-both a b e = and_parts a b (not-false (a && b) e)
 
 -- ---- NEW
 
-pub comp_new-kept : (id pipe : ℕ) (kind : Kind) (setting : Setting) (ramp : ℕ) → IsSettingOf kind setting → IsRampOf kind ramp → (f g : FwState) → IsKeptState f → comp_new f id pipe kind setting ramp ≡ Ok g → IsKeptState g
+pub comp_new-kept : (id pipe : ℕ) (kind : Kind) (setting : Setting) (ramp : ℕ) → IsSettingOf kind setting → IsRampOf kind ramp → (f g : FwState) → FirmwareInvariant f → comp_new f id pipe kind setting ramp ≡ Ok g → FirmwareInvariant g
 comp_new-kept id pipe kind setting ramp right ramps f g kept is =
     let new : FwState = with_comp id pipe kind setting ramp f in
     let full : Bool = nat_le 128 (length f.graph.comps) || not (has_hole f (comp_bytes kind)) in
@@ -67,7 +67,7 @@ comp_new-kept id pipe kind setting ramp right ramps f g kept is =
     let parts = or_parts (nat_le 128 (length f.graph.comps)) (not (has_hole f (comp_bytes kind))) fits.0 in
     done new g fits.1 (kept-comp f kept id pipe kind setting ramp (leb-false 128 (length f.graph.comps) parts.0) (or_parts (is_used f.graph id) (is_complete f.graph pipe) free.0).0 (not-false (has_hole f (comp_bytes kind)) parts.1) right ramps)
 
-pub buffer_new-kept : (id pipe size : ℕ) → is_buffer_size size ≡ true → (f g : FwState) → IsKeptState f → buffer_new f id pipe size ≡ Ok g → IsKeptState g
+pub buffer_new-kept : (id pipe size : ℕ) → is_buffer_size size ≡ true → (f g : FwState) → FirmwareInvariant f → buffer_new f id pipe size ≡ Ok g → FirmwareInvariant g
 buffer_new-kept id pipe size right f g kept is =
     let new : FwState = with_buffer id pipe size f in
     let full : Bool = nat_le 128 (length f.graph.edges) || not (has_hole f (buffer_bytes size)) in
@@ -76,7 +76,7 @@ buffer_new-kept id pipe size right f g kept is =
     let parts = or_parts (nat_le 128 (length f.graph.edges)) (not (has_hole f (buffer_bytes size))) fits.0 in
     done new g fits.1 (kept-buffer f kept id pipe size (leb-false 128 (length f.graph.edges) parts.0) (or_parts (is_used f.graph id) (is_complete f.graph pipe) free.0).0 (not-false (has_hole f (buffer_bytes size)) parts.1) right)
 
-pub pipe_new-kept : (id index sched period : ℕ) → is_period_allowed period ≡ true → (f g : FwState) → IsKeptState f → pipe_new f id index sched period ≡ Ok g → IsKeptState g
+pub pipe_new-kept : (id index sched period : ℕ) → is_period_allowed period ≡ true → (f g : FwState) → FirmwareInvariant f → pipe_new f id index sched period ≡ Ok g → FirmwareInvariant g
 pipe_new-kept id index sched period right f g kept is =
     let new : FwState = with_pipe id index sched period f in
     let full : Bool = nat_le 32 (length f.graph.pipes) || not (has_hole f pipe_bytes) in
@@ -87,7 +87,7 @@ pipe_new-kept id index sched period right f g kept is =
 
 -- ---- CONNECT and PIPE_COMPLETE
 
-pub connect-kept : (source sink : ℕ) (f g : FwState) → IsKeptState f → connect f source sink ≡ Ok g → IsKeptState g
+pub connect-kept : (source sink : ℕ) (f g : FwState) → FirmwareInvariant f → connect f source sink ≡ Ok g → FirmwareInvariant g
 connect-kept source sink f g kept is =
     let j : Join = record { source = source; sink = sink } in
     let new : FwState = record f { graph = with_join f.graph j } in
@@ -98,14 +98,14 @@ connect-kept source sink f g kept is =
     let cycle = or_parts (not (takes_join f.graph source sink)) (would_cycle f.graph source sink) stay.0 in
     done new g right.1 (kept-join f kept j free.0 (not-false (takes_join f.graph source sink) cycle.0) cycle.1 (not-false (would_stay (view_of f) source sink) stay.1))
 
-pub pipe_complete-kept : (id : ℕ) (f g : FwState) → IsKeptState f → pipe_complete f id ≡ Ok g → IsKeptState g
+pub pipe_complete-kept : (id : ℕ) (f g : FwState) → FirmwareInvariant f → pipe_complete f id ≡ Ok g → FirmwareInvariant g
 pipe_complete-kept id f g kept is =
     by (find (λ p. p.id == id) f.graph.pipes) (pass (not (is_used f.graph id)) no_device (complete_pipe f id (find (λ p. p.id == id) f.graph.pipes)) g is).1
   where
     new : FwState
     new = record f { graph = with_pipes (map (completed id) f.graph.pipes) f.graph }
 
-    by : (o : Option Pipe) → complete_pipe f id o ≡ Ok g → IsKeptState g
+    by : (o : Option Pipe) → complete_pipe f id o ≡ Ok g → FirmwareInvariant g
     by None e = absurd (cc e)
     by (Some p) e =
         let sched = pass (not (is_used f.graph p.sched)) no_device (cond p.complete (Err busy) (cond (not (has_comp f.graph p.sched)) (Err invalid) (Ok new))) g e in
@@ -114,7 +114,7 @@ pipe_complete-kept id f g kept is =
 
 -- ---- FREE
 
-pub comp_free-kept : (id : ℕ) (f g : FwState) → IsKeptState f → comp_free f id ≡ Ok g → IsKeptState g
+pub comp_free-kept : (id : ℕ) (f g : FwState) → FirmwareInvariant f → comp_free f id ≡ Ok g → FirmwareInvariant g
 comp_free-kept id f g kept is =
     let new : FwState = without_comp id f in
     let wrong : Bool = not (has_comp f.graph id) || list_any (touches id) f.graph.joins in
@@ -124,7 +124,7 @@ comp_free-kept id f g kept is =
     let parts = or_parts (not (has_comp f.graph id)) (list_any (touches id) f.graph.joins) right.0 in
     done new g right.1 (kept-comp_free f kept id (not-false (has_comp f.graph id) parts.0) parts.1)
 
-pub buffer_free-kept : (id : ℕ) (f g : FwState) → IsKeptState f → buffer_free f id ≡ Ok g → IsKeptState g
+pub buffer_free-kept : (id : ℕ) (f g : FwState) → FirmwareInvariant f → buffer_free f id ≡ Ok g → FirmwareInvariant g
 buffer_free-kept id f g kept is =
     let new : FwState = without_buffer id f in
     let wrong : Bool = (not (has_edge f.graph id) || is_held f.graph f.streams id) || not (stays (view_of f) (without_edge id f.graph)) in
@@ -135,11 +135,11 @@ buffer_free-kept id f g kept is =
     let parts = or_parts (not (has_edge f.graph id)) (is_held f.graph f.streams id) stay.0 in
     done new g right.1 (kept-buffer_free f kept id (not-false (has_edge f.graph id) parts.0) parts.1 (not-false (stays (view_of f) (without_edge id f.graph)) stay.1))
 
-pub pipe_free-kept : (id : ℕ) (f g : FwState) → IsKeptState f → pipe_free f id ≡ Ok g → IsKeptState g
+pub pipe_free-kept : (id : ℕ) (f g : FwState) → FirmwareInvariant f → pipe_free f id ≡ Ok g → FirmwareInvariant g
 pipe_free-kept id f g kept is =
     by (find (λ p. p.id == id) f.graph.pipes) refl (pass (not (is_used f.graph id)) no_device (free_pipe f id (find (λ p. p.id == id) f.graph.pipes)) g is).1
   where
-    by : (o : Option Pipe) → find (λ p. p.id == id) f.graph.pipes ≡ o → free_pipe f id o ≡ Ok g → IsKeptState g
+    by : (o : Option Pipe) → find (λ p. p.id == id) f.graph.pipes ≡ o → free_pipe f id o ≡ Ok g → FirmwareInvariant g
     by None found e = absurd (cc e)
     by (Some p) found e =
         let free = pass (is_index_held f.graph f.streams p.index) invalid (Ok (without_pipe id f)) g e in
@@ -157,23 +157,23 @@ pub values-other : (found : Option Comp) (command : ℕ) (values : List ℕ) (se
 values-other None command values setting is other = absurd (cc is)
 values-other (Some c) command values setting is other = new-other c.kind c.setting command values setting is other
 
-pub set_value-kept : (id command : ℕ) (values : List ℕ) (f g : FwState) → IsKeptState f → set_value f id command values ≡ Ok g → IsKeptState g
+pub set_value-kept : (id command : ℕ) (values : List ℕ) (f g : FwState) → FirmwareInvariant f → set_value f id command values ≡ Ok g → FirmwareInvariant g
 set_value-kept id command values f g kept is =
     by (option_and_then (λ c. new_setting c.kind c.setting command values) (comp_of f.graph id)) refl
     (pass (not (is_used f.graph id)) no_device (value_set f id (option_and_then (λ c. new_setting c.kind c.setting command values) (comp_of f.graph id))) g is).1
   where
-    by : (o : Option Setting) → option_and_then (λ c. new_setting c.kind c.setting command values) (comp_of f.graph id) ≡ o → value_set f id o ≡ Ok g → IsKeptState g
+    by : (o : Option Setting) → option_and_then (λ c. new_setting c.kind c.setting command values) (comp_of f.graph id) ≡ o → value_set f id o ≡ Ok g → FirmwareInvariant g
     by None named e = absurd (cc e)
     by (Some setting) named e = by_kind (is_of f.graph is_volume id) refl e
       where
         right : (c : Comp) → comp_of f.graph id ≡ Some c → IsSettingOf c.kind setting
         right = values-fit f.graph id command values setting kept.settings named
 
-        by_kind : (h : Bool) → is_of f.graph is_volume id ≡ h → ◌≡◌ {A = Result FwState ℤ} (Ok (cond h (seen (with_setting_at f id setting) (Some id) f) (record f { graph = (with_setting_at f id setting).graph }))) (Ok g) → IsKeptState g
+        by_kind : (h : Bool) → is_of f.graph is_volume id ≡ h → ◌≡◌ {A = Result FwState ℤ} (Ok (cond h (seen (with_setting_at f id setting) (Some id) f) (record f { graph = (with_setting_at f id setting).graph }))) (Ok g) → FirmwareInvariant g
         by_kind true volume is = done (seen (with_setting_at f id setting) (Some id) f) g is (kept-marked f kept id setting right (values-many f.graph id command values setting kept.settings named))
         by_kind false other is = done (record f { graph = (with_setting_at f id setting).graph }) g is (kept-setting f kept id setting right (values-other (comp_of f.graph id) command values setting named other))
 
-pub get_value-kept : (id command : ℕ) (f g : FwState) → IsKeptState f → get_value f id command ≡ Ok g → IsKeptState g
+pub get_value-kept : (id command : ℕ) (f g : FwState) → FirmwareInvariant f → get_value f id command ≡ Ok g → FirmwareInvariant g
 get_value-kept id command f g kept is =
     let used = pass (not (is_used f.graph id)) no_device (cond (not (is_some (control_values_at f.graph id command))) (Err invalid) (Ok f)) g is in
     done f g (pass (not (is_some (control_values_at f.graph id command))) invalid (Ok f) g used.1).1 kept
@@ -183,13 +183,13 @@ none-of : {X : Type 0} (o : Option X) → is_none o ≡ true → o ≡ None
 none-of None is = refl
 none-of (Some x) is = absurd (true≢false (sym is))
 
-pub part_staged-kept : (id : ℕ) (part : Part) → IsPart part → (f g : FwState) → IsKeptState f → has_kind is_equaliser (kind_at f.graph id) ≡ true → keeps_order (staging_at f id) part ≡ true → part_staged f id (staged_bytes (staging_at f id) part) part ≡ Ok g → IsKeptState g
+pub part_staged-kept : (id : ℕ) (part : Part) → IsPart part → (f g : FwState) → FirmwareInvariant f → has_kind is_equaliser (kind_at f.graph id) ≡ true → keeps_order (staging_at f id) part ≡ true → part_staged f id (staged_bytes (staging_at f id) part) part ≡ Ok g → FirmwareInvariant g
 part_staged-kept id part are f g kept equaliser order is = by (part.remaining == 0) refl is
   where
     found : (s : Staging) → staging_at f id ≡ Some s → IsStaged f.graph s
     found s is = staged-found f.graph id f.staging kept.staging s is
 
-    by : (h : Bool) → (part.remaining == 0) ≡ h → cond (not h) (Ok (with_staged id (staged_bytes (staging_at f id) part) part f)) (cond (not (is_blob (staged_bytes (staging_at f id) part))) (Err invalid) (Ok (blob_installed id (staged_bytes (staging_at f id) part) f))) ≡ Ok g → IsKeptState g
+    by : (h : Bool) → (part.remaining == 0) ≡ h → cond (not h) (Ok (with_staged id (staged_bytes (staging_at f id) part) part f)) (cond (not (is_blob (staged_bytes (staging_at f id) part))) (Err invalid) (Ok (blob_installed id (staged_bytes (staging_at f id) part) f))) ≡ Ok g → FirmwareInvariant g
     by true last e =
         let whole = pass (not (is_blob (staged_bytes (staging_at f id) part))) invalid (Ok (blob_installed id (staged_bytes (staging_at f id) part) f)) g e in
         done (blob_installed id (staged_bytes (staging_at f id) part) f) g whole.1
@@ -197,7 +197,7 @@ part_staged-kept id part are f g kept equaliser order is = by (part.remaining ==
         (blob-from_no_fault (staged_bytes (staging_at f id) part) (staged-bytes f.graph id part are (staging_at f id) found) (none-of (blob_fault (staged_bytes (staging_at f id) part)) (not-false (is_blob (staged_bytes (staging_at f id) part)) whole.0))))
     by false more e = done (with_staged id (staged_bytes (staging_at f id) part) part f) g e (kept-staged f kept (record { eq = id; bytes = staged_bytes (staging_at f id) part; next = part.index + 1; remaining = part.remaining }) (staged-more f.graph id part are (staging_at f id) found equaliser order more))
 
-pub set_data-kept : (id : ℕ) (part : Part) → IsPart part → (f g : FwState) → IsKeptState f → set_data f id part ≡ Ok g → IsKeptState g
+pub set_data-kept : (id : ℕ) (part : Part) → IsPart part → (f g : FwState) → FirmwareInvariant f → set_data f id part ≡ Ok g → FirmwareInvariant g
 set_data-kept id part are f g kept is =
     let rest : Result FwState ℤ = part_staged f id (staged_bytes (staging_at f id) part) part in
     let wrong : Bool = not (has_kind is_equaliser (kind_at f.graph id)) || not (keeps_order (staging_at f id) part) in
@@ -206,14 +206,14 @@ set_data-kept id part are f g kept is =
     let tests = or_parts (not (has_kind is_equaliser (kind_at f.graph id))) (not (keeps_order (staging_at f id) part)) right.0 in
     part_staged-kept id part are f g kept (not-false (has_kind is_equaliser (kind_at f.graph id)) tests.0) (not-false (keeps_order (staging_at f id) part) tests.1) right.1
 
-pub get_data-kept : (id index : ℕ) (f g : FwState) → IsKeptState f → get_data f id index ≡ Ok g → IsKeptState g
+pub get_data-kept : (id index : ℕ) (f g : FwState) → FirmwareInvariant f → get_data f id index ≡ Ok g → FirmwareInvariant g
 get_data-kept id index f g kept is =
     let used = pass (not (is_used f.graph id)) no_device (cond (not (is_some (part_at f.graph id index))) (Err invalid) (Ok f)) g is in
     done f g (pass (not (is_some (part_at f.graph id index))) invalid (Ok f) g used.1).1 kept
 
 -- ---- PCM_PARAMS, PCM_FREE and the triggers
 
-pub pcm_params-kept : (host direction : ℕ) (p : Params) → is_channels p.channels ≡ true → (f g : FwState) → IsKeptState f → pcm_params f host direction p ≡ Ok g → IsKeptState g
+pub pcm_params-kept : (host direction : ℕ) (p : Params) → is_channels p.channels ≡ true → (f g : FwState) → FirmwareInvariant f → pcm_params f host direction p ≡ Ok g → FirmwareInvariant g
 pcm_params-kept host direction p few f g kept is =
     let new : FwState = seen (with_params f host p) None f in
     let wrong : Bool = is_refused_params (view_of f) host direction p (is_stream_phase is_live_phase (phase_at f host)) in
@@ -224,7 +224,7 @@ pcm_params-kept host direction p few f g kept is =
     done new g right.1 (kept-streams f kept (set_stream host Prepared (Some p)) (keeps-params host p f.streams kept.played.hosts tests.1)
     (played-params f.graph host p f.streams (leb-true 1 p.channels bounds.0, leb-true p.channels 8 bounds.1) tests.2 tests.3 tests.4 kept.played))
 
-pub pcm_free-kept : (host : ℕ) (f g : FwState) → IsKeptState f → pcm_free f host ≡ Ok g → IsKeptState g
+pub pcm_free-kept : (host : ℕ) (f g : FwState) → FirmwareInvariant f → pcm_free f host ≡ Ok g → FirmwareInvariant g
 pcm_free-kept host f g kept is =
     let new : FwState = seen (record { graph = f.graph; streams = map (set_stream host Idle None) f.streams }) None f in
     let wrong : Bool = not (has_kind is_host (kind_at f.graph host) && is_stream_phase is_prepared (phase_at f host)) in
@@ -238,7 +238,7 @@ awake : (from : Phase → Bool) → ((p : Phase) → from p ≡ true → not (is
 awake from leaves None e = e
 awake from leaves (Some p) e = leaves p e
 
-pub trigger-kept : (host : ℕ) (from : Phase → Bool) (to : Phase) → ((p : Phase) → from p ≡ true → not (is_idle p) ≡ true) → is_idle to ≡ false → (f g : FwState) → IsKeptState f → trigger f host from to ≡ Ok g → IsKeptState g
+pub trigger-kept : (host : ℕ) (from : Phase → Bool) (to : Phase) → ((p : Phase) → from p ≡ true → not (is_idle p) ≡ true) → is_idle to ≡ false → (f g : FwState) → FirmwareInvariant f → trigger f host from to ≡ Ok g → FirmwareInvariant g
 trigger-kept host from to leaves stays f g kept is =
     let new : FwState = seen (record { graph = f.graph; streams = map (set_phase host to) f.streams }) None f in
     let wrong : Bool = not (has_kind is_host (kind_at f.graph host) && is_stream_phase from (phase_at f host)) in
@@ -273,10 +273,10 @@ leaves-paused Paused e = refl
 
 -- ---- all rows
 
-pub ctx_save-kept : (f g : FwState) → IsKeptState f → ◌≡◌ {A = Result FwState ℤ} (Ok f) (Ok g) → IsKeptState g
+pub ctx_save-kept : (f g : FwState) → FirmwareInvariant f → ◌≡◌ {A = Result FwState ℤ} (Ok f) (Ok g) → FirmwareInvariant g
 ctx_save-kept f g kept is = done f g is kept
 
-pub row-kept : (m : Message) → IsAllowed m → HasBytes m → (f g : FwState) → IsKeptState f → row f m ≡ Ok g → IsKeptState g
+pub row-kept : (m : Message) → IsAllowed m → HasBytes m → (f g : FwState) → FirmwareInvariant f → row f m ≡ Ok g → FirmwareInvariant g
 row-kept (messages.CompNew id pipe periods_sink periods_source frame_fmt kind) allowed bytes f g kept is = comp_new-kept id pipe (kind_of kind frame_fmt) (first_setting kind) (first_ramp kind) (first-fits kind frame_fmt allowed) (first-ramps kind frame_fmt) f g kept is
 row-kept (messages.CompFree id) allowed bytes f g kept is = comp_free-kept id f g kept is
 row-kept (messages.BufferNew id pipe size caps) allowed bytes f g kept is = buffer_new-kept id pipe size allowed f g kept is
@@ -298,14 +298,14 @@ row-kept (messages.TrigRelease id) allowed bytes f g kept is = trigger-kept id i
 row-kept messages.CtxSave allowed bytes f g kept is = ctx_save-kept f g kept is
 
 -- the step of bytes that are decoded to messages none of whose words is refused
-pub step-kept : (f : FwState) (request : List ℕ) → IsBytes request → ((m : Message) → decoded request ≡ Ok m → IsMessage m × Means request m) → IsKeptState f → IsKeptState (step f request).0
+pub step-kept : (f : FwState) (request : List ℕ) → IsBytes request → ((m : Message) → decoded request ≡ Ok m → IsMessage m × Means request m) → FirmwareInvariant f → FirmwareInvariant (step f request).0
 unfolding step
 step-kept f request bytes means kept = by (decoded request) refl
   where
-    after : (m : Message) → IsAllowed m → HasBytes m → (o : Result FwState ℤ) → row f m ≡ o → IsKeptState (replied f (body f m) o).0
+    after : (m : Message) → IsAllowed m → HasBytes m → (o : Result FwState ℤ) → row f m ≡ o → FirmwareInvariant (replied f (body f m) o).0
     after m allowed carried (Ok g) is = row-kept m allowed carried f g kept is
     after m allowed carried (Err e) is = kept
 
-    by : (d : Result Message CodecFault) → decoded request ≡ d → IsKeptState (replied f (body_of f d) (row_of f d)).0
+    by : (d : Result Message CodecFault) → decoded request ≡ d → FirmwareInvariant (replied f (body_of f d) (row_of f d)).0
     by (Ok m) is = after m (means m is).0.1 (means-bytes request m bytes (means m is).1) (row f m) refl
     by (Err fault) is = kept

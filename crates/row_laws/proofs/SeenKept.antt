@@ -25,7 +25,7 @@ use Rattle.stream_law.proofs.Members.{IsIn, in-each, in-all, find-in, in-any, ke
 use Rattle.stream_law.proofs.Ramping.{from-numbers, place-numbers}
 use Rattle.stream_law.proofs.Remembering.{is_of-kinds}
 use Rattle.mbox_link.specs.Step.{kind_at}
-use Rattle.row_laws.specs.Kept.{IsKeptState, IsSettingOf, AreHistories, AreRampNumbers, numbers_held}
+use Rattle.row_laws.specs.Kept.{FirmwareInvariant, IsSettingOf, AreHistories, AreRampNumbers, numbers_held}
 use Rattle.row_laws.proofs.Fewer.{all-both}
 use Rattle.row_laws.proofs.Histories.{IsAlike, held-alike, ramps-alike}
 
@@ -107,11 +107,11 @@ found-held v c (h ∷ hs) all there = by (h.comp == c) refl there (found-held v 
     by false e is rest = rest is
 
 -- all of a state's are
-pub all-held : (f : FwState) → IsKeptState f → AllByRecursion (λ h. AreHeld (view_of f) h.comp h.numbers) f.histories
+pub all-held : (f : FwState) → FirmwareInvariant f → AllByRecursion (λ h. AreHeld (view_of f) h.comp h.numbers) f.histories
 all-held f kept = all-both (λ (h : History). length h.numbers ≡ numbers_held (view_of f) h.comp) (AreRampNumbers (view_of f)) f.histories kept.histories.numbers kept.histories.ramps
 
 -- a Live equaliser or volume has its numbers
-pub numbers-now : (f : FwState) → IsKeptState f → (c : ℕ) → is_among (components f.graph) c ≡ true → remembers (view_of f) c ≡ true → AreHeld (view_of f) c (numbers_in f c)
+pub numbers-now : (f : FwState) → FirmwareInvariant f → (c : ℕ) → is_among (components f.graph) c ≡ true → remembers (view_of f) c ≡ true → AreHeld (view_of f) c (numbers_in f c)
 numbers-now f kept c there is = found-held (view_of f) c f.histories (all-held f kept)
     (ap (λ (ns : List ℕ). is_among ns c) kept.histories.comps ∙ is_among-filter (remembers (view_of f)) (components f.graph) c ∙ and_from (remembers (view_of f) c) (is_among (components f.graph) c) is there)
 
@@ -136,7 +136,7 @@ pub record IsNext (f : FwState) (new : View) (fresh : Option ℕ) : Type 0 where
   pub sizes : (c : ℕ) → is_of new.graph is_volume c ≡ true → length (gains_in new c) ≡ length (gains_in (view_of f) c)
   pub on : (c : ℕ) → is_among (components f.graph) c ≡ true → goes_on (view_of f) new fresh c ≡ true → IsAlike (view_of f) new c
 
-module _ (f : FwState) (kept : IsKeptState f) (new : View) (fresh : Option ℕ) (next : IsNext f new fresh) where
+module _ (f : FwState) (kept : FirmwareInvariant f) (new : View) (fresh : Option ℕ) (next : IsNext f new fresh) where
   abbrev old : View
   old = view_of f
 

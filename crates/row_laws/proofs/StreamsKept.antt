@@ -8,7 +8,7 @@ use Rattle.stream_law.specs.State.{FwState, View, view_of}
 use Rattle.stream_law.specs.Ways.{components, buffers, live}
 use Rattle.stream_law.specs.Seen.{seen}
 use Rattle.row_laws.specs.Played.{AreStreamsPlayable, KeepsLive}
-use Rattle.row_laws.specs.Kept.{IsKeptState}
+use Rattle.row_laws.specs.Kept.{FirmwareInvariant}
 use Rattle.row_laws.proofs.Ascending.{ascends-keys, hosts-kept}
 use Rattle.row_laws.proofs.Histories.{alike-comp}
 use Rattle.row_laws.proofs.Joined.{among-left}
@@ -16,7 +16,7 @@ use Rattle.row_laws.proofs.RingViews.{buffers-seen, seen-twice}
 use Rattle.row_laws.proofs.SeenKept.{IsNext, histories-seen}
 use Rattle.row_laws.proofs.Stays.{shape-stays}
 
-module _ (f : FwState) (kept : IsKeptState f) (to : StreamView → StreamView) (keeps : KeepsLive to f.streams) (played : AreStreamsPlayable (record { graph = f.graph; streams = map to f.streams })) where
+module _ (f : FwState) (kept : FirmwareInvariant f) (to : StreamView → StreamView) (keeps : KeepsLive to f.streams) (played : AreStreamsPlayable (record { graph = f.graph; streams = map to f.streams })) where
   abbrev old : View
   old = view_of f
 
@@ -36,7 +36,7 @@ module _ (f : FwState) (kept : IsKeptState f) (to : StreamView → StreamView) (
         alike-comp old new c refl same.0 same.1;
   }
 
-  pub kept-streams : IsKeptState (seen new None f)
+  pub kept-streams : FirmwareInvariant (seen new None f)
   kept-streams = record {
     comps = kept.comps;
     edges = kept.edges;

@@ -30,7 +30,7 @@ use Rattle.stream_law.proofs.Keyed.{keys-remade}
 use Rattle.stream_law.proofs.Silent.{active-live, frames_to_move-idle}
 use Rattle.stream_law.proofs.Tables.{value_of-updated_cases}
 use Rattle.mbox_link.specs.Exchange.{ticked}
-use Rattle.row_laws.specs.Kept.{IsKeptState, AreRampNumbers, numbers_held}
+use Rattle.row_laws.specs.Kept.{FirmwareInvariant, AreRampNumbers, numbers_held}
 use Rattle.stream_law.proofs.Members.{IsIn, in-each}
 use Rattle.stream_law.proofs.Ramping.{from-numbers, place-numbers}
 use Rattle.row_laws.proofs.RingViews.{seen-each, seen-all}
@@ -241,7 +241,7 @@ numbers-anew : (P : History → Type 0) (a : Audio) (hs : List History) → AllB
 numbers-anew P a [] all = tt
 numbers-anew P a (h ∷ hs) all = (all.0, numbers-anew P a hs all.1)
 
-pub tick-kept : (f : FwState) (io : Io) → IsKeptState f → IsKeptState (ticked (f, io)).0
+pub tick-kept : (f : FwState) (io : Io) → FirmwareInvariant f → FirmwareInvariant (ticked (f, io)).0
 tick-kept f io kept = record {
   comps = kept.comps;
   edges = kept.edges;

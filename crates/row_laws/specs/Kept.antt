@@ -97,7 +97,7 @@ pub record AreAscending (f : FwState) : Type 0 where
 -- component. Pieces and holes share the heap. Graph, settings and streams are as they should be, and no two pipelines have one
 -- index. Each edge has a ring, and a ring in which no frame may lie is empty. Each Live equaliser and volume has its numbers, and
 -- what is staged is within the rules of parts.
-pub record IsKeptState (f : FwState) : Type 0 where
+pub record FirmwareInvariant (f : FwState) : Type 0 where
   pub comps : length f.graph.comps ≤ 128
   pub edges : length f.graph.edges ≤ 128
   pub pipes : length f.graph.pipes ≤ 32

@@ -14,11 +14,11 @@ use Rattle.ipc3_model.specs.Allowed.{is_buffer_size, is_period_allowed, is_chann
 use Rattle.ipc3_model.specs.Meanings.{IsAllowed}
 use Rattle.mbox_link.specs.Step.{comp_new, comp_free, buffer_new, buffer_free, pipe_new, pipe_free, connect, pipe_complete, set_value, get_value, set_data, get_data, pcm_params, pcm_free, trigger, is_prepared, is_paused, row, step, fresh}
 use Rattle.mbox_link.specs.Exchange.{ticked}
-use Rattle.row_laws.specs.Kept.{IsKeptState, IsSettingOf, IsRampOf}
+use Rattle.row_laws.specs.Kept.{FirmwareInvariant, IsSettingOf, IsRampOf}
 
 -- A row that is done keeps what every state keeps. Where it is refused, the state stays as it was.
 abbrev pub RowIsKept : (FwState → Result FwState ℤ) → Type 0
-RowIsKept row = (f g : FwState) → IsKeptState f → row f ≡ Ok g → IsKeptState g
+RowIsKept row = (f g : FwState) → FirmwareInvariant f → row f ≡ Ok g → FirmwareInvariant g
 
 -- ---- one row each
 
@@ -99,12 +99,12 @@ RowKeeps = (m : Message) → IsAllowed m → HasBytes m → RowIsKept (λ f. row
 
 -- the step of any bytes
 abbrev pub StepKeeps : Type 0
-StepKeeps = (f : FwState) (request : List ℕ) → ((i : ℕ) → slice_index request i < 256) → IsKeptState f → IsKeptState (step f request).0
+StepKeeps = (f : FwState) (request : List ℕ) → ((i : ℕ) → slice_index request i < 256) → FirmwareInvariant f → FirmwareInvariant (step f request).0
 
 -- a boot makes a state that is kept, whatever was before it
 abbrev pub BootIsKept : Type 0
-BootIsKept = (heap : ℕ) → IsKeptState (fresh heap)
+BootIsKept = (heap : ℕ) → FirmwareInvariant (fresh heap)
 
 -- a tick, whatever its inputs give
 abbrev pub TickIsKept : Type 0
-TickIsKept = (f : FwState) (io : Io) → IsKeptState f → IsKeptState (ticked (f, io)).0
+TickIsKept = (f : FwState) (io : Io) → FirmwareInvariant f → FirmwareInvariant (ticked (f, io)).0

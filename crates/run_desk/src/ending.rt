@@ -15,7 +15,7 @@ pub struct Ended<P: Dsp> {
 }
 
 /// Says that there is no memory for what comes next, and hands the device back.
-pub fn end_wanting<D: Desk, P: Dsp>(desk: &mut D, dsp: P) -> Ended<P>
+pub fn fail_no_memory<D: Desk, P: Dsp>(desk: &mut D, dsp: P) -> Ended<P>
     ensures said { (next : Todo) → Played D.means (Free next) desk.old [] result.status desk.new }
     ensures same { result.dsp ≡ dsp }
 {

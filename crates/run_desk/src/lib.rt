@@ -10,7 +10,7 @@ mod preparing;
 
 pub use bindings::slot_of;
 pub use counts::say_count;
-pub use ending::{Ended, end_wanting};
+pub use ending::{Ended, fail_no_memory};
 pub use files::{LIMIT, TRACE_LIMIT, fetch, status_of, stop, stop_for};
 pub use lines::{say_at, say_trace_fault, write_rule};
 pub use preparing::{Halt, Ready, prepare, ruled_plan, topology_in};

@@ -6,7 +6,7 @@ use Rattle.stream_law.specs.Table.{list_of}
 use Rattle.sof_desk.specs.Desk.{DeskMeaning, DeskPlace, DeskCall, DeskLed, with_more}
 use Rattle.mbox_link.specs.Calls.{Meaning}
 use Rattle.sof_script.specs.declared.script.Command.{Command}
-use Rattle.sof_session.specs.Seat.{Seat}
+use Rattle.sof_session.specs.SessionView.{SessionView}
 use Rattle.sof_script.specs.Tasks.{Out, Task, Fill, Carry, Turn, AreTurns}
 use Rattle.sof_session.specs.Fills.{bytes_read, may_grow}
 use Rattle.sof_session.specs.Lives.{Life, Bare, Seated, Turned, inputs_of, reads_in, carried_outs}
@@ -37,7 +37,7 @@ module _ {D P : Type 0} (means : DeskMeaning D) (dsp : Meaning P) where
   carries command out = record { task = Carry command; out = out }
 
   abbrev Goes : List Round → Type 0
-  Goes rounds = (turns : List Turn) (calls : List DeskCall) (status : ℕ) (old new : D) (seat : Seat P) (inputs : List InputView) (slots : List ℕ) (rest : ℕ → List ℕ) (last : Life P) →
+  Goes rounds = (turns : List Turn) (calls : List DeskCall) (status : ℕ) (old new : D) (seat : SessionView P) (inputs : List InputView) (slots : List ℕ) (rest : ℕ → List ℕ) (last : Life P) →
       DoneBy (rounds_todo rounds End) turns calls status → DeskLed means old calls new → AreTurns (Fronted dsp) (Seated seat inputs slots) turns last → Unread means inputs rest old → Carried rounds turns status old new rest last
 
   -- from a desk where the same was written
@@ -100,7 +100,7 @@ module _ {D P : Type 0} (means : DeskMeaning D) (dsp : Meaning P) where
         none = λ n none. u.none n (ap (may_grow n) (sym is) ∙ none);
       }
 
-      by_pieces : (turns : List Turn) (seat' : Seat P) (slots' : List ℕ) → AreTurns (Fronted dsp) (Seated seat' inputs' slots') turns last → Through means (pieces_of round out) (rounds_todo rounds End) turns status on.mid new ⊎ Broke means (pieces_of round out) turns status on.mid new → Carried (round ∷ rounds) (fills reads None fill_out ∷ carries command out ∷ turns) status old new rest last
+      by_pieces : (turns : List Turn) (seat' : SessionView P) (slots' : List ℕ) → AreTurns (Fronted dsp) (Seated seat' inputs' slots') turns last → Through means (pieces_of round out) (rounds_todo rounds End) turns status on.mid new ⊎ Broke means (pieces_of round out) turns status on.mid new → Carried (round ∷ rounds) (fills reads None fill_out ∷ carries command out ∷ turns) status old new rest last
       by_pieces turns seat' slots' turned (inl t) =
           before_others turns t.mid t.wrote (others turns t.calls status t.mid new seat' inputs' slots' on.last last t.goes t.led turned (unread_same means inputs' on.last on.mid t.mid t.unread u))
       by_pieces turns seat' slots' turned (inr b) =
@@ -108,7 +108,7 @@ module _ {D P : Type 0} (means : DeskMeaning D) (dsp : Meaning P) where
           subst (λ ts. Carried (round ∷ rounds) (fills reads None fill_out ∷ carries command out ∷ ts) status old new rest last) (sym b.none)
           (last_one b.made b.wrote (inr (b.breaks, refl, b.three)) (ap inputs_of is))
 
-    carried : (reads : List (ℕ × List ℕ)) (fill_out : Out) (turns : List Turn) (later : List DeskCall) (seat : Seat P) (inputs : List InputView) (slots : List ℕ) → ReadOn means reads None later inputs rest old new → DoneBy (unit_todo round (rounds_todo rounds End)) turns later status → AreTurns (Fronted dsp) (Seated seat inputs slots) turns last → Carried (round ∷ rounds) (fills reads None fill_out ∷ turns) status old new rest last
+    carried : (reads : List (ℕ × List ℕ)) (fill_out : Out) (turns : List Turn) (later : List DeskCall) (seat : SessionView P) (inputs : List InputView) (slots : List ℕ) → ReadOn means reads None later inputs rest old new → DoneBy (unit_todo round (rounds_todo rounds End)) turns later status → AreTurns (Fronted dsp) (Seated seat inputs slots) turns last → Carried (round ∷ rounds) (fills reads None fill_out ∷ turns) status old new rest last
     carried reads fill_out [] later seat inputs slots on goes turned = absurd goes
     carried reads fill_out (turn ∷ turns) later seat inputs slots on goes turned =
         let is : turn ≡ carries command turn.out = λ i. record { task = goes.0 i; out = turn.out } in
@@ -123,14 +123,14 @@ module _ {D P : Type 0} (means : DeskMeaning D) (dsp : Meaning P) where
 
     -- ---- after the reads
 
-    stopped : (reads : List (ℕ × List ℕ)) (slot : ℕ) (out : Out) (turns : List Turn) (later : List DeskCall) (seat : Seat P) (inputs : List InputView) (slots : List ℕ) → ReadOn means reads (Some slot) later inputs rest old new → Over 3 turns later status → AreTurns (Fronted dsp) (Seated seat inputs slots) turns last → Carried (round ∷ rounds) (fills reads (Some slot) out ∷ turns) status old new rest last
+    stopped : (reads : List (ℕ × List ℕ)) (slot : ℕ) (out : Out) (turns : List Turn) (later : List DeskCall) (seat : SessionView P) (inputs : List InputView) (slots : List ℕ) → ReadOn means reads (Some slot) later inputs rest old new → Over 3 turns later status → AreTurns (Fronted dsp) (Seated seat inputs slots) turns last → Carried (round ∷ rounds) (fills reads (Some slot) out ∷ turns) status old new rest last
     stopped reads slot out turns later seat inputs slots on over turned =
         let is : last ≡ Seated seat inputs slots = subst (λ ts. AreTurns (Fronted dsp) (Seated seat inputs slots) ts last) over.0 turned in
         subst (λ n. Carried (round ∷ rounds) (fills reads (Some slot) out ∷ turns) n old new rest last) (sym over.2)
         (subst (λ ts. Carried (round ∷ rounds) (fills reads (Some slot) out ∷ ts) 3 old new rest last) (sym over.0)
         (broke_off reads slot out inputs (ap inputs_of is) (subst (λ cs. ReadOn means reads (Some slot) cs inputs rest old new) over.1 on)))
 
-    filled_go : (turn : Turn) (turns : List Turn) (calls : List DeskCall) (seat : Seat P) (inputs : List InputView) (slots : List ℕ) (f : FillTurn turn calls) → MatchOption f.failed (DoneBy (unit_todo round (rounds_todo rounds End)) turns f.later status) (λ slot. Over 3 turns f.later status) → DeskLed means old calls new → AreTurns (Fronted dsp) (Seated seat inputs slots) (turn ∷ turns) last → Unread means inputs rest old → Carried (round ∷ rounds) (turn ∷ turns) status old new rest last
+    filled_go : (turn : Turn) (turns : List Turn) (calls : List DeskCall) (seat : SessionView P) (inputs : List InputView) (slots : List ℕ) (f : FillTurn turn calls) → MatchOption f.failed (DoneBy (unit_todo round (rounds_todo rounds End)) turns f.later status) (λ slot. Over 3 turns f.later status) → DeskLed means old calls new → AreTurns (Fronted dsp) (Seated seat inputs slots) (turn ∷ turns) last → Unread means inputs rest old → Carried (round ∷ rounds) (turn ∷ turns) status old new rest last
     filled_go turn turns calls seat inputs slots f goes led turned u =
         let is : turn ≡ fills f.reads f.failed turn.out = λ i. record { task = f.task i; out = turn.out } in
         (elim turned.0 as (λ (m : Life P). Turned dsp (Fill f.reads f.failed) turned.1.0 (Seated seat inputs slots) m → AreTurns (Fronted dsp) m turns last → Carried (round ∷ rounds) (turn ∷ turns) status old new rest last) [

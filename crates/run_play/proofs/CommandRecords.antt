@@ -33,7 +33,7 @@ use Rattle.host_widgets.specs.ActRules.{ActRules}
 use Rattle.host_widgets.specs.OneAct.{Performed, act_rules, one_act}
 use Rattle.host_widgets.specs.Walk.{Walked, goes_past, walk}
 use Rattle.host_widgets.specs.ActCalls.{ActDid, ActsDid, Onwards, calls_of, next_of}
-use Rattle.host_widgets.specs.Orders.{Order, Manner, Plain, Loading, Resuming, Suspending, Carried, goes_on_after_refusal, end_by, where_on, sends}
+use Rattle.host_widgets.specs.Orders.{Procedure, Ending, Plain, Loading, Resuming, Suspending, Carried, goes_on_after_refusal, end_by, where_on, sends}
 use Rattle.host_widgets.specs.Routines.{JobDone, order_job, walk_routine}
 use Rattle.ipc3_trace.specs.Tracing.{Traced, tracer}
 use Rattle.ipc3_trace.specs.Steps.{Deed, Start, Stop, Wait}
@@ -64,8 +64,8 @@ where-few On moment = omega arith
 where-few Unloaded moment = omega arith
 where-few Off moment = omega arith
 
-sends-first : (kept : Record) (power : Power) (o : Order) (s : IsSent kept o) → kept.power ≡ power → length o.first ≤ 1
-sends-first kept power o s is = subst (λ (x : Order). length x.first ≤ 1) (sym s.is) (by kept.power)
+sends-first : (kept : Record) (power : Power) (o : Procedure) (s : IsSent kept o) → kept.power ≡ power → length o.first ≤ 1
+sends-first kept power o s is = subst (λ (x : Procedure). length x.first ≤ 1) (sym s.is) (by kept.power)
   where
     by : (p : Power) → length (sends p s.acts s.done s.answer).first ≤ 1
     by On = omega arith
@@ -89,7 +89,7 @@ first-few plan sound kept is command none = by (asking command)
     by None = omega arith
     by (Some (name, ask)) = sends-first kept kept.power (asked_order plan kept (Some (name, ask))) (sent-stream plan kept name ask) refl
 
-last-few : (manner : Manner) (plan : Plan) (done : Record → Record) (start now : Record) (outcome : Outcome) → length (end_by manner plan done start now outcome).1 ≤ 1
+last-few : (ending : Ending) (plan : Plan) (done : Record → Record) (start now : Record) (outcome : Outcome) → length (end_by ending plan done start now outcome).1 ≤ 1
 last-few Plain plan done start now (Ok passed) = omega arith
 last-few Plain plan done start now (Err LinkDown) = omega arith
 last-few Plain plan done start now (Err fault) = omega arith
@@ -265,13 +265,13 @@ module _ {P : Type 0} (device : Meaning P) (C : Type 0) (plan : Plan) (heap : �
 
   -- ---- an order
 
-  module _ (o : Order) (kept kept' : Record) (w v : World (Wire (Traced P))) (result : Outcome) (c : Carried (link T) plan heap o kept kept' w v result) (fated : IsFated w.device) (none : T.pending w.device.device ≡ 0) (quiet : IsCalm w v)
+  module _ (o : Procedure) (kept kept' : Record) (w v : World (Wire (Traced P))) (result : Outcome) (c : Carried (link T) plan heap o kept kept' w v result) (fated : IsFated w.device) (none : T.pending w.device.device ≡ 0) (quiet : IsCalm w v)
       (so : C → DidSo calm w.device.sent w.device.entries c.meetings) where
     abbrev goes_on : Bool
-    goes_on = goes_on_after_refusal o.manner
+    goes_on = goes_on_after_refusal o.ending
 
     abbrev last_of : {Q : Type 0} → Walked Record Act Q → List Moment
-    last_of x = (end_by o.manner plan o.done kept x.kept x.outcome).1
+    last_of x = (end_by o.ending plan o.done kept x.kept x.outcome).1
 
     abbrev met : Walked Record Act (List Meeting)
     met = walk R goes_on next_of kept c.meetings o.acts
@@ -306,7 +306,7 @@ module _ {P : Type 0} (device : Meaning P) (C : Type 0) (plan : Plan) (heap : �
     same-last : C → last_of met ≡ last_of (written (queue_of w.device))
     same-last x =
         let agreed = walks-agree T R goes_on calm o.acts c.meetings kept c.begun c.sent c.walked begun_none begun_fated.held (begun_so x) in
-        (λ i. (end_by o.manner plan o.done kept (agreed.same.left i) (agreed.same.outcome i)).1) ∙ ap (λ (q : Queue). last_of (written q)) before.queue
+        (λ i. (end_by o.ending plan o.done kept (agreed.same.left i) (agreed.same.outcome i)).1) ∙ ap (λ (q : Queue). last_of (written q)) before.queue
 
     pub order-leaves : length o.first ≤ 1 → L (inner w) (inner v) (order_deeds plan heap (known_of w.device kept) o) (784 + 912 * length o.acts)
     order-leaves few =
@@ -316,7 +316,7 @@ module _ {P : Type 0} (device : Meaning P) (C : Type 0) (plan : Plan) (heap : �
         let e = deeds_at goes_on kept (queue_of c.begun.device) o.acts in
         let f = moment_deeds heap (last_of met) in
         within device C (inner w) (inner v) (order_deeds plan heap (known_of w.device kept) o) (392 * length o.first + (912 * length o.acts + 392 * length (last_of met))) (784 + 912 * length o.acts)
-        (omega (arith, few, last-few o.manner plan o.done kept met.kept met.outcome))
+        (omega (arith, few, last-few o.ending plan o.done kept met.kept met.outcome))
         (retold device C (inner w) (inner v) (d ++ (e ++ f)) (order_deeds plan heap (known_of w.device kept) o) (392 * length o.first + (912 * length o.acts + 392 * length (last_of met)))
         (λ x i. d ++ (deeds_at goes_on kept (before.queue i) o.acts ++ moment_deeds heap (same-last x i)))
         (append-leaves device C (inner w) (inner c.begun) (inner v) d (e ++ f) (392 * length o.first) (912 * length o.acts + 392 * length (last_of met)) first
@@ -338,7 +338,7 @@ met-calm doing none sent entries (m ∷ ms) as_met =
     by Lose is = refl
 
 -- An order whose job is done was carried out, and its messages met the same.
-job-met : {D : Type 0} (means : Meaning D) (plan : Plan) (heap : ℕ) (o : Order) (kept kept' : Record) (w v : World D) (result : Outcome) (j : JobDone means (act_rules plan heap) heap (order_job plan kept o) kept' w v result) →
+job-met : {D : Type 0} (means : Meaning D) (plan : Plan) (heap : ℕ) (o : Procedure) (kept kept' : Record) (w v : World D) (result : Outcome) (j : JobDone means (act_rules plan heap) heap (order_job plan kept o) kept' w v result) →
     (c : Carried means plan heap o kept kept' w v result) × (j.meetings ≡ c.meetings)
 job-met means plan heap o kept kept' w v result j =
     let early = j.did.0 in
@@ -361,7 +361,7 @@ module _ {P : Type 0} (device : Meaning P) (plan : Plan) (heap : ℕ) (command :
   abbrev C : Type 0
   C = Calm (tracer device) w.device.device v.device.device
 
-  abbrev o : Order
+  abbrev o : Procedure
   o = order_of plan kept command
 
   -- Its calls leave records in front of which there is room, each of which a reader takes; and those of its deeds, where no count rose.

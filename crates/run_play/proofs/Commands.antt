@@ -21,7 +21,7 @@ use Rattle.host_dynamic.specs.Dynamic.{UpState}
 use Rattle.tplg_plan.specs.declared.plans.Plan.{Plan}
 use Rattle.sof_session.specs.Commands.{Known, command_rules}
 use Rattle.sof_session.specs.Agreement.{AreAgreed}
-use Rattle.sof_session.specs.Seat.{Seat, with_device}
+use Rattle.sof_session.specs.SessionView.{SessionView, with_device}
 use Rattle.sof_session.specs.SessionStep.{CommandDone}
 use Rattle.sof_session.specs.Modes.{SteppedBy, DoneWith, up_state_of, lines_in, shown_in}
 use Rattle.sof_session.specs.UpCommands.{up_rules}
@@ -273,7 +273,7 @@ some-up None is = absurd (false≢true is)
 some-up (Some up) is = refl
 
 -- and one that shows leaves the record and what is up
-pub show_stays : {P : Type 0} (means : Meaning P) (command : Command) (seat seat' : Seat P) (w v : World (Wire P)) (answer : Answer) → SteppedBy means command seat seat' w v answer → command ≡ commands.Show → (seat'.kept ≡ seat.kept) × (seat'.up ≡ seat.up)
+pub show_stays : {P : Type 0} (means : Meaning P) (command : Command) (seat seat' : SessionView P) (w v : World (Wire P)) (answer : Answer) → SteppedBy means command seat seat' w v answer → command ≡ commands.Show → (seat'.kept ≡ seat.kept) × (seat'.up ≡ seat.up)
 show_stays means command seat seat' w v answer stepped is = by seat.up refl stepped.did
   where
     by : (up : Option (List ℕ)) → seat.up ≡ up → DoneWith means stepped.doing up command seat seat' w v answer → (seat'.kept ≡ seat.kept) × (seat'.up ≡ seat.up)
@@ -288,7 +288,7 @@ show_stays means command seat seat' w v answer stepped is = by seat.up refl step
         )
 
 -- a session's step is a turn
-pub carries_on : {P : Type 0} (means : Meaning P) (command : Command) (seat seat' : Seat P) (inputs inputs' : List InputView) (outputs outputs' : List OutputView) (answer : Answer) →
+pub carries_on : {P : Type 0} (means : Meaning P) (command : Command) (seat seat' : SessionView P) (inputs inputs' : List InputView) (outputs outputs' : List OutputView) (answer : Answer) →
     drained outputs ≡ outputs → SteppedBy means command seat seat' (world seat.link inputs outputs) (world seat'.link inputs' outputs') answer → input_ends inputs' ≡ input_ends inputs → seat'.plan ≡ seat.plan → seat'.heap ≡ seat.heap → AreAgreed means seat' →
     Turned means (Carry command) (record { answer = answer; shown = shown_in command seat.up seat.plan seat.kept; written = written_in outputs' }) (Seated seat inputs (output_slots outputs)) (Seated seat' inputs' (output_slots outputs))
 carries_on means command seat seat' inputs inputs' outputs outputs' answer empty stepped ends plan heap agreed = (
@@ -306,7 +306,7 @@ carries_on means command seat seat' inputs inputs' outputs outputs' answer empty
 )
 
 -- and what its device holds is written before all else, and let go
-pub kept_on : {K : Type 0} (means : Meaning K) (holds : K → List ℕ) (empties : K → K → Type 0) (command : Command) (seat left seat' : Seat K) (inputs inputs' : List InputView) (outputs outputs' : List OutputView) (answer : Answer) →
+pub kept_on : {K : Type 0} (means : Meaning K) (holds : K → List ℕ) (empties : K → K → Type 0) (command : Command) (seat left seat' : SessionView K) (inputs inputs' : List InputView) (outputs outputs' : List OutputView) (answer : Answer) →
     drained outputs ≡ outputs → SteppedBy means command seat left (world seat.link inputs outputs) (world left.link inputs' outputs') answer → input_ends inputs' ≡ input_ends inputs → left.plan ≡ seat.plan → left.heap ≡ seat.heap → AreAgreed means left →
     Drained means empties left.link.device seat'.link.device → seat' ≡ with_device left seat'.link.device →
     KeptTurn means holds empties (Carry command) (record { answer = answer; shown = shown_in command seat.up seat.plan seat.kept; written = with_bytes trace_slot (holds left.link.device) (written_in outputs') })
@@ -322,5 +322,5 @@ kept_on means holds empties command seat left seat' inputs inputs' outputs outpu
 
 -- the same slots, stated otherwise
 module _ {D P : Type 0} (means : DeskMeaning D) (by : Turning (Life P)) where
-  pub same_slots : (phase : Todo → Todo) (done : Bool) (old new : D) (p : Life P) (seat : Seat P) (inputs : List InputView) (slots slots' : List ℕ) → slots' ≡ slots → Phase means by phase done old p new (Seated seat inputs slots) → Phase means by phase done old p new (Seated seat inputs slots')
+  pub same_slots : (phase : Todo → Todo) (done : Bool) (old new : D) (p : Life P) (seat : SessionView P) (inputs : List InputView) (slots slots' : List ℕ) → slots' ≡ slots → Phase means by phase done old p new (Seated seat inputs slots) → Phase means by phase done old p new (Seated seat inputs slots')
   same_slots phase done old new p seat inputs slots slots' same made = subst (λ (xs : List ℕ). Phase means by phase done old p new (Seated seat inputs xs)) (sym same) made

@@ -19,7 +19,7 @@ use Rattle.sof_script.specs.declared.script.Command.{Command}
 use Rattle.sof_session.specs.Agreement.{AreAgreed}
 use Rattle.sof_script.specs.Commands.{Read}
 use Rattle.sof_session.specs.Modes.{made_at_load, IsInMode, CommandDoneIn}
-use Rattle.sof_session.specs.Seat.{Seat, first_up, with_device}
+use Rattle.sof_session.specs.SessionView.{SessionView, first_up, with_device}
 use Rattle.sof_session.specs.SessionStep.{Calm, known_of}
 use Rattle.sof_session.proofs.Draining.{AreAgreed-drained}
 use Rattle.sof_session.proofs.LoadMode.{load-stepped}
@@ -75,11 +75,11 @@ module _ {P : Type 0} (means : Meaning P) where
   abbrev Untraced : Task → Out → Life P → Life P → Type 0
   Untraced = KeptTurn means (λ (d : P). []) (λ (old new : P). new ≡ old)
 
-  bare-carry : (command : Command) (out : Out) (old : Life P) (seat' : Seat P) (inputs' : List InputView) (slots' : List ℕ) → KeptCarry means (λ (d : P). []) (λ (old new : P). new ≡ old) command out old seat' inputs' slots' → Turned means (Carry command) out old (Seated seat' inputs' slots')
+  bare-carry : (command : Command) (out : Out) (old : Life P) (seat' : SessionView P) (inputs' : List InputView) (slots' : List ℕ) → KeptCarry means (λ (d : P). []) (λ (old new : P). new ≡ old) command out old seat' inputs' slots' → Turned means (Carry command) out old (Seated seat' inputs' slots')
   bare-carry command out old seat' inputs' slots' k =
       let same : seat' ≡ k.left = k.rest ∙ ap (with_device k.left) k.emptied.did in
       subst (λ (o : Out). Turned means (Carry command) o old (Seated seat' inputs' slots')) (sym k.out_is)
-      (subst (λ (s : Seat P). Turned means (Carry command) k.bare old (Seated s inputs' slots')) (sym same) k.turned)
+      (subst (λ (s : SessionView P). Turned means (Carry command) k.bare old (Seated s inputs' slots')) (sym same) k.turned)
 
   bare-turn : (task : Task) (out : Out) (old new : Life P) → Untraced task out old new → Turned means task out old new
   bare-turn (Begin on_use plan heap inputs slots) out (Bare dsp) new turned = turned.0
@@ -133,7 +133,7 @@ module _ {P : Type 0} (means : Meaning P) where
   ByTracer = KeptTurn T holds Emptied
 
   -- nothing is held, and a session makes all pipelines at a load, and its two sides agree
-  abbrev IsCleanSeat : Seat (Traced P) → Type 0
+  abbrev IsCleanSeat : SessionView (Traced P) → Type 0
   IsCleanSeat seat = (seat.link.device.held ≡ no_records) × IsInMode made_at_load seat × AreAgreed T seat
 
   abbrev Clean : Life (Traced P) → Type 0
@@ -155,9 +155,9 @@ module _ {P : Type 0} (means : Meaning P) where
 
   -- ---- a command
 
-  module _ (command : Command) (out : Out) (seat seat' : Seat (Traced P)) (inputs inputs' : List InputView) (slots slots' : List ℕ) (clean : seat.link.device.held ≡ no_records) (mode_is : IsInMode made_at_load seat) (agreed : AreAgreed T seat)
+  module _ (command : Command) (out : Out) (seat seat' : SessionView (Traced P)) (inputs inputs' : List InputView) (slots slots' : List ℕ) (clean : seat.link.device.held ≡ no_records) (mode_is : IsInMode made_at_load seat) (agreed : AreAgreed T seat)
       (k : KeptCarry T holds Emptied command out (Seated seat inputs slots) seat' inputs' slots') where
-    abbrev left : Seat (Traced P)
+    abbrev left : SessionView (Traced P)
     left = k.left
 
     abbrev c : Carries T command k.bare seat left inputs inputs' slots
@@ -197,7 +197,7 @@ module _ {P : Type 0} (means : Meaning P) where
     pub clean-after : Clean (Seated seat' inputs' slots')
     clean-after = (
       ap (λ (t : Traced P). t.held) device-is,
-      ap (λ (s : Seat (Traced P)). is_some s.up) k.rest ∙ did.stays,
+      ap (λ (s : SessionView (Traced P)). is_some s.up) k.rest ∙ did.stays,
       subst (AreAgreed T) (sym k.rest) (AreAgreed-drained T left seat'.link.device k.emptied.on k.emptied.quiet c.agrees),
     )
 
@@ -214,7 +214,7 @@ module _ {P : Type 0} (means : Meaning P) where
     }
 
     pub turned-bare : Turned means (Carry command) k.bare (bare_life (Seated seat inputs slots)) (bare_life (Seated seat' inputs' slots'))
-    turned-bare = subst (λ (s : Seat P). Turned means (Carry command) k.bare (Seated (bare_seat seat) inputs slots) (Seated s inputs' slots')) (sym same-bare) (k.turned.0, bare-carries)
+    turned-bare = subst (λ (s : SessionView P). Turned means (Carry command) k.bare (Seated (bare_seat seat) inputs slots) (Seated s inputs' slots')) (sym same-bare) (k.turned.0, bare-carries)
 
     inside : (led : Led means (traced (inner w)) l.calls (traced (inner v))) × (es ≡ entries_along means (traced (inner w)) l.calls (traced (inner v)) led)
     inside = tracer-is-device means (inner w) (inner v) l.calls l.led
@@ -233,7 +233,7 @@ module _ {P : Type 0} (means : Meaning P) where
     }
 
     pub left-bare : LeftBy means command (bare_life (Seated seat inputs slots)) (bare_life (Seated seat' inputs' slots')) es
-    left-bare = subst (λ (s : Seat P). LeftRecords means command (bare_seat seat) s es) (sym same-bare) left-records
+    left-bare = subst (λ (s : SessionView P). LeftRecords means command (bare_seat seat) s es) (sym same-bare) left-records
 
     pub out-bare : out ≡ fronted (records_bytes es) k.bare
     out-bare = k.out_is ∙ ap (λ (bytes : List ℕ). fronted bytes k.bare) bytes-are

@@ -15,7 +15,7 @@ use Rattle.sof_script.specs.declared.script.Command.{Command}
 use Rattle.host_widgets.specs.declared.kept.Record.{Record}
 use Rattle.sof_session.specs.Commands.{Known, command_rules, first_known, next}
 use Rattle.sof_session.specs.Modes.{made_at_load, IsInMode}
-use Rattle.sof_session.specs.Seat.{Seat, new_seat}
+use Rattle.sof_session.specs.SessionView.{SessionView, new_seat}
 use Rattle.sof_session.specs.SessionStep.{Calm, known_of}
 use Rattle.sof_script.specs.Tasks.{Task, Begin, Fill, Carry, Turn}
 use Rattle.sof_session.specs.Written.{empty_outputs}
@@ -52,7 +52,7 @@ module _ {P : Type 0} (means : Meaning P) where
   -- ---- one turn
 
   -- what comes after a turn that fills the inputs
-  after-fill : (reads : List (ℕ × List ℕ)) (next : Option ℕ) (turn : Turn) (turns : List Turn) (seat : Seat P) (inputs : List InputView) (slots : List ℕ) (last : Life P) (turned : Turns means (Seated seat inputs slots) (turn ∷ turns) last) (records : List (List Entry)) →
+  after-fill : (reads : List (ℕ × List ℕ)) (next : Option ℕ) (turn : Turn) (turns : List Turn) (seat : SessionView P) (inputs : List InputView) (slots : List ℕ) (last : Life P) (turned : Turns means (Seated seat inputs slots) (turn ∷ turns) last) (records : List (List Entry)) →
       TurnsLeft means (Seated seat inputs slots) (turn ∷ turns) last turned records → turn.task ≡ Fill reads next →
       (inputs' : List InputView) × (slots' : List ℕ) × (more : Turns means (Seated seat inputs' slots') turns last) × TurnsLeft means (Seated seat inputs' slots') turns last more records
   after-fill reads next turn turns seat inputs slots last turned records kept is =
@@ -63,12 +63,12 @@ module _ {P : Type 0} (means : Meaning P) where
           (inputs' : List InputView) × (slots' : List ℕ) × (more : Turns means (Seated seat inputs' slots') turns last) × TurnsLeft means (Seated seat inputs' slots') turns last more records
       by (Bare dsp) step more left = absurd step
       by (Seated seat' inputs' slots') step more left =
-          let moved = subst (λ (s : Seat P). (more : Turns means (Seated s inputs' slots') turns last) × TurnsLeft means (Seated s inputs' slots') turns last more records) step.0 (more, left) in
+          let moved = subst (λ (s : SessionView P). (more : Turns means (Seated s inputs' slots') turns last) × TurnsLeft means (Seated s inputs' slots') turns last more records) step.0 (more, left) in
           (inputs', slots', moved.0, moved.1)
 
   -- and after one that carries out a command, where all pipelines are made at a load
-  record CarriedOn (command : Command) (turns : List Turn) (seat : Seat P) (last : Life P) (records : List (List Entry)) : Type 0 where
-    after : Seat P
+  record CarriedOn (command : Command) (turns : List Turn) (seat : SessionView P) (last : Life P) (records : List (List Entry)) : Type 0 where
+    after : SessionView P
     inputs : List InputView
     slots : List ℕ
     doing : Doing
@@ -85,7 +85,7 @@ module _ {P : Type 0} (means : Meaning P) where
     more : Turns means (Seated after inputs slots) turns last
     kept : TurnsLeft means (Seated after inputs slots) turns last more rest
 
-  after-carry : (command : Command) (turn : Turn) (turns : List Turn) (seat : Seat P) (inputs : List InputView) (slots : List ℕ) (last : Life P) (turned : Turns means (Seated seat inputs slots) (turn ∷ turns) last) (records : List (List Entry)) →
+  after-carry : (command : Command) (turn : Turn) (turns : List Turn) (seat : SessionView P) (inputs : List InputView) (slots : List ℕ) (last : Life P) (turned : Turns means (Seated seat inputs slots) (turn ∷ turns) last) (records : List (List Entry)) →
       TurnsLeft means (Seated seat inputs slots) (turn ∷ turns) last turned records → turn.task ≡ Carry command → IsInMode made_at_load seat → CarriedOn command turns seat last records
   after-carry command turn turns seat inputs slots last turned records kept is mode_is =
       by turned.0 records (subst (λ (task : Task). Turned means task turn.out (Seated seat inputs slots) turned.0) is turned.1) turned.2
@@ -121,7 +121,7 @@ module _ {P : Type 0} (means : Meaning P) where
 
   module _ (plan : Plan) (heap : ℕ) where
     -- where the records so far lead
-    record IsHere (seat : Seat P) (known : Known Record) (s : Option FwState) : Type 0 where
+    record IsHere (seat : SessionView P) (known : Known Record) (s : Option FwState) : Type 0 where
       mode_is : IsInMode made_at_load seat
       plan_is : seat.plan ≡ plan
       heap_is : seat.heap ≡ heap
@@ -131,13 +131,13 @@ module _ {P : Type 0} (means : Meaning P) where
     abbrev MetOn : List Command → List (List Entry) → Known Record → Option FwState → Life P → Type 0
     MetOn commands records known s last = (records ≡ met_from plan heap known s commands) × AreAlike (means.on (device_of last)) (steps_from s (all_records records))
 
-    met-none : (seat : Seat P) (inputs : List InputView) (slots : List ℕ) (last : Life P) (records : List (List Entry)) (known : Known Record) (s : Option FwState) → last ≡ Seated seat inputs slots → records ≡ [] → AreAlike (means.on seat.link.device) s → MetOn [] records known s last
+    met-none : (seat : SessionView P) (inputs : List InputView) (slots : List ℕ) (last : Life P) (records : List (List Entry)) (known : Known Record) (s : Option FwState) → last ≡ Seated seat inputs slots → records ≡ [] → AreAlike (means.on seat.link.device) s → MetOn [] records known s last
     met-none seat inputs slots last records known s is none alike = (
       none,
       subst (λ (rs : List (List Entry)). AreAlike (means.on (device_of last)) (steps_from s (all_records rs))) (sym none) (subst (λ (l : Life P). AreAlike (means.on (device_of l)) s) (sym is) alike),
     )
 
-    met-on : (commands : List Command) (turns : List Turn) (seat : Seat P) (inputs : List InputView) (slots : List ℕ) (last : Life P) (turned : Turns means (Seated seat inputs slots) turns last) (records : List (List Entry)) →
+    met-on : (commands : List Command) (turns : List Turn) (seat : SessionView P) (inputs : List InputView) (slots : List ℕ) (last : Life P) (turned : Turns means (Seated seat inputs slots) turns last) (records : List (List Entry)) →
         TurnsLeft means (Seated seat inputs slots) turns last turned records → AreFilled commands turns → (known : Known Record) (s : Option FwState) → IsHere seat known s → Calm means seat.link.device (device_of last) → MetOn commands records known s last
     met-on [] [] seat inputs slots last turned records kept are known s here still = met-none seat inputs slots last records known s turned kept here.alike
     met-on [] (turn ∷ []) seat inputs slots last turned records kept are known s here still =

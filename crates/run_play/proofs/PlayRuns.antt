@@ -11,7 +11,7 @@ use Rattle.tplg_plan.specs.Sound.{IsSound}
 use Rattle.sof_script.specs.Commands.{Read}
 use Rattle.sof_script.specs.declared.script.Command.{Command}
 use Rattle.sof_session.specs.Modes.{Mode, made_at_load, made_on_use, basis_in}
-use Rattle.sof_session.specs.Seat.{Seat, seat_in}
+use Rattle.sof_session.specs.SessionView.{SessionView, seat_in}
 use Rattle.sof_session.specs.Fills.{AreWhole, bytes_read}
 use Rattle.sof_session.specs.NewInputs.{AreNew}
 use Rattle.sof_script.specs.Tasks.{Out, Task, Begin, Turn, AreTurns}
@@ -88,7 +88,7 @@ module _ {D P : Type 0} (means : DeskMeaning D) (dsp : Meaning P) (form : Form) 
       by : (ts : List Turn) → turns ≡ ts → AreTurns (Fronted dsp) (Bare p) ts last → (calls : List DeskCall) → DoneBy session ts calls status → DeskLed means mid calls new → Begun
       by [] is turned calls goes led = absurd goes
       by (begins ∷ others) is turned calls goes led =
-          let seat : Seat P = seat_in form.on_use plan form.heap p in
+          let seat : SessionView P = seat_in form.on_use plan form.heap p in
           let seated : turned.0 ≡ Seated seat inputs slots = subst (λ (task : Task). Turned dsp task turned.1.0 (Bare p) turned.0) goes.0 turned.1.1 in
           let u : Unread means inputs (list_of files) mid = record { told = unread.told; none = λ slot none. unread.none slot (grows-new slot inputs unread.new none) } in
           record {

@@ -7,7 +7,7 @@ use Rattle.tplg_plan.specs.declared.plans.Plan.{Plan}
 use Rattle.sof_script.specs.declared.script.Numbered.{Numbered}
 use Rattle.sof_script.specs.Commands.{Read}
 use Rattle.sof_base.specs.Ports.{InputView}
-use Rattle.sof_session.specs.Seat.{seat_in}
+use Rattle.sof_session.specs.SessionView.{seat_in}
 use Rattle.sof_session.specs.Lives.{Life, Bare, Seated}
 use Rattle.sof_script.specs.Tasks.{Turn, Turning, Begin}
 use Rattle.run_desk.specs.declared.preparing.Halt.{Halt}

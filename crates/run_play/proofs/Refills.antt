@@ -10,7 +10,7 @@ use Rattle.sof_io.proofs.InputLaws.{slots-filled_at, slots-ended_at}
 use Rattle.sof_desk.specs.Desk.{DeskMeaning, DeskPlace, Put, DeskCall, DeskLed, Acted, WasRead}
 use Rattle.mbox_link.specs.Calls.{Meaning}
 use Rattle.host_widgets.specs.declared.answers.Answer.TheVariants.{Done}
-use Rattle.sof_session.specs.Seat.{Seat}
+use Rattle.sof_session.specs.SessionView.{SessionView}
 use Rattle.sof_session.specs.Fills.{next_read, after_read}
 use Rattle.sof_session.specs.Lives.{Seated}
 use Rattle.sof_script.specs.Tasks.{Turn, Fill}
@@ -113,7 +113,7 @@ module _ {D : Type 0} (means : DeskMeaning D) where
   abbrev fill_turn : List (ℕ × List ℕ) → Option ℕ → Turn
   fill_turn reads failed = record { task = Fill reads failed; out = record { answer = Done; shown = []; written = [] } }
 
-  module _ {K : Type 0} (dsp : Meaning K) (holds : K → List ℕ) (empties : K → K → Type 0) (seat : Seat K) (slots : List ℕ) (inputs inputs' : List InputView) (old new : D) where
+  module _ {K : Type 0} (dsp : Meaning K) (holds : K → List ℕ) (empties : K → K → Type 0) (seat : SessionView K) (slots : List ℕ) (inputs inputs' : List InputView) (old new : D) where
     pub refill_phase : (done : Bool) → Refilled means done inputs inputs' old new → Phase means (KeptTurn dsp holds empties) Refill done old (Seated seat inputs slots) new (Seated seat inputs' slots)
     refill_phase true r = λ rest status end q ran. record {
       turns = fill_turn r.reads r.failed ∷ ran.turns;

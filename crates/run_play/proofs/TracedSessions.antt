@@ -24,7 +24,7 @@ use Rattle.host_widgets.specs.Routines.{Routine, Finished, Sending, Job, JobDone
 use Rattle.ipc3_trace.specs.Tracing.{Traced, tracer, traced}
 use Rattle.ipc3_trace.proofs.HeldLaws.{tracer-is-device}
 use Rattle.sof_script.specs.declared.script.Command.{Command}
-use Rattle.sof_session.specs.Seat.{Seat}
+use Rattle.sof_session.specs.SessionView.{SessionView}
 use Rattle.sof_session.specs.Agreement.{AreAgreed, Powered, PoweredBy, expected_in}
 use Rattle.sof_session.specs.CommandRules.{CommandRules}
 use Rattle.sof_session.specs.Commands.{command_rules, is_plan}
@@ -41,7 +41,7 @@ bare_wire l = record { device = l.device.device; entries = l.entries; sent = l.s
 abbrev pub bare_world : {P : Type 0} → World (Wire (Traced P)) → World (Wire P)
 bare_world w = record { device = bare_wire w.device; io = w.io }
 
-abbrev pub bare_seat : {P : Type 0} → Seat (Traced P) → Seat P
+abbrev pub bare_seat : {P : Type 0} → SessionView (Traced P) → SessionView P
 bare_seat seat = record { link = bare_wire seat.link; kept = seat.kept; plan = seat.plan; heap = seat.heap; up = seat.up }
 
 abbrev pub bare_life : {P : Type 0} → Life (Traced P) → Life P
@@ -186,7 +186,7 @@ module _ {P : Type 0} (means : Meaning P) where
   }
 
   -- a session's step where all pipelines are made at a load
-  pub stepped-bare : (command : Command) (old new : Seat (Traced P)) (w v : World (Wire (Traced P))) (answer : Answer) → old.up ≡ None →
+  pub stepped-bare : (command : Command) (old new : SessionView (Traced P)) (w v : World (Wire (Traced P))) (answer : Answer) → old.up ≡ None →
       CommandDoneIn (tracer means) made_at_load command old new w v answer → SteppedBy means command (bare_seat old) (bare_seat new) (bare_world w) (bare_world v) answer
   stepped-bare command old new w v answer none c =
       let did : CommandDoneIn means made_at_load command (bare_seat old) (bare_seat new) (bare_world w) (bare_world v) answer =
@@ -203,16 +203,16 @@ module _ {P : Type 0} (means : Meaning P) where
   sides-bare plan view kept dsp On sides = sides
   sides-bare plan view kept dsp Off sides = sides
 
-  powered-bare : (seat : Seat (Traced P)) (power : Power) → Powered (tracer means) seat power → Powered means (bare_seat seat) power
+  powered-bare : (seat : SessionView (Traced P)) (power : Power) → Powered (tracer means) seat power → Powered means (bare_seat seat) power
   powered-bare seat Unloaded powered = powered
   powered-bare seat On powered = powered
   powered-bare seat Off powered = powered
 
-  powered-by-bare : (seat : Seat (Traced P)) (up : Option (List ℕ)) → PoweredBy (tracer means) seat up → PoweredBy means (bare_seat seat) up
+  powered-by-bare : (seat : SessionView (Traced P)) (up : Option (List ℕ)) → PoweredBy (tracer means) seat up → PoweredBy means (bare_seat seat) up
   powered-by-bare seat None powered = powered-bare seat seat.kept.power powered
   powered-by-bare seat (Some up) powered = powered
 
-  pub agreed-bare : (seat : Seat (Traced P)) → AreAgreed (tracer means) seat → AreAgreed means (bare_seat seat)
+  pub agreed-bare : (seat : SessionView (Traced P)) → AreAgreed (tracer means) seat → AreAgreed means (bare_seat seat)
   agreed-bare seat agreed = record {
     agree = record { record_is = agreed.agree.record_is; sides = sides-bare seat.plan (expected_in seat.up seat.plan seat.kept) seat.kept seat.link.device seat.kept.power agreed.agree.sides };
     powered = powered-by-bare seat seat.up agreed.powered;

@@ -12,7 +12,7 @@ use Rattle.sof_script.specs.Tasks.{Out, Task, Carry, Turn}
 use Rattle.sof_session.specs.Written.{with_bytes}
 use Rattle.ipc3_trace.specs.Steps.{AreAlike, recorded, steps_from}
 use Rattle.sof_script.specs.declared.script.Command.{Command}
-use Rattle.sof_session.specs.Seat.{Seat}
+use Rattle.sof_session.specs.SessionView.{SessionView}
 use Rattle.sof_session.specs.SessionStep.{Calm, known_of}
 use Rattle.sof_session.specs.Lives.{Life, Seated, Turns}
 use Rattle.run_play.specs.Met.{command_deeds}
@@ -65,7 +65,7 @@ recorded_outs (es ∷ records) (out ∷ outs) = fronted (records_bytes es) out �
 
 -- A command left these records: they are those of calls that led the device after the link from where it was to where it is, and a reader
 -- takes each of them. Where no count of the device rose, they are those of the command's deeds, and lead to where it is.
-pub record LeftRecords {P : Type 0} (means : Meaning P) (command : Command) (old new : Seat P) (es : List Entry) : Type 0 where
+pub record LeftRecords {P : Type 0} (means : Meaning P) (command : Command) (old new : SessionView P) (es : List Entry) : Type 0 where
   pub before : Io
   pub after : Io
   pub calls : List Call

@@ -6,7 +6,7 @@ use Rattle.mbox_link.specs.Calls.{Meaning}
 use Rattle.mbox_link.specs.Drained.{Drained}
 use Rattle.sof_script.specs.declared.script.Command.{Command}
 use Rattle.sof_session.specs.Agreement.{AreAgreed}
-use Rattle.sof_session.specs.Seat.{Seat, seat_in, with_device}
+use Rattle.sof_session.specs.SessionView.{SessionView, seat_in, with_device}
 use Rattle.sof_script.specs.Tasks.{Out, Begin, Fill, Carry, Turn, Turning}
 use Rattle.ipc3_trace.specs.declared.entry.Entry.{Entry}
 use Rattle.sof_session.specs.Lives.{Life, Bare, Seated, Turned, Turns, device_of, Exit}
@@ -14,8 +14,8 @@ use Rattle.run_play.specs.Keeping.{trace_slot, fronted, recorded_turns, KeptReco
 use Rattle.run_desk.specs.Todo.{Todo, Played}
 
 -- a session carries out a command; what its device holds then stands before what was written, and the device lets go of it
-pub record KeptCarry {K : Type 0} (means : Meaning K) (holds : K → List ℕ) (empties : K → K → Type 0) (command : Command) (out : Out) (old : Life K) (seat' : Seat K) (inputs' : List InputView) (slots' : List ℕ) : Type 0 where
-  pub left : Seat K
+pub record KeptCarry {K : Type 0} (means : Meaning K) (holds : K → List ℕ) (empties : K → K → Type 0) (command : Command) (out : Out) (old : Life K) (seat' : SessionView K) (inputs' : List InputView) (slots' : List ℕ) : Type 0 where
+  pub left : SessionView K
   pub bare : Out
   pub turned : Turned means (Carry command) bare old (Seated left inputs' slots')
   pub out_is : out ≡ fronted (holds left.link.device) bare

@@ -16,7 +16,7 @@ use Rattle.host_widgets.specs.HostActs.{Act}
 use Rattle.host_widgets.specs.ActMessages.{act_message}
 use Rattle.host_widgets.specs.OneAct.{act_rules, one_act}
 use Rattle.host_widgets.specs.Walk.{goes_past, walk}
-use Rattle.host_widgets.specs.Orders.{Order, goes_on_after_refusal, end_by}
+use Rattle.host_widgets.specs.Orders.{Procedure, goes_on_after_refusal, end_by}
 use Rattle.ipc3_trace.specs.declared.entry.Entry.{Entry}
 use Rattle.ipc3_trace.specs.Steps.{Deed, Start, Stop, Send, Wait, recorded, steps_from}
 use Rattle.sof_script.specs.declared.script.Command.{Command}
@@ -52,16 +52,16 @@ moment_deeds heap (past.Now view fresh ∷ moments) = moment_deeds heap moments
 moment_deeds heap (past.Tick ∷ moments) = Wait ∷ moment_deeds heap moments
 
 -- of an order: its first moments, its acts and its last moments
-abbrev pub order_deeds : Plan → ℕ → Known Record → Order → List Deed
+abbrev pub order_deeds : Plan → ℕ → Known Record → Procedure → List Deed
 order_deeds plan heap known o =
-    let goes_on = goes_on_after_refusal o.manner in
+    let goes_on = goes_on_after_refusal o.ending in
     let w = walk (act_rules plan heap) goes_on (next_meeting calm) known.kept known.queue o.acts in
     moment_deeds heap o.first
     ++ (walk_deeds plan heap goes_on (next_meeting calm) known.kept known.queue o.acts
-    ++ moment_deeds heap (end_by o.manner plan o.done known.kept w.kept w.outcome).1)
+    ++ moment_deeds heap (end_by o.ending plan o.done known.kept w.kept w.outcome).1)
 
 -- none where a test fails or something is planned
-abbrev pub deeds_by : Plan → ℕ → Known Record → Order → Bool → Option HostFault → List Deed
+abbrev pub deeds_by : Plan → ℕ → Known Record → Procedure → Bool → Option HostFault → List Deed
 deeds_by plan heap known o true fault = []
 deeds_by plan heap known o false (Some fault) = []
 deeds_by plan heap known o false None = order_deeds plan heap known o

@@ -20,7 +20,7 @@ ghost use Rattle.run_play.specs.Play.{unit_todo, rounds_todo, commands_todo};
 ghost use Rattle.run_play.specs.KeptTurns.{KeptTurn, CanKeep};
 ghost use Rattle.run_play.specs.Opening.{HaveFiles, SameFiles};
 
-use crate::keeping::{Keeps, write_unit};
+use crate::keeping::{TraceBuffer, write_unit};
 use crate::windows::{READ_BYTES, refill};
 use host_widgets::Answer;
 use mbox_link::Dsp;
@@ -85,7 +85,7 @@ fn say_lines<D: Desk, P: Dsp>(
 }
 
 // A tick that is not the last of its command: a turn of the session, and the bytes that it wrote.
-fn do_earlier_tick<D: Desk, K: Keeps>(
+fn do_earlier_tick<D: Desk, K: TraceBuffer>(
     desk: &mut D,
     session: &mut Session<K>,
     inputs: &mut Inputs,
@@ -108,7 +108,7 @@ fn do_earlier_tick<D: Desk, K: Keeps>(
 
 // The last unit of a command: a turn of the session, the bytes that it wrote, those of ticks before its messages too, and the
 // lines of the command.
-fn do_round<D: Desk, K: Keeps>(
+fn do_round<D: Desk, K: TraceBuffer>(
     numbered: &Numbered,
     desk: &mut D,
     session: &mut Session<K>,
@@ -149,7 +149,7 @@ fn earlier(command: &Command) -> u32
 }
 
 // The units of a command, before each of which the inputs are filled.
-fn do_command<D: Desk, K: Keeps>(
+fn do_command<D: Desk, K: TraceBuffer>(
     numbered: &Numbered,
     desk: &mut D,
     session: &mut Session<K>,
@@ -188,7 +188,7 @@ fn do_command<D: Desk, K: Keeps>(
 
 /// Each command in turn, up to a failure of the desk; answers whether all were done. The outputs are empty before it, the files of
 /// their slots are created, and those of the inputs are open.
-pub fn do_commands<D: Desk, K: Keeps>(
+pub fn do_commands<D: Desk, K: TraceBuffer>(
     commands: &[Numbered],
     desk: &mut D,
     session: &mut Session<K>,

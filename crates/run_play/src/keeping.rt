@@ -1,6 +1,6 @@
 // What is kept of the calls on a device while a script is played over it: nothing, or their records.
 ghost use Rattle.std.specs.Prelude.{◌≡◌, ℕ, [], List, true};
-ghost use Rattle.sof_session.specs.Seat.{with_device};
+ghost use Rattle.sof_session.specs.SessionView.{with_device};
 ghost use Rattle.sof_session.specs.Written.{with_bytes, written_in};
 ghost use Rattle.mbox_link.specs.Drained.{Drained};
 ghost use Rattle.sof_base.specs.DrainedOutputs.{drained};
@@ -22,8 +22,8 @@ use std::marker::Model;
 /// The slot of a trace's file.
 pub const TRACE_SLOT: u32 = 4294967295;
 
-/// A device that holds something of its calls, which is written after each unit.
-pub trait Keeps: Drain {
+/// A device with a buffer of what it traced of its calls, which is written after each unit.
+pub trait TraceBuffer: Drain {
     /// The bytes that it holds.
     ghost holds: { Self → List ℕ };
 
@@ -32,7 +32,7 @@ pub trait Keeps: Drain {
         ensures { result.now ≡ holds self.now };
 }
 
-impl<P: Dsp> Keeps for Tracer<P> {
+impl<P: Dsp> TraceBuffer for Tracer<P> {
     ghost holds = { λ t. t.held.bytes };
 
     fn held(&self) -> &[u8] {
@@ -107,7 +107,7 @@ impl<P: Dsp> Drain for Untraced<P> {
     fn drain(&mut self) {}
 }
 
-impl<P: Dsp> Keeps for Untraced<P> {
+impl<P: Dsp> TraceBuffer for Untraced<P> {
     ghost holds = { λ d. [] };
 
     fn held(&self) -> &[u8] {
@@ -130,7 +130,7 @@ fn write_pieces<D: Desk>(desk: &mut D, held: &[u8], outputs: &Outputs) -> bool
 }
 
 /// Writes what a unit left, and lets go of it: what is held of its calls, and the bytes of the outputs. Answers whether all was written.
-pub fn write_unit<D: Desk, K: Keeps>(
+pub fn write_unit<D: Desk, K: TraceBuffer>(
     desk: &mut D,
     session: &mut Session<K>,
     outputs: &mut Outputs,

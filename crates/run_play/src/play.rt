@@ -10,11 +10,11 @@ ghost use Rattle.run_play.specs.Ranges.{IsInRange};
 ghost use Rattle.run_play.specs.Play.{play, ready_todo};
 
 use crate::carry::do_commands;
-use crate::keeping::{Keeps, Untraced};
+use crate::keeping::{TraceBuffer, Untraced};
 use crate::opening::{bind_all, open_all, open_trace};
 use ipc3_trace::Tracer;
 use mbox_link::Dsp;
-use run_desk::{Ended, LIMIT, Ready, end_wanting, fetch, prepare, status_of, stop_for};
+use run_desk::{Ended, LIMIT, Ready, fail_no_memory, fetch, prepare, status_of, stop_for};
 use run_words::Form;
 use sof_desk::Desk;
 use sof_io::{Inputs, Outputs};
@@ -23,7 +23,7 @@ use std::alloc::Global;
 
 // Takes the memory of a run: the places of its bindings, and a session over the device, in the mode that the words ask for. Then come the
 // files, that of the trace last, and then the commands.
-fn do_session<D: Desk, K: Keeps>(
+fn do_session<D: Desk, K: TraceBuffer>(
     alloc: Global,
     form: Form<'_>,
     ready: Ready,
@@ -39,18 +39,18 @@ fn do_session<D: Desk, K: Keeps>(
     ensures { GaveBy D.means K.means (KeptTurn K.means K.holds K.empties) (Free (ready_todo form.entry.on_use form.entry.heap (option_map (λ name. name.now) form.entry.trace) ready.plan (script_read ready.script))) desk.old dsp result.status desk.new result.dsp }
 {
     let Ok(mut inputs) = Inputs::new(alloc) else {
-        return end_wanting(desk, dsp);
+        return fail_no_memory(desk, dsp);
     };
     let Ok(mut outputs) = Outputs::new(alloc) else {
-        return end_wanting(desk, dsp);
+        return fail_no_memory(desk, dsp);
     };
     let bindings = ready.script.bindings.items();
     let Ok(()) = bind_all(&ready.plan, bindings, &mut inputs, &mut outputs) else {
-        return end_wanting(desk, dsp);
+        return fail_no_memory(desk, dsp);
     };
-    let mut session = match Session::begun(alloc, form.on_use, ready.plan, form.heap, dsp) {
+    let mut session = match Session::with_mode(alloc, form.on_use, ready.plan, form.heap, dsp) {
         Ok(session) => session,
-        Err(refused) => return end_wanting(desk, refused.dsp),
+        Err(refused) => return fail_no_memory(desk, refused.dsp),
     };
     if !open_all(session.plan(), ready.script.bindings.items(), desk) {
         return Ended {
@@ -120,7 +120,7 @@ fn do_traced<D: Desk, P: Dsp>(
                 dsp: ended.dsp.into_dsp(),
             }
         }
-        Err(refused) => end_wanting(desk, refused.dsp),
+        Err(refused) => fail_no_memory(desk, refused.dsp),
     }
 }
 

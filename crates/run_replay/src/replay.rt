@@ -14,7 +14,7 @@ use crate::replay_fault::{ReplayFault, Stopped, Tally};
 use crate::replay_lines::write_replay_fault;
 use ipc3_trace::{Entry, Next, record_at};
 use mbox_link::{Dsp, LinkFault};
-use run_desk::{Ended, TRACE_LIMIT, end_wanting, fetch, say_count, status_of, stop};
+use run_desk::{Ended, TRACE_LIMIT, fail_no_memory, fetch, say_count, status_of, stop};
 use sof_base::{Bounded, NoMemory};
 use sof_desk::{Desk, DeskFailed};
 use sof_io::{Inputs, Outputs};
@@ -269,10 +269,10 @@ pub fn do_replay<D: Desk, P: Dsp>(alloc: Global, name: &str, desk: &mut D, dsp: 
         Err(status) => return Ended { status, dsp },
     };
     let Ok(mut inputs) = Inputs::new(alloc) else {
-        return end_wanting(desk, dsp);
+        return fail_no_memory(desk, dsp);
     };
     let Ok(mut outputs) = Outputs::new(alloc) else {
-        return end_wanting(desk, dsp);
+        return fail_no_memory(desk, dsp);
     };
     let mut dsp = dsp;
     let status = replay_records(&bytes, desk, &mut dsp, &mut inputs, &mut outputs);

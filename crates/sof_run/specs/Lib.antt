@@ -1,4 +1,4 @@
--- What is promised, from the words on; `Run.Whole` is all of it.
+-- What is promised, from the words on; `Run.RunContract` is all of it.
 pub mod Stressing
 pub mod Calls
 pub mod Ends

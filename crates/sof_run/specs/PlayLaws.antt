@@ -7,22 +7,22 @@ use Rattle.sof_session.specs.SessionStep.{Calm}
 use Rattle.run_play.specs.Keeping.{trace_slot}
 use Rattle.run_words.specs.TraceForms.{replay_of}
 use Rattle.run_play.specs.Plays.{ToPlay, AreFilesTold}
-use Rattle.sof_run.specs.Run.{Whole}
+use Rattle.sof_run.specs.Run.{RunContract}
 
--- What `Whole` says of a play determines what is written: two plays of the same words over the same desk and device, which did
+-- What `RunContract` says of a play determines what is written: two plays of the same words over the same desk and device, which did
 -- nothing of its own accord, that end with status 0 wrote the same bytes.
 abbrev pub PlaysAreOne : {D P : Type 0} → DeskMeaning D → Meaning P → Type 0
 PlaysAreOne {D} {P} means dsp =
     (words : List (List ℕ)) (old new other : D) (p q r : P) (play : ToPlay (dsp.most p) words) → AreFilesTold (means.holds old) play →
-    Whole means dsp words old p 0 new q → Whole means dsp words old p 0 other r → Calm dsp p q → Calm dsp p r →
+    RunContract means dsp words old p 0 new q → RunContract means dsp words old p 0 other r → Calm dsp p q → Calm dsp p r →
     (place : DeskPlace) → means.wrote new place ≡ means.wrote other place
 
--- What `Whole` says of a trace and of its replay: the device to which the trace is given gets the view that the traced one had. Both plays end
+-- What `RunContract` says of a trace and of its replay: the device to which the trace is given gets the view that the traced one had. Both plays end
 -- with status 0, over desks and devices of any kind of which neither device did anything of its own accord; the replay's desk tells, under
 -- the name of its file, the bytes that were written to the trace.
 abbrev pub ReplaysAlike : {D P E Q : Type 0} → DeskMeaning D → Meaning P → DeskMeaning E → Meaning Q → Type 0
 ReplaysAlike {D} {P} {E} {Q} means dsp others device =
     (words again : List (List ℕ)) (old new : D) (p q : P) (before after : E) (r s : Q) (play : ToPlay (dsp.most p) words) (name file bytes : List ℕ) →
-    play.form.trace ≡ Some name → AreFilesTold (means.holds old) play → Whole means dsp words old p 0 new q → Calm dsp p q → means.wrote new (Slot trace_slot) ≡ Some bytes →
-    replay_of again ≡ Some file → others.holds before file ≡ Some bytes → Whole others device again before r 0 after s → Calm device r s →
+    play.form.trace ≡ Some name → AreFilesTold (means.holds old) play → RunContract means dsp words old p 0 new q → Calm dsp p q → means.wrote new (Slot trace_slot) ≡ Some bytes →
+    replay_of again ≡ Some file → others.holds before file ≡ Some bytes → RunContract others device again before r 0 after s → Calm device r s →
     option_map view_of (device.on s) ≡ option_map view_of (dsp.on q)

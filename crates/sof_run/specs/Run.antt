@@ -53,7 +53,7 @@ pub record Left {P : Type 0} (dsp : Meaning P) (words : List (List ℕ)) (p q : 
   pub unasked : status ≡ 3 → AllByRecursion IsOpening calls → last ≡ Bare p
 
 -- all that is said of `run`
-pub record Whole {D P : Type 0} (means : DeskMeaning D) (dsp : Meaning P) (words : List (List ℕ)) (old : D) (p : P) (status : ℕ) (new : D) (q : P) : Type 0 where
+pub record RunContract {D P : Type 0} (means : DeskMeaning D) (dsp : Meaning P) (words : List (List ℕ)) (old : D) (p : P) (status : ℕ) (new : D) (q : P) : Type 0 where
   pub last : Life P
   pub called : Called means dsp words old p status new last
   pub exit : Left dsp words p q last called.calls status

@@ -2,7 +2,7 @@
 ghost use Rattle.std.specs.Prelude.{◌≡◌, map, None, string_bytes};
 ghost use Rattle.run_tools.specs.CompileTodo.{MakesTopology};
 ghost use Rattle.sof_run.specs.Forms.{GaveSent, todo_of};
-ghost use Rattle.sof_run.specs.Run.{Whole};
+ghost use Rattle.sof_run.specs.Run.{RunContract};
 
 use crate::stress::do_stress;
 use mbox_link::Dsp;
@@ -71,7 +71,7 @@ fn do_words<D: Desk, P: Dsp>(alloc: Global, words: &[String], desk: &mut D, dsp:
 pub fn run<D: Desk, P: Dsp>(alloc: Global, words: &[String], desk: &mut D, dsp: P) -> Ended<P>
     requires off { P.means.on dsp ≡ None }
     requires pending { P.means.pending dsp ≡ 0 }
-    ensures { Whole D.means P.means (map string_bytes words.now) desk.old dsp result.status desk.new result.dsp }
+    ensures { RunContract D.means P.means (map string_bytes words.now) desk.old dsp result.status desk.new result.dsp }
 {
     do_words(alloc, words, desk, dsp)
 }

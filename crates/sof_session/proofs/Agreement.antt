@@ -24,7 +24,7 @@ use Rattle.host_dynamic.specs.UpDevices.{there_on}
 use Rattle.host_dynamic.specs.UpStates.{IsUpState}
 use Rattle.host_dynamic.proofs.UpLoading.{first-is}
 use Rattle.sof_session.specs.Agreement.{AreAgreed, IsFated, Powered, PoweredBy, expected_in}
-use Rattle.sof_session.specs.Seat.{Seat, first_up, seat_in}
+use Rattle.sof_session.specs.SessionView.{SessionView, first_up, seat_in}
 use Rattle.sof_session.proofs.LinkFates.{Led-fated, Led-inside}
 
 abbrev pub at : {D : Type 0} → D → Io → World D
@@ -33,7 +33,7 @@ at device io = record { device = device; io = io }
 -- ---- the two sides where all pipelines are made at a load
 
 -- the device is on with the view that the record says, or off; all else is as in either mode
-pub record AgreeAtLoad {P : Type 0} (means : Meaning P) (seat : Seat P) : Type 0 where
+pub record AgreeAtLoad {P : Type 0} (means : Meaning P) (seat : SessionView P) : Type 0 where
   pub agree : Agrees means seat.plan seat.kept seat.link.device
   pub powered : Powered means seat seat.kept.power
   pub room : seat.heap ≤ means.most seat.link.device
@@ -41,7 +41,7 @@ pub record AgreeAtLoad {P : Type 0} (means : Meaning P) (seat : Seat P) : Type 0
   pub fated : IsFated seat.link
   pub sound : IsSound seat.plan
 
-module _ {P : Type 0} (means : Meaning P) (seat : Seat P) (none : seat.up ≡ None) where
+module _ {P : Type 0} (means : Meaning P) (seat : SessionView P) (none : seat.up ≡ None) where
   pub at-load : AreAgreed means seat → AgreeAtLoad means seat
   at-load agreed = record {
     agree = subst (λ (up : Option (List ℕ)). AgreesBy means seat.plan (expected_in up seat.plan seat.kept) seat.kept seat.link.device) none agreed.agree;
@@ -62,8 +62,8 @@ module _ {P : Type 0} (means : Meaning P) (seat : Seat P) (none : seat.up ≡ No
     sound = agreed.sound;
   }
 
-pub same-up : {P : Type 0} {a b : Seat P} → a ≡ b → b.up ≡ None → a.up ≡ None
-same-up {P} is none = ap (λ (s : Seat P). s.up) is ∙ none
+pub same-up : {P : Type 0} {a b : SessionView P} → a ≡ b → b.up ≡ None → a.up ≡ None
+same-up {P} is none = ap (λ (s : SessionView P). s.up) is ∙ none
 
 pub none-up : (up : Option (List ℕ)) → is_some up ≡ false → up ≡ None
 none-up None is = refl
@@ -75,15 +75,15 @@ sides-outside means plan kept wire Unloaded sides = sides
 sides-outside means plan kept wire On sides = sides
 sides-outside means plan kept wire Off sides = sides
 
-pub link-agrees : {P : Type 0} (means : Meaning P) (seat : Seat P) → AgreeAtLoad means seat → Agrees (link means) seat.plan seat.kept seat.link
+pub link-agrees : {P : Type 0} (means : Meaning P) (seat : SessionView P) → AgreeAtLoad means seat → Agrees (link means) seat.plan seat.kept seat.link
 link-agrees means seat agreed = record { record_is = agreed.agree.record_is; sides = sides-outside means seat.plan seat.kept seat.link seat.kept.power agreed.agree.sides }
 
 -- where all pipelines are made at a load, by what is kept in either mode
-pub seat-agrees : {P : Type 0} (means : Meaning P) (seat : Seat P) → seat.up ≡ None → AreAgreed means seat → Agrees (link means) seat.plan seat.kept seat.link
+pub seat-agrees : {P : Type 0} (means : Meaning P) (seat : SessionView P) → seat.up ≡ None → AreAgreed means seat → Agrees (link means) seat.plan seat.kept seat.link
 seat-agrees means seat none agreed = link-agrees means seat (at-load means seat none agreed)
 
 -- the device is on where the record says so
-pub is-on : {P : Type 0} (means : Meaning P) (seat : Seat P) → AreAgreed means seat → seat.kept.power ≡ On → is_some (means.on seat.link.device) ≡ true
+pub is-on : {P : Type 0} (means : Meaning P) (seat : SessionView P) → AreAgreed means seat → seat.kept.power ≡ On → is_some (means.on seat.link.device) ≡ true
 is-on {P} means seat agreed on =
     by (means.on seat.link.device) (subst (SidesBy means seat.plan (expected_in seat.up seat.plan seat.kept) seat.kept seat.link.device) on agreed.agree.sides)
   where
@@ -103,8 +103,8 @@ module _ {P : Type 0} (means : Meaning P) (old wire : Wire P) (io io' : Io) wher
   pub calls-kept : IsFated old → (calls : List Call) → Led (link means) (at old io) calls (at wire io') → CallsKept
   calls-kept fated calls led = record { steady = Led-steady (link means) calls (at old io) (at wire io') led; inside = Led-inside means calls (at old io) (at wire io') led; fated = Led-fated means calls (at old io) (at wire io') fated led }
 
-module _ {P : Type 0} (means : Meaning P) (old : Seat P) (wire : Wire P) (io io' : Io) (agreed : AgreeAtLoad means old) where
-  abbrev pub seat_with : Record → Seat P
+module _ {P : Type 0} (means : Meaning P) (old : SessionView P) (wire : Wire P) (io io' : Io) (agreed : AgreeAtLoad means old) where
+  abbrev pub seat_with : Record → SessionView P
   seat_with kept = record { link = wire; kept = kept; plan = old.plan; heap = old.heap; up = old.up }
 
   abbrev pub Kept : Type 0
@@ -181,7 +181,7 @@ module _ {P : Type 0} (means : Meaning P) (plan : Plan) (heap : ℕ) (dsp : P) (
 
 -- ---- room
 
-module _ {P : Type 0} (means : Meaning P) (seat : Seat P) (agreed : AreAgreed means seat) where
+module _ {P : Type 0} (means : Meaning P) (seat : SessionView P) (agreed : AreAgreed means seat) where
   -- at most 16 ticks come before messages
   few-pending : (link means).pending seat.link ≤ 16
   few-pending = let few = agreed.fated.held.few in omega (arith, few, agreed.pending)

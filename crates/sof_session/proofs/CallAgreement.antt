@@ -14,7 +14,7 @@ use Rattle.host_widgets.specs.Host.{Outcome, Agrees}
 use Rattle.host_widgets.specs.Bringing.{BroughtUp, ticks_put}
 use Rattle.host_widgets.specs.Kept.{first_record, with_power}
 use Rattle.host_widgets.specs.IdleStreams.{all_closed}
-use Rattle.host_widgets.specs.Orders.{Order, Carried, brought_end, sends, fault_of_load, loading, resuming, suspending, unload_fault, unloading}
+use Rattle.host_widgets.specs.Orders.{Procedure, Carried, brought_end, sends, fault_of_load, loading, resuming, suspending, unload_fault, unloading}
 use Rattle.host_widgets.specs.TestedOrders.{Tested}
 use Rattle.host_widgets.specs.StateOf.{loaded_state}
 use Rattle.host_widgets.proofs.LoadEnds.{failed-off}
@@ -23,21 +23,21 @@ use Rattle.host_widgets.proofs.WalksHold.{AreTaken}
 use Rattle.host_pm.specs.PowerTests.{suspend_fault, resume_fault}
 use Rattle.host_pm.specs.Resumed.{ResumeLeft}
 use Rattle.sof_session.specs.Agreement.{Powered}
-use Rattle.sof_session.specs.Seat.{Seat}
+use Rattle.sof_session.specs.SessionView.{SessionView}
 use Rattle.sof_session.proofs.Agreement.{at, AgreeAtLoad, seat_with, Kept, kept-by, Shows, Here, not-off, kept-here, still-here, agreed-again}
 use Rattle.sof_session.proofs.Keeping.{Keeps-loaded}
 use Rattle.sof_session.proofs.OrderCalls.{carried-led}
 use Rattle.sof_session.proofs.OrderStands.{sending, cut-off, met, sent-left}
 use Rattle.sof_session.proofs.SentOrders.{IsSent, IsSentCall}
 
-module _ {P : Type 0} (means : Meaning P) (old : Seat P) (wire : Wire P) (io io' : Io) (agreed : AgreeAtLoad means old) (kept : Record) (agree : Agrees (link means) old.plan kept wire) (result : Outcome) where
-  abbrev new : Seat P
+module _ {P : Type 0} (means : Meaning P) (old : SessionView P) (wire : Wire P) (io io' : Io) (agreed : AgreeAtLoad means old) (kept : Record) (agree : Agrees (link means) old.plan kept wire) (result : Outcome) where
+  abbrev new : SessionView P
   new = seat_with means old wire io io' agreed kept
 
   abbrev KeptSo : Type 0
   KeptSo = Kept means old wire io io' agreed
 
-  abbrev CarriedSo : Order → Type 0
+  abbrev CarriedSo : Procedure → Type 0
   CarriedSo o = Carried (link means) old.plan old.heap o old.kept kept (at old.link io) (at wire io') result
 
   abbrev Found : Type 0
@@ -52,11 +52,11 @@ module _ {P : Type 0} (means : Meaning P) (old : Seat P) (wire : Wire P) (io io'
   still-kept : at wire io' ≡ at old.link io → KeptSo
   still-kept same = kept-by means old wire io io' agreed [] same
 
-  order-kept : (o : Order) → CarriedSo o → KeptSo
+  order-kept : (o : Procedure) → CarriedSo o → KeptSo
   order-kept o c = let led = carried-led means old.plan old.heap o old.kept kept (at old.link io) (at wire io') result c in kept-by means old wire io io' agreed led.0 led.1
 
   -- by a test, and an order where none fails
-  by-test : (test : Option HostFault) (o : Order) → Tested (link means) old.plan old.heap test o old.kept kept (at old.link io) (at wire io') result → (test ≡ None → CarriedSo o → Found) → AgreeAtLoad means new
+  by-test : (test : Option HostFault) (o : Procedure) → Tested (link means) old.plan old.heap test o old.kept kept (at old.link io) (at wire io') result → (test ≡ None → CarriedSo o → Found) → AgreeAtLoad means new
   by-test test o tested found = by test refl
     where
       by : (t : Option HostFault) → test ≡ t → AgreeAtLoad means new
@@ -115,8 +115,8 @@ module _ {P : Type 0} (means : Meaning P) (old : Seat P) (wire : Wire P) (io io'
         (λ u. kept-here means old wire io io' agreed kept agree shows _ u.state u.is_on u.keeps_now)
         (sent-left means old.heap old.plan agreed.sound acts done answer old.kept kept (at old.link io) (at wire io') result c powered.0 powered.1 agreed.agree.record_is powered.2 taken)
 
-  pub AgreeAtLoad-sent : (test : Option HostFault) (o : Order) → IsSentCall old.plan old.kept test o → Tested (link means) old.plan old.heap test o old.kept kept (at old.link io) (at wire io') result → AgreeAtLoad means new
+  pub AgreeAtLoad-sent : (test : Option HostFault) (o : Procedure) → IsSentCall old.plan old.kept test o → Tested (link means) old.plan old.heap test o old.kept kept (at old.link io) (at wire io') result → AgreeAtLoad means new
   AgreeAtLoad-sent test o call tested = by-test test o tested (λ none c. found (call.sent none) c (call.taken none))
     where
       found : (s : IsSent old.kept o) → CarriedSo o → AreTaken old.plan false old.kept o.acts → Found
-      found s c are = sent-found s.acts s.done s.answer old.kept.power agreed.powered (subst CarriedSo s.is c) (subst (λ (x : Order). AreTaken old.plan false old.kept x.acts) s.is are)
+      found s c are = sent-found s.acts s.done s.answer old.kept.power agreed.powered (subst CarriedSo s.is c) (subst (λ (x : Procedure). AreTaken old.plan false old.kept x.acts) s.is are)

@@ -9,12 +9,12 @@ use Rattle.host_widgets.specs.declared.kept.Record.{Record}
 use Rattle.host_widgets.specs.Host.{Outcome, Agrees}
 use Rattle.host_widgets.specs.Bringing.{BroughtUp}
 use Rattle.host_widgets.specs.Kept.{first_record}
-use Rattle.host_widgets.specs.Orders.{Order, fault_of_load, loading, resuming, suspending, unload_fault, unloading}
+use Rattle.host_widgets.specs.Orders.{Procedure, fault_of_load, loading, resuming, suspending, unload_fault, unloading}
 use Rattle.host_widgets.specs.TestedOrders.{Tested}
 use Rattle.host_pm.specs.PowerTests.{suspend_fault, resume_fault}
 use Rattle.host_pm.specs.Resumed.{ResumeLeft}
 use Rattle.sof_session.specs.Agreement.{AreAgreed}
-use Rattle.sof_session.specs.Seat.{Seat}
+use Rattle.sof_session.specs.SessionView.{SessionView}
 use Rattle.sof_session.specs.SessionCalls.{Stays}
 use Rattle.sof_session.proofs.Agreement.{at, AgreeAtLoad, at-load, from-load, seat_with}
 use Rattle.sof_session.proofs.CallAgreement.{AgreeAtLoad-loaded, AgreeAtLoad-unloaded, AgreeAtLoad-suspended, AgreeAtLoad-resumed, AgreeAtLoad-sent}
@@ -23,14 +23,14 @@ use Rattle.sof_session.proofs.SentOrders.{IsSentCall}
 use Rattle.sof_session.proofs.SentStays.{sent-io, sent-ends}
 use Rattle.sof_session.proofs.Writings.{bound_ends}
 
-module _ {P : Type 0} (means : Meaning P) (old : Seat P) (wire : Wire P) (io io' : Io) (are : AreAgreed means old) (none : old.up ≡ None) (kept : Record) (agree : Agrees (link means) old.plan kept wire) (result : Outcome) where
+module _ {P : Type 0} (means : Meaning P) (old : SessionView P) (wire : Wire P) (io io' : Io) (are : AreAgreed means old) (none : old.up ≡ None) (kept : Record) (agree : Agrees (link means) old.plan kept wire) (result : Outcome) where
   abbrev agreed : AgreeAtLoad means old
   agreed = at-load means old none are
 
-  abbrev new : Seat P
+  abbrev new : SessionView P
   new = seat_with means old wire io io' agreed kept
 
-  abbrev TestedSo : Option HostFault → Order → Type 0
+  abbrev TestedSo : Option HostFault → Procedure → Type 0
   TestedSo test o = Tested (link means) old.plan old.heap test o old.kept kept (at old.link io) (at wire io') result
 
   abbrev StaysSo : Type 0
@@ -69,7 +69,7 @@ module _ {P : Type 0} (means : Meaning P) (old : Seat P) (wire : Wire P) (io io'
       (suspend-ends means old wire io io' agreed kept result tested)
       (suspend-io means old wire io io' agreed kept result tested)
 
-  pub sent-stays : {test : Option HostFault} {o : Order} → IsSentCall old.plan old.kept test o → TestedSo test o → StaysSo
+  pub sent-stays : {test : Option HostFault} {o : Procedure} → IsSentCall old.plan old.kept test o → TestedSo test o → StaysSo
   sent-stays {test} {o} call tested = stays-by (AgreeAtLoad-sent means old wire io io' agreed kept agree result test o call tested)
       (sent-ends means old wire io io' agreed kept agree result test o call.sent tested)
       (sent-io means old wire io io' agreed kept agree result test o call.sent tested)

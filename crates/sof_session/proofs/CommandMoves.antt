@@ -44,7 +44,7 @@ use Rattle.host_widgets.specs.HostActs.{Act, Make, Join, Put, Part, Finish, Prep
 use Rattle.host_widgets.specs.ActLists.{control_acts_by, control_acts, bring_up, prepare_by, prepare_acts, stop_by, stop_acts, close_by}
 use Rattle.host_widgets.specs.OneAct.{act_rules, Performed, one_act, performed, outcome_by, own, lag_of}
 use Rattle.host_widgets.specs.Walk.{Walked, walk, goes_past, followed_by}
-use Rattle.host_widgets.specs.Orders.{Order, Manner, Plain, Loading, Resuming, Suspending, goes_on_after_refusal, end_by, quiet, sends, where_on, unloading}
+use Rattle.host_widgets.specs.Orders.{Procedure, Ending, Plain, Loading, Resuming, Suspending, goes_on_after_refusal, end_by, quiet, sends, where_on, unloading}
 use Rattle.host_widgets.proofs.NamedIds.{each-pipe, pipeline-found}
 use Rattle.host_pcm.specs.declared.asking.Ask.TheVariants.{Opening, Preparing, Triggering, Closing}
 use Rattle.host_pcm.specs.declared.asking.Ask as asks
@@ -61,7 +61,7 @@ use Rattle.sof_script.specs.declared.script.Command.{Command}
 use Rattle.sof_script.specs.declared.script.Command.TheVariants as commands
 use Rattle.sof_session.specs.CommandTests.{asking, fault_of}
 use Rattle.sof_session.specs.AskedOrders.{stream_fault, asked_order}
-use Rattle.sof_session.specs.Commands.{Known, Came, is_plan, order_of, carried, tested, next, command_rules}
+use Rattle.sof_session.specs.Commands.{Known, CommandResult, is_plan, order_of, carried, tested, next, command_rules}
 use Rattle.sof_session.proofs.SameNext.{is-planned, is-tested}
 use Rattle.sof_session.proofs.InputMoves.{IsInRange, AllInRange, ticks_in, all-append, ticks-append, lag-in-range, lag-ticks}
 
@@ -273,7 +273,7 @@ module _ (plan : Plan) (sound : IsSound plan) (heap : ℕ) (goes_on : Bool) (doi
 -- ---- orders
 
 -- its acts give no stream parameters but some in range, and of its first moments at most one is a tick, which no act follows
-pub record IsPacedOrder (o : Order) : Type 0 where
+pub record IsPacedOrder (o : Procedure) : Type 0 where
   pub acts : AreFewActs o.acts
   pub range : AllInRange o.first
   pub ticks : (ticks_in o.first ≡ 0) ⊎ ((ticks_in o.first ≤ 1) × (o.acts ≡ []))
@@ -418,7 +418,7 @@ order-paced plan kept few command none = asked-paced plan kept (asking command) 
 -- ---- a command
 
 -- its last moment, if any, is a cut
-pub end-paced : (manner : Manner) (plan : Plan) (done : Record → Record) (start now : Record) (o : Outcome) → AllInRange (end_by manner plan done start now o).1 × (ticks_in (end_by manner plan done start now o).1 ≡ 0)
+pub end-paced : (ending : Ending) (plan : Plan) (done : Record → Record) (start now : Record) (o : Outcome) → AllInRange (end_by ending plan done start now o).1 × (ticks_in (end_by ending plan done start now o).1 ≡ 0)
 end-paced Plain plan done start now (Ok passed) = (tt, refl)
 end-paced Plain plan done start now (Err LinkDown) = (tt, refl)
 end-paced Plain plan done start now (Err fault) = (tt, refl)
@@ -430,21 +430,21 @@ end-paced Suspending plan done start now o = (tt, refl)
 
 module _ (plan : Plan) (sound : IsSound plan) (heap : ℕ) (doing : Doing) (known : Known Record) (is : IsRecordOf plan known.kept) (held : lags known.queue.entries ≤ 16) where
   -- the views that come are in range, and there are at most 16 ticks
-  abbrev pub IsPaced : Came Record Act → Type 0
+  abbrev pub IsPaced : CommandResult Record Act → Type 0
   IsPaced c = AllInRange c.moments × (ticks_in c.moments ≤ 16)
 
-  module _ (o : Order) (paced : IsPacedOrder o) where
+  module _ (o : Procedure) (paced : IsPacedOrder o) where
     abbrev w : Walked Record Act Queue
-    w = walk (act_rules plan heap) (goes_on_after_refusal o.manner) (next_meeting doing) known.kept known.queue o.acts
+    w = walk (act_rules plan heap) (goes_on_after_refusal o.ending) (next_meeting doing) known.kept known.queue o.acts
 
     abbrev e : List Moment
-    e = (end_by o.manner plan o.done known.kept w.kept w.outcome).1
+    e = (end_by o.ending plan o.done known.kept w.kept w.outcome).1
 
-    walked-paced : IsPacedWalk plan sound heap (goes_on_after_refusal o.manner) doing known.queue w
-    walked-paced = walk-paced plan sound heap (goes_on_after_refusal o.manner) doing o.acts known.kept known.queue paced.acts (few-record plan known.kept is)
+    walked-paced : IsPacedWalk plan sound heap (goes_on_after_refusal o.ending) doing known.queue w
+    walked-paced = walk-paced plan sound heap (goes_on_after_refusal o.ending) doing o.acts known.kept known.queue paced.acts (few-record plan known.kept is)
 
     ended-paced : AllInRange e × (ticks_in e ≡ 0)
-    ended-paced = end-paced o.manner plan o.done known.kept w.kept w.outcome
+    ended-paced = end-paced o.ending plan o.done known.kept w.kept w.outcome
 
     all-ticks : ticks_in (o.first ++ (w.moments ++ e)) ≡ ticks_in o.first + ticks_in w.moments
     all-ticks = let first = ticks-append o.first (w.moments ++ e) in let rest = ticks-append w.moments e in let none = ended-paced.1 in omega (arith, first, rest, none)
@@ -452,14 +452,14 @@ module _ (plan : Plan) (sound : IsSound plan) (heap : ℕ) (doing : Doing) (know
     few-ticks : (ticks_in o.first ≡ 0) ⊎ ((ticks_in o.first ≤ 1) × (o.acts ≡ [])) → ticks_in (o.first ++ (w.moments ++ e)) ≤ 16
     few-ticks (inl none) = let all = all-ticks in let most = walked-paced.ticks in omega (arith, all, none, most, held)
     few-ticks (inr one) =
-        let none : ticks_in w.moments ≡ 0 = ap (λ (acts : List Act). ticks_in (walk (act_rules plan heap) (goes_on_after_refusal o.manner) (next_meeting doing) known.kept known.queue acts).moments) one.1 in
+        let none : ticks_in w.moments ≡ 0 = ap (λ (acts : List Act). ticks_in (walk (act_rules plan heap) (goes_on_after_refusal o.ending) (next_meeting doing) known.kept known.queue acts).moments) one.1 in
         let all = all-ticks in
         omega (arith, all, none, one.0)
 
     carried-paced : IsPaced (carried (command_rules plan heap) doing known (order_job plan known.kept o))
     carried-paced = (all-append o.first (w.moments ++ e) paced.range (all-append w.moments e walked-paced.range ended-paced.0), few-ticks paced.ticks)
 
-  tested-paced : (o : Order) (fault : Option HostFault) → (fault ≡ None → IsPacedOrder o) → IsPaced (tested (command_rules plan heap) doing known (order_job plan known.kept o) fault)
+  tested-paced : (o : Procedure) (fault : Option HostFault) → (fault ≡ None → IsPacedOrder o) → IsPaced (tested (command_rules plan heap) doing known (order_job plan known.kept o) fault)
   tested-paced o (Some fault) paced = (tt, omega arith)
   tested-paced o None paced = carried-paced o (paced refl)
 

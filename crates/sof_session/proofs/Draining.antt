@@ -9,10 +9,10 @@ use Rattle.host_widgets.specs.declared.kept.Power.TheVariants.{Unloaded, On, Off
 use Rattle.host_widgets.specs.Host.{SidesBy}
 use Rattle.host_dynamic.specs.UpDevices.{there_on}
 use Rattle.host_dynamic.specs.UpStates.{IsUpState}
-use Rattle.sof_session.specs.Seat.{Seat, with_device}
+use Rattle.sof_session.specs.SessionView.{SessionView, with_device}
 use Rattle.sof_session.specs.Agreement.{AreAgreed, Powered, PoweredBy, expected_in}
 
-module _ {P : Type 0} (means : Meaning P) (seat : Seat P) (dsp : P) (on : means.on dsp ≡ means.on seat.link.device) where
+module _ {P : Type 0} (means : Meaning P) (seat : SessionView P) (dsp : P) (on : means.on dsp ≡ means.on seat.link.device) where
   sides-same : (view : View) (power : Power) → SidesBy means seat.plan view seat.kept seat.link.device power → SidesBy means seat.plan view seat.kept dsp power
   sides-same view Unloaded sides = (sides.0, on ∙ sides.1)
   sides-same view On sides = ap (λ (s : Option FwState). option_map view_of s) on ∙ sides
@@ -38,8 +38,8 @@ module _ {P : Type 0} (means : Meaning P) (seat : Seat P) (dsp : P) (on : means.
   }
 
 -- a link that was drained, in its session
-module _ {P : Type 0} (means : Meaning P) (empties : P → P → Type 0) (seat : Seat P) (drained : Wire P) (done : over_drained means empties seat.link drained) where
-  abbrev after : Seat P
+module _ {P : Type 0} (means : Meaning P) (empties : P → P → Type 0) (seat : SessionView P) (drained : Wire P) (done : over_drained means empties seat.link drained) where
+  abbrev after : SessionView P
   after = record { link = drained; kept = seat.kept; plan = seat.plan; heap = seat.heap; up = seat.up }
 
   pub session-same : after ≡ with_device seat drained.device

@@ -5,7 +5,7 @@ use Rattle.host_widgets.specs.declared.kept.Record.{Record}
 use Rattle.tplg_plan.specs.Sound.{IsSound}
 use Rattle.host_widgets.specs.Host.{IsRecordOf}
 use Rattle.host_widgets.specs.declared.answers.HostFault.{HostFault}
-use Rattle.host_widgets.specs.Orders.{Order}
+use Rattle.host_widgets.specs.Orders.{Procedure}
 use Rattle.host_widgets.proofs.FewJoins.{few-acts}
 use Rattle.host_pcm.specs.declared.asking.Ask.{Ask}
 use Rattle.host_ctl.specs.ControlOrders.{bytes_order}
@@ -26,7 +26,7 @@ few-asked plan kept None = omega arith
 few-asked plan kept (Some (name, ask)) = few-stream plan kept name ask
 
 -- those of an order that has few where no test fails
-few-due : (o : Order) (fault : Option HostFault) (most : ℕ) → (fault ≡ None → length o.acts ≤ most) → length (due o fault) ≤ most
+few-due : (o : Procedure) (fault : Option HostFault) (most : ℕ) → (fault ≡ None → length o.acts ≤ most) → length (due o fault) ≤ most
 few-due o (Some fault) most few = omega arith
 few-due o None most few = few refl
 

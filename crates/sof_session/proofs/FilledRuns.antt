@@ -20,14 +20,14 @@ use Rattle.mbox_link.specs.Calls.{Meaning, Steady}
 use Rattle.mbox_link.specs.Meetings.{Doing, lags}
 use Rattle.mbox_link.proofs.Led.{Steady-by}
 use Rattle.sof_script.specs.declared.script.Command.{Command}
-use Rattle.sof_session.specs.Commands.{Known, Came}
+use Rattle.sof_session.specs.Commands.{Known, CommandResult}
 use Rattle.sof_session.specs.Fills.{AreWhole, FilledBy, bytes_read, next_read, after_read, may_grow}
 use Rattle.sof_session.specs.NewInputs.{AreNew}
 use Rattle.sof_session.specs.Lives.{Life, Bare, Seated, Carries, Turned, Turns, device_of, inputs_of, reads_by, reads_in, with_out, carried_outs}
 use Rattle.sof_script.specs.Tasks.{Turn, Task, Begin, Fill, Carry, Out}
 use Rattle.sof_session.specs.RunOver.{IsAt, EndsAt, TurnedBy, TurnsBy, RunOver}
 use Rattle.sof_session.specs.Modes.{Mode, basis_in}
-use Rattle.sof_session.specs.Seat.{Seat, seat_in}
+use Rattle.sof_session.specs.SessionView.{SessionView, seat_in}
 use Rattle.sof_session.specs.SessionStep.{Calm, known_of}
 use Rattle.sof_session.specs.Written.{Ground, At, Leg, IsLeg, IsRun, first_at, end_of, moments_of, boots_in, raised}
 use Rattle.sof_session.proofs.FilledInputs.{is-read, IsNext, next-there, none-wanting, bound-slots, bound-grows}
@@ -139,7 +139,7 @@ module _ {P S A : Type 0} (means : Meaning P) (mode : Mode P S A) (g : Ground) (
 
   -- A session is where a run is over the bytes that were read; no input that may still grow went past its bytes; and what the next
   -- command's bound rests on.
-  record IsFilledAt (whole : Whole) (seat : Seat P) (inputs : List InputView) (slots : List ℕ) (before : List Moment) (at : At S) : Type 0 where
+  record IsFilledAt (whole : Whole) (seat : SessionView P) (inputs : List InputView) (slots : List ℕ) (before : List Moment) (at : At S) : Type 0 where
     is : IsAt means mode (over whole) seat inputs slots before at
     distinct : IsDistinct nat_eq (input_slots inputs)
     within : (slot : ℕ) → may_grow slot inputs ≡ true → number_of at.past.positions slot ≤ length (list_of whole slot)
@@ -149,7 +149,7 @@ module _ {P S A : Type 0} (means : Meaning P) (mode : Mode P S A) (g : Ground) (
 
   -- ---- reads
 
-  module _ (seat : Seat P) (slots : List ℕ) (before : List Moment) (at : At S) where
+  module _ (seat : SessionView P) (slots : List ℕ) (before : List Moment) (at : At S) where
     one-read : (whole : Whole) (inputs : List InputView) (slot : ℕ) (bytes : List ℕ) → IsFilledAt whole seat inputs slots before at → IsNext slot inputs → IsFilledAt (filled whole slot bytes) seat (after_read slot bytes inputs) slots before at
     one-read whole inputs slot bytes f n =
         let r = is-read slot bytes inputs in
@@ -194,7 +194,7 @@ module _ {P S A : Type 0} (means : Meaning P) (mode : Mode P S A) (g : Ground) (
   -- ---- the legs that turns make from a place
 
   -- The turns met all doings that are these from the place on.
-  record MakesFilled (commands : List Command) (turns : List Turn) (whole : Whole) (seat : Seat P) (inputs : List InputView) (slots : List ℕ) (before : List Moment) (at : At S) (last : Life P) : Type 0 where
+  record MakesFilled (commands : List Command) (turns : List Turn) (whole : Whole) (seat : SessionView P) (inputs : List InputView) (slots : List ℕ) (before : List Moment) (at : At S) (last : Life P) : Type 0 where
     doing : Doing
     met : (e : Doing) → ((number : ℕ) → at.known.queue.sent < number → e number ≡ doing number) → TurnsBy means e (Seated seat inputs slots) turns last
     none : Calm means seat.link.device (device_of last) → (number : ℕ) → doing number ≡ Pass
@@ -209,7 +209,7 @@ module _ {P S A : Type 0} (means : Meaning P) (mode : Mode P S A) (g : Ground) (
     closes : (slot : ℕ) → may_grow slot inputs ≡ false → may_grow slot (inputs_of last) ≡ false
 
   -- none more
-  makes-none : (whole : Whole) (seat : Seat P) (inputs : List InputView) (slots : List ℕ) (before : List Moment) (at : At S) → IsFilledAt whole seat inputs slots before at → MakesFilled [] [] whole seat inputs slots before at (Seated seat inputs slots)
+  makes-none : (whole : Whole) (seat : SessionView P) (inputs : List InputView) (slots : List ℕ) (before : List Moment) (at : At S) → IsFilledAt whole seat inputs slots before at → MakesFilled [] [] whole seat inputs slots before at (Seated seat inputs slots)
   makes-none whole seat inputs slots before at f = record {
     doing = λ number. Pass;
     met = λ e after. refl;
@@ -226,7 +226,7 @@ module _ {P S A : Type 0} (means : Meaning P) (mode : Mode P S A) (g : Ground) (
   }
 
   -- after a turn that filled the inputs
-  makes-filled : (commands : List Command) (turn : Turn) (turns : List Turn) (reads : List (ℕ × List ℕ)) (next : Option ℕ) → turn.task ≡ Fill reads next → (whole : Whole) (inputs inputs' : List InputView) (seat : Seat P) (slots : List ℕ) (before : List Moment) (at : At S) (last : Life P) →
+  makes-filled : (commands : List Command) (turn : Turn) (turns : List Turn) (reads : List (ℕ × List ℕ)) (next : Option ℕ) → turn.task ≡ Fill reads next → (whole : Whole) (inputs inputs' : List InputView) (seat : SessionView P) (slots : List ℕ) (before : List Moment) (at : At S) (last : Life P) →
       AfterReads seat slots before at reads whole inputs inputs' → FilledBy reads inputs inputs' → next_read inputs' ≡ next → MakesFilled commands turns (with_reads whole reads) seat inputs' slots before at last → MakesFilled commands (turn ∷ turns) whole seat inputs slots before at last
   makes-filled commands turn turns reads next is whole inputs inputs' seat slots before at last a by upto m =
       let final = with_reads (with_reads whole reads) (reads_in turns) in
@@ -248,12 +248,12 @@ module _ {P S A : Type 0} (means : Meaning P) (mode : Mode P S A) (g : Ground) (
 
   -- ---- a leg
 
-  module _ (whole : Whole) (seat seat' : Seat P) (inputs inputs' : List InputView) (slots slots' : List ℕ) (command : Command) (out : Out) (before : List Moment) (at : At S)
+  module _ (whole : Whole) (seat seat' : SessionView P) (inputs inputs' : List InputView) (slots slots' : List ℕ) (command : Command) (out : Out) (before : List Moment) (at : At S)
       (c : Carries means command out seat seat' inputs inputs' slots) (same : slots' ≡ slots) (f : IsFilledAt whole seat inputs slots before at) (full : next_read inputs ≡ None) where
     abbrev doing : Doing
     doing = one.doing means mode (over whole) laws seat seat' inputs inputs' slots slots' command out before at c same f.is
 
-    abbrev come : Came S A
+    abbrev come : CommandResult S A
     come = one.come means mode (over whole) laws seat seat' inputs inputs' slots slots' command out before at c same f.is
 
     abbrev at' : At S
@@ -359,7 +359,7 @@ module _ {P S A : Type 0} (means : Meaning P) (mode : Mode P S A) (g : Ground) (
   -- ---- all of them
 
   -- a turn that fills leaves the session
-  fill-turn : (reads : List (ℕ × List ℕ)) (next : Option ℕ) (turn : Turn) (seat : Seat P) (inputs : List InputView) (slots : List ℕ) (m : Life P) → turn.task ≡ Fill reads next → Turned means turn.task turn.out (Seated seat inputs slots) m →
+  fill-turn : (reads : List (ℕ × List ℕ)) (next : Option ℕ) (turn : Turn) (seat : SessionView P) (inputs : List InputView) (slots : List ℕ) (m : Life P) → turn.task ≡ Fill reads next → Turned means turn.task turn.out (Seated seat inputs slots) m →
       (inputs' : List InputView) × (m ≡ Seated seat inputs' slots) × FilledBy reads inputs inputs' × (next_read inputs' ≡ next)
   fill-turn reads next turn seat inputs slots m is turned = by m (subst (λ (task : Task). Turned means task turn.out (Seated seat inputs slots) m) is turned)
     where
@@ -367,7 +367,7 @@ module _ {P S A : Type 0} (means : Meaning P) (mode : Mode P S A) (g : Ground) (
       by (Bare dsp) step = absurd step
       by (Seated seat' inputs' slots') step = (inputs', (λ i. Seated (step.0 i) inputs' (step.1 i)), step.2, step.3)
 
-  makes : (commands : List Command) (turns : List Turn) (whole : Whole) (seat : Seat P) (inputs : List InputView) (slots : List ℕ) (before : List Moment) (at : At S) (last : Life P) →
+  makes : (commands : List Command) (turns : List Turn) (whole : Whole) (seat : SessionView P) (inputs : List InputView) (slots : List ℕ) (before : List Moment) (at : At S) (last : Life P) →
       AreFilled commands turns → at.known.queue.sent + messages laws.most commands < 2 ^ 63 → IsFilledAt whole seat inputs slots before at → Turns means (Seated seat inputs slots) turns last →
       MakesFilled commands turns whole seat inputs slots before at last
   makes [] [] whole seat inputs slots before at last are counted f turned = subst (MakesFilled [] [] whole seat inputs slots before at) (sym turned) (makes-none whole seat inputs slots before at f)

@@ -15,7 +15,7 @@ use Rattle.host_widgets.specs.Routines.{JobDone}
 use Rattle.sof_script.specs.declared.script.Command.{Command}
 use Rattle.sof_session.specs.Agreement.{IsFated}
 use Rattle.sof_session.specs.CommandRules.{CommandRules}
-use Rattle.sof_session.specs.Commands.{Known, Came, came, carried, tested, next, is_plan, answer_by}
+use Rattle.sof_session.specs.Commands.{Known, CommandResult, came, carried, tested, next, is_plan, answer_by}
 use Rattle.sof_session.specs.SessionStep.{CommandDone, CallsBy, known_of}
 use Rattle.sof_session.proofs.JobWalks.{job_doing, job-met, job-known, job-answer, job-calm}
 use Rattle.sof_session.proofs.Stepping.{Standing, stays-standing}
@@ -39,10 +39,10 @@ module _ {P S A : Type 0} (means : Meaning P) (rules : CommandRules S A) (heap :
         record {
           doing = calm;
           none = λ stayed number. refl;
-          known_is = (λ i. known_of (same i).device (stays i)) ∙ ap (λ (c : Came S A). c.known) (sym next-is);
-          answer_is = said ∙ ap (λ (c : Came S A). c.answer) (sym next-is);
+          known_is = (λ i. known_of (same i).device (stays i)) ∙ ap (λ (c : CommandResult S A). c.known) (sym next-is);
+          answer_is = said ∙ ap (λ (c : CommandResult S A). c.answer) (sym next-is);
           calls = subst (λ (x : Bool × Option HostFault). CallsSo calm x.0 x.1) (λ i. (sym plans i, sym fails i)) same;
-          stands = subst (Standing means w v) (ap (λ (c : Came S A). c.moments) (sym next-is)) (stays-standing means w v (ap (λ (x : World (Wire P)). means.on x.device.device) same) (ap (λ (x : World (Wire P)). x.io) same) empty);
+          stands = subst (Standing means w v) (ap (λ (c : CommandResult S A). c.moments) (sym next-is)) (stays-standing means w v (ap (λ (x : World (Wire P)). means.on x.device.device) same) (ap (λ (x : World (Wire P)). x.io) same) empty);
         }
 
     -- no test failed
@@ -50,7 +50,7 @@ module _ {P S A : Type 0} (means : Meaning P) (rules : CommandRules S A) (heap :
       abbrev does : Doing
       does = job_doing means rules heap (rules.job kept command) kept kept' w v result j none fated few
 
-      abbrev written : Came S A
+      abbrev written : CommandResult S A
       written = carried rules does old (rules.job kept command)
 
       next-is : next rules does old command ≡ written
@@ -60,9 +60,9 @@ module _ {P S A : Type 0} (means : Meaning P) (rules : CommandRules S A) (heap :
       late-done said standing = record {
         doing = does;
         none = λ stayed. job-calm means rules heap (rules.job kept command) kept kept' w v result j none fated few (record { faults = stayed.faults; refusals = stayed.refusals });
-        known_is = job-known means rules heap (rules.job kept command) kept kept' w v result j none fated few ∙ ap (λ (x : Came S A). x.known) (sym next-is);
-        answer_is = said ∙ job-answer means rules heap (rules.job kept command) kept kept' w v result j none fated few ∙ ap (λ (x : Came S A). x.answer) (sym next-is);
+        known_is = job-known means rules heap (rules.job kept command) kept kept' w v result j none fated few ∙ ap (λ (x : CommandResult S A). x.known) (sym next-is);
+        answer_is = said ∙ job-answer means rules heap (rules.job kept command) kept kept' w v result j none fated few ∙ ap (λ (x : CommandResult S A). x.answer) (sym next-is);
         calls = subst (λ (x : Bool × Option HostFault). CallsSo does x.0 x.1) (λ i. (sym plans i, sym passes i))
             (result, j, said, job-met means rules heap (rules.job kept command) kept kept' w v result j none fated few);
-        stands = subst (Standing means w v) (ap (λ (x : Came S A). x.moments) (sym next-is)) standing;
+        stands = subst (Standing means w v) (ap (λ (x : CommandResult S A). x.moments) (sym next-is)) standing;
       }

@@ -15,7 +15,7 @@ use Rattle.sof_script.specs.declared.script.Command.{Command}
 use Rattle.sof_script.specs.declared.script.Command.TheVariants as commands
 use Rattle.sof_session.specs.CommandRanges.{most_sent}
 use Rattle.sof_session.specs.Modes.{made_at_load, IsInMode, CommandDoneIn, DoneWith, SteppedBy, shown_in}
-use Rattle.sof_session.specs.Seat.{Seat}
+use Rattle.sof_session.specs.SessionView.{SessionView}
 use Rattle.sof_session.specs.Show.{shown_by}
 use Rattle.sof_session.proofs.CommandMoves.{next-paced}
 use Rattle.sof_session.proofs.FewOrders.{few-order, few-most}
@@ -49,7 +49,7 @@ load-shows (commands.Lag k t) plan kept = refl
 
 module _ {P : Type 0} (means : Meaning P) where
   -- a session of this mode goes by its rules
-  pub load-stepped : (command : Command) (old new : Seat P) (w v : World (Wire P)) (answer : Answer) (s : SteppedBy means command old new w v answer) → IsInMode made_at_load old →
+  pub load-stepped : (command : Command) (old new : SessionView P) (w v : World (Wire P)) (answer : Answer) (s : SteppedBy means command old new w v answer) → IsInMode made_at_load old →
       (d : CommandDoneIn means made_at_load command old new w v answer) × (s.doing ≡ d.done.doing)
   load-stepped command old new w v answer s is = by old.up is s.did
     where
@@ -57,7 +57,7 @@ module _ {P : Type 0} (means : Meaning P) where
       by None none did = did
       by (Some up) none did = absurd (true≢false none)
 
-  shows : (command : Command) (seat : Seat P) → IsInMode made_at_load seat → shown_in command seat.up seat.plan seat.kept ≡ shown_by command seat.plan seat.kept
+  shows : (command : Command) (seat : SessionView P) → IsInMode made_at_load seat → shown_in command seat.up seat.plan seat.kept ≡ shown_by command seat.plan seat.kept
   shows command seat is = by seat.up is
     where
       by : (up : Option (List ℕ)) → is_some up ≡ false → shown_in command up seat.plan seat.kept ≡ shown_by command seat.plan seat.kept

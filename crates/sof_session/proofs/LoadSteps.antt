@@ -25,7 +25,7 @@ use Rattle.host_widgets.specs.ViewOf.{record_view}
 use Rattle.host_widgets.specs.Host.{Outcome, Sides}
 use Rattle.host_widgets.specs.Bringing.{BroughtUp, ticks_put}
 use Rattle.host_widgets.specs.Walk.{Walked, walk}
-use Rattle.host_widgets.specs.Orders.{Order, Carried, brought_end, fault_of_load, loading}
+use Rattle.host_widgets.specs.Orders.{Procedure, Carried, brought_end, fault_of_load, loading}
 use Rattle.host_widgets.proofs.BarePlans.{bare}
 use Rattle.host_widgets.proofs.BuildingActs.{bring-leaves}
 use Rattle.host_widgets.proofs.BuildingMoments.{AllOf, view_from, clock_from, build-views, passed-view, none-came, acts-clocked}
@@ -33,7 +33,7 @@ use Rattle.host_widgets.proofs.FewJoins.{few-acts}
 use Rattle.host_widgets.proofs.StandingOn.{StandsOn, ReadsOn}
 use Rattle.sof_script.specs.declared.script.Command.TheVariants as commands
 use Rattle.sof_session.specs.Commands.{answer_by, command_rules}
-use Rattle.sof_session.specs.Seat.{Seat}
+use Rattle.sof_session.specs.SessionView.{SessionView}
 use Rattle.sof_session.specs.SessionStep.{CommandDone}
 use Rattle.sof_session.specs.SessionCalls.{LoadRan}
 use Rattle.sof_session.proofs.Agreement.{at, AgreeAtLoad}
@@ -49,14 +49,14 @@ was-unloaded Unloaded none = refl
 was-unloaded On none = absurd (cc none)
 was-unloaded Off none = absurd (cc none)
 
-module _ {P : Type 0} (means : Meaning P) (old new : Seat P) (io io' : Io) (agreed : AgreeAtLoad means old) (few : old.link.sent < 2 ^ 63) where
+module _ {P : Type 0} (means : Meaning P) (old new : SessionView P) (io io' : Io) (agreed : AgreeAtLoad means old) (few : old.link.sent < 2 ^ 63) where
   abbrev w : World (Wire P)
   w = at old.link io
 
   abbrev v : World (Wire P)
   v = at new.link io'
 
-  abbrev order : Order
+  abbrev order : Procedure
   order = loading old.plan old.kept
 
   -- ---- all acts were sent, or a part of them

@@ -11,7 +11,7 @@ use Rattle.sof_script.specs.declared.script.Command.TheVariants as commands
 use Rattle.sof_session.specs.Agreement.{AreAgreed}
 use Rattle.sof_session.specs.Commands.{Known, is_plan, next}
 use Rattle.sof_session.specs.Modes.{Mode, IsInMode, CommandDoneIn, SteppedBy, shown_in}
-use Rattle.sof_session.specs.Seat.{Seat, seat_in}
+use Rattle.sof_session.specs.SessionView.{SessionView, seat_in}
 use Rattle.sof_session.specs.SessionStep.{CallsBy, known_of}
 use Rattle.sof_session.specs.Written.{boots_in, raised}
 use Rattle.sof_session.proofs.InputMoves.{AllInRange, ticks_in}
@@ -24,15 +24,15 @@ pub record ModeLaws {P S A : Type 0} (means : Meaning P) (mode : Mode P S A) (pl
   -- what may be kept, as after the first command and each later one
   pub IsKept : S → Type 0
   pub first : IsKept (mode.rules plan heap).first
-  pub kept : (seat : Seat P) → AreAgreed means seat → IsInMode mode seat → seat.plan ≡ plan → IsKept (mode.sees seat)
+  pub kept : (seat : SessionView P) → AreAgreed means seat → IsInMode mode seat → seat.plan ≡ plan → IsKept (mode.sees seat)
   -- a session that begins is in the mode, and has what is kept first
   pub begins : (p : P) → IsInMode mode (seat_in mode.on_use plan heap p)
   pub sees_first : (p : P) → means.on p ≡ None → mode.sees (seat_in mode.on_use plan heap p) ≡ (mode.rules plan heap).first
   -- a step of a session of this mode goes by its rules
-  pub stepped : (command : Command) (old new : Seat P) (w v : World (Wire P)) (answer : Answer) (s : SteppedBy means command old new w v answer) → IsInMode mode old →
+  pub stepped : (command : Command) (old new : SessionView P) (w v : World (Wire P)) (answer : Answer) (s : SteppedBy means command old new w v answer) → IsInMode mode old →
       (d : CommandDoneIn means mode command old new w v answer) × (s.doing ≡ d.done.doing)
   -- what a command shows is what the rules show
-  pub shows : (command : Command) (seat : Seat P) → IsInMode mode seat → shown_in command seat.up seat.plan seat.kept ≡ (mode.rules seat.plan seat.heap).shown (mode.sees seat) command
+  pub shows : (command : Command) (seat : SessionView P) → IsInMode mode seat → shown_in command seat.up seat.plan seat.kept ≡ (mode.rules seat.plan seat.heap).shown (mode.sees seat) command
   -- numbers go up by no more
   pub within : (known : Known S) (doing : Doing) (command : Command) → IsKept known.kept → known.queue.sent + most command < 2 ^ 64 - 1 →
       let now = (next (mode.rules plan heap) doing known command).known in (known.queue.sent ≤ now.queue.sent) × (now.queue.sent ≤ known.queue.sent + most command)

@@ -10,13 +10,13 @@ use Rattle.sof_script.specs.declared.script.Command.TheVariants as commands
 use Rattle.sof_session.specs.CommandRanges.{most_sent}
 use Rattle.sof_session.specs.Commands.{command_rules}
 use Rattle.sof_session.specs.Modes.{made_on_use, CommandDoneIn, DoneWith, SteppedBy, most_sent_by}
-use Rattle.sof_session.specs.Seat.{Seat}
+use Rattle.sof_session.specs.SessionView.{SessionView}
 use Rattle.sof_session.specs.SessionStep.{CommandDone}
 use Rattle.sof_session.proofs.Agreement.{none-up}
 use Rattle.sof_session.proofs.LoadMode.{load-stepped}
 use Rattle.sof_session.proofs.UpMode.{up-stepped}
 
-module _ {P : Type 0} (means : Meaning P) (command : Command) (old new : Seat P) (w v : World (Wire P)) (answer : Answer) where
+module _ {P : Type 0} (means : Meaning P) (command : Command) (old new : SessionView P) (w v : World (Wire P)) (answer : Answer) where
   abbrev Stepped : Type 0
   Stepped = SteppedBy means command old new w v answer
 

@@ -8,7 +8,7 @@ use Rattle.tplg_plan.specs.Sound.{IsSound}
 use Rattle.host_widgets.specs.declared.kept.Record.{Record}
 use Rattle.sof_script.specs.declared.script.Command.{Command}
 use Rattle.sof_session.specs.RunLaws.{HasRanks}
-use Rattle.sof_session.specs.Written.{Ground, At, Leg, Goes, IsLeg, IsRun, came_at, out_of, end_of, basis_of}
+use Rattle.sof_session.specs.Written.{Ground, At, Leg, LegStep, IsLeg, IsRun, came_at, out_of, end_of, basis_of}
 use Rattle.sof_session.proofs.RankedRuns.{AllRanks, are-ranked, leads-ranks, next-ranks}
 
 module _ (g : Ground) (sound : IsSound g.plan) (doing : Doing) where
@@ -18,7 +18,7 @@ module _ (g : Ground) (sound : IsSound g.plan) (doing : Doing) where
   ranks-at : (command : Command) (old : At Record) → AllRanks (moments_at command old)
   ranks-at command old = next-ranks g.plan sound g.heap doing old.known command
 
-  one-at : (command : Command) (old : At Record) (a b : At Record) → AreRanked old.past.view (moments_at command old) → Goes (basis_of g) doing command old a → Goes (basis_of g) doing command old b → a ≡ b
+  one-at : (command : Command) (old : At Record) (a b : At Record) → AreRanked old.past.view (moments_at command old) → LegStep (basis_of g) doing command old a → LegStep (basis_of g) doing command old b → a ≡ b
   one-at command old a b ranked x y = λ i. record {
     known = (x.known ∙ sym y.known) i;
     past = leads_same g.whole (moments_at command old) old.past a.past b.past ranked x.led y.led i;

@@ -11,25 +11,25 @@ use Rattle.host_widgets.specs.Host.{Outcome}
 use Rattle.host_widgets.specs.OneAct.{act_rules}
 use Rattle.host_widgets.specs.Walk.{walk}
 use Rattle.host_widgets.specs.ActCalls.{calls_of, next_of}
-use Rattle.host_widgets.specs.Orders.{Order, Carried, end_by, goes_on_after_refusal}
+use Rattle.host_widgets.specs.Orders.{Procedure, Carried, end_by, goes_on_after_refusal}
 use Rattle.sof_session.proofs.ActsLed.{acts-led, acts-sent}
 use Rattle.sof_session.proofs.Carrying.{quietly}
 
 module _ {P : Type 0} (means : Meaning P) (plan : Plan) (heap : ℕ) where
-  module _ (o : Order) (kept kept' : Record) (w v : World (Wire P)) (result : Outcome) (c : Carried (link means) plan heap o kept kept' w v result) where
+  module _ (o : Procedure) (kept kept' : Record) (w v : World (Wire P)) (result : Outcome) (c : Carried (link means) plan heap o kept kept' w v result) where
     abbrev last : List Moment
-    last = let met = walk (act_rules plan heap) (goes_on_after_refusal o.manner) next_of kept c.meetings o.acts in (end_by o.manner plan o.done kept met.kept met.outcome).1
+    last = let met = walk (act_rules plan heap) (goes_on_after_refusal o.ending) next_of kept c.meetings o.acts in (end_by o.ending plan o.done kept met.kept met.outcome).1
 
     -- all its calls
     pub carried-led : (calls : List Call) × Led (link means) w calls v
     carried-led =
-        let acts = acts-led (link means) (act_rules plan heap) (goes_on_after_refusal o.manner) o.acts c.meetings kept c.begun c.sent c.walked in
+        let acts = acts-led (link means) (act_rules plan heap) (goes_on_after_refusal o.ending) o.acts c.meetings kept c.begun c.sent c.walked in
         (calls_of heap o.first ++ (acts.0 ++ calls_of heap last), Led-append (link means) (calls_of heap o.first) (acts.0 ++ calls_of heap last) w c.begun v c.first (Led-append (link means) acts.0 (calls_of heap last) c.begun c.sent v acts.1 c.ends.1))
 
     pub carried-sent : v.device.sent ≤ w.device.sent + length o.acts
     carried-sent = omega (
       arith,
       (quietly means heap o.first w c.begun c.first).sent,
-      acts-sent means (act_rules plan heap) (goes_on_after_refusal o.manner) o.acts c.meetings kept c.begun c.sent c.walked,
+      acts-sent means (act_rules plan heap) (goes_on_after_refusal o.ending) o.acts c.meetings kept c.begun c.sent c.walked,
       (quietly means heap last c.sent v c.ends.1).sent,
     )

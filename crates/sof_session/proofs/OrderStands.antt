@@ -19,7 +19,7 @@ use Rattle.host_widgets.specs.HostActs.{Act}
 use Rattle.host_widgets.specs.OneAct.{act_rules}
 use Rattle.host_widgets.specs.Walk.{Walked, walk}
 use Rattle.host_widgets.specs.ActCalls.{next_of, calls_of}
-use Rattle.host_widgets.specs.Orders.{Order, Plain, Carried, goes_on_after_refusal, plain_end, end_by}
+use Rattle.host_widgets.specs.Orders.{Procedure, Plain, Carried, goes_on_after_refusal, plain_end, end_by}
 use Rattle.host_widgets.proofs.StandingOn.{StandsOn, ReadsOn, cut-stands}
 use Rattle.host_widgets.proofs.WalksHold.{ByLink, AreTaken, Held, HeldBy, ReadBy, walk-holds}
 use Rattle.host_widgets.specs.Routines.{order_job}
@@ -74,12 +74,12 @@ by-down (Err (Blob n)) Up Down f x = f x
 
 -- ---- over a link
 
-module _ {P : Type 0} (means : Meaning P) (heap : ℕ) (plan : Plan) (o : Order) (kept kept' : Record) (w v : World (Wire P)) (result : Outcome) (c : Carried (link means) plan heap o kept kept' w v result) where
+module _ {P : Type 0} (means : Meaning P) (heap : ℕ) (plan : Plan) (o : Procedure) (kept kept' : Record) (w v : World (Wire P)) (result : Outcome) (c : Carried (link means) plan heap o kept kept' w v result) where
   abbrev pub met : Walked Record Act (List Meeting)
-  met = walk (act_rules plan heap) (goes_on_after_refusal o.manner) next_of kept c.meetings o.acts
+  met = walk (act_rules plan heap) (goes_on_after_refusal o.ending) next_of kept c.meetings o.acts
 
   abbrev pub last : List Moment
-  last = (end_by o.manner plan o.done kept met.kept met.outcome).1
+  last = (end_by o.ending plan o.done kept met.kept met.outcome).1
 
   -- what ends with a cut leaves the device off
   pub cut-off : last ≡ Cut ∷ [] → means.on v.device.device ≡ None
@@ -101,7 +101,7 @@ module _ {P : Type 0} (means : Meaning P) (heap : ℕ) (plan : Plan) (o : Order)
     pub moments-are : o.first ++ (met.moments ++ last) ≡ written
     moments-are =
         let s = (from-start means heap plan o kept kept' w v result c none fated few).0 in
-        λ i. o.first ++ (s.moments i ++ (end_by o.manner plan o.done kept (s.left i) (s.outcome i)).1)
+        λ i. o.first ++ (s.moments i ++ (end_by o.ending plan o.done kept (s.left i) (s.outcome i)).1)
 
     -- the device is off, whatever the result of its acts
     pub cut-leads : (device : Option FwState) → last ≡ Cut ∷ [] → ReadsOn device w.io c.sent.io (o.first ++ met.moments) → StandsOn device w.io (means.on v.device.device) v.io written
@@ -112,13 +112,13 @@ module _ {P : Type 0} (means : Meaning P) (heap : ℕ) (plan : Plan) (o : Order)
 -- ---- one that sends acts alone
 
 -- with this record once all passed
-abbrev pub sending : List Act → (Record → Record) → Answer → Order
-sending acts done answer = record { first = []; acts = acts; manner = Plain; done = done; answer = answer }
+abbrev pub sending : List Act → (Record → Record) → Answer → Procedure
+sending acts done answer = record { first = []; acts = acts; ending = Plain; done = done; answer = answer }
 
 module _ {P : Type 0} (means : Meaning P) (heap : ℕ) (plan : Plan) (sound : IsSound plan) (acts : List Act) (done : Record → Record) (answer : Answer) (kept kept' : Record) (w v : World (Wire P)) (result : Outcome)
     (c : Carried (link means) plan heap (sending acts done answer) kept kept' w v result)
     (f : FwState) (on : means.on w.device.device ≡ Some f) (is : IsRecordOf plan kept) (keeps : KeepsRecord plan heap kept f) (taken : AreTaken plan false kept acts) where
-  abbrev o : Order
+  abbrev o : Procedure
   o = sending acts done answer
 
   abbrev sent : Walked Record Act (List Meeting)

@@ -16,7 +16,7 @@ use Rattle.host_widgets.specs.declared.kept.Power.{Power}
 use Rattle.host_widgets.specs.declared.kept.Power.TheVariants.{Unloaded, On, Off}
 use Rattle.sof_session.specs.Agreement.{AreAgreed, Powered, PoweredBy}
 use Rattle.sof_session.specs.CommandRanges.{is_refusal}
-use Rattle.sof_session.specs.Seat.{Seat}
+use Rattle.sof_session.specs.SessionView.{SessionView}
 use Rattle.sof_session.specs.SessionCalls.{Stays}
 
 -- an error of a script is one of a refusal
@@ -40,8 +40,8 @@ held-lag number ticks entries held room =
 
 -- ---- both sides
 
-module _ {P : Type 0} (means : Meaning P) (old : Seat P) where
-  abbrev pub seat_by : Wire P → Seat P
+module _ {P : Type 0} (means : Meaning P) (old : SessionView P) where
+  abbrev pub seat_by : Wire P → SessionView P
   seat_by wire = record { link = wire; kept = old.kept; plan = old.plan; heap = old.heap; up = old.up }
 
   module _ (agreed : AreAgreed means old) where

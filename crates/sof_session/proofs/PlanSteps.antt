@@ -18,9 +18,9 @@ use Rattle.sof_script.specs.declared.script.Command.{Command}
 use Rattle.sof_script.specs.declared.script.Command.TheVariants as commands
 use Rattle.sof_session.specs.CommandRules.{CommandRules}
 use Rattle.sof_session.specs.Commands as next
-use Rattle.sof_session.specs.Commands.{Known, Came, is_plan, command_rules}
+use Rattle.sof_session.specs.Commands.{Known, CommandResult, is_plan, command_rules}
 use Rattle.sof_session.specs.Modes.{up_state_of}
-use Rattle.sof_session.specs.Seat.{Seat}
+use Rattle.sof_session.specs.SessionView.{SessionView}
 use Rattle.sof_session.specs.SessionStep.{CommandDone, CallsBy, known_of}
 use Rattle.sof_session.specs.SessionCalls.{PlanRan, LagRan, plan_answer}
 use Rattle.sof_session.specs.UpCommands.{up_rules}
@@ -41,7 +41,7 @@ module _ {P S A : Type 0} (means : Meaning P) (rules : CommandRules S A) (heap :
 
   -- these entries, where there is room for them
   module _ (room : Bool) (entries : List Entry) where
-    abbrev written : Came S A
+    abbrev written : CommandResult S A
     written = next.planned_where_room known room entries
 
     record Came_so (answer : Answer) : Type 0 where
@@ -57,18 +57,18 @@ module _ {P S A : Type 0} (means : Meaning P) (rules : CommandRules S A) (heap :
     came-so answer (Ok done) plan stays said =
         let is = by-room true plan.0 in
         record {
-          known_so = (λ i. known_of (plan.1 i) (stays i)) ∙ ap (λ (c : Came S A). c.known) is;
-          answer_so = said ∙ ap (λ (c : Came S A). c.answer) is;
+          known_so = (λ i. known_of (plan.1 i) (stays i)) ∙ ap (λ (c : CommandResult S A). c.known) is;
+          answer_so = said ∙ ap (λ (c : CommandResult S A). c.answer) is;
           device_so = ap (λ (x : Wire P). x.device) plan.1;
-          moments_so = ap (λ (c : Came S A). c.moments) is;
+          moments_so = ap (λ (c : CommandResult S A). c.moments) is;
         }
     came-so answer (Err full) plan stays said =
         let is = by-room false plan.0 in
         record {
-          known_so = (λ i. known_of (plan.1 i) (stays i)) ∙ ap (λ (c : Came S A). c.known) is;
-          answer_so = said ∙ ap (λ (c : Came S A). c.answer) is;
+          known_so = (λ i. known_of (plan.1 i) (stays i)) ∙ ap (λ (c : CommandResult S A). c.known) is;
+          answer_so = said ∙ ap (λ (c : CommandResult S A). c.answer) is;
           device_so = ap (λ (x : Wire P). x.device) plan.1;
-          moments_so = ap (λ (c : Came S A). c.moments) is;
+          moments_so = ap (λ (c : CommandResult S A). c.moments) is;
         }
 
     -- a command that plans them
@@ -79,10 +79,10 @@ module _ {P S A : Type 0} (means : Meaning P) (rules : CommandRules S A) (heap :
         record {
           doing = calm;
           none = λ stayed number. refl;
-          known_is = c.known_so ∙ ap (λ (x : Came S A). x.known) (sym (nexts calm));
-          answer_is = c.answer_so ∙ ap (λ (x : Came S A). x.answer) (sym (nexts calm));
+          known_is = c.known_so ∙ ap (λ (x : CommandResult S A). x.known) (sym (nexts calm));
+          answer_is = c.answer_so ∙ ap (λ (x : CommandResult S A). x.answer) (sym (nexts calm));
           calls = subst (λ (b : Bool). CallsBy means rules.acts heap calm (rules.job s command) s' w v answer b (rules.fault s command)) (sym plans) (c.device_so, refl);
-          stands = subst (Standing means w v) (c.moments_so ∙ ap (λ (x : Came S A). x.moments) (sym (nexts calm))) (stays-standing means w v (ap means.on c.device_so) refl empty);
+          stands = subst (Standing means w v) (c.moments_so ∙ ap (λ (x : CommandResult S A). x.moments) (sym (nexts calm))) (stays-standing means w v (ap means.on c.device_so) refl empty);
         }
 
 -- the device stays
@@ -90,7 +90,7 @@ same-device : {P : Type 0} (room : Bool) (entries : List Entry) (old new : Wire 
 same-device {P} room entries old new (Ok done) plan = ap (λ (x : Wire P). x.device) plan.1
 same-device {P} room entries old new (Err full) plan = ap (λ (x : Wire P). x.device) plan.1
 
-module _ {P : Type 0} (means : Meaning P) (old new : Seat P) (io : Io) (empty : drained io.outputs ≡ io.outputs) where
+module _ {P : Type 0} (means : Meaning P) (old new : SessionView P) (io : Io) (empty : drained io.outputs ≡ io.outputs) where
   abbrev fate_room : ℕ → Bool
   fate_room k = has_room (old.link.sent + k) old.link.entries
 
@@ -133,7 +133,7 @@ module _ {P : Type 0} (means : Meaning P) (old new : Seat P) (io : Io) (empty : 
 
 -- ---- a show
 
-pub show_stepped : {P : Type 0} (means : Meaning P) (old : Seat P) (io : Io) → drained io.outputs ≡ io.outputs → CommandDone means (command_rules old.plan old.heap) old.heap commands.Show old.kept old.kept (at old.link io) (at old.link io) Show
+pub show_stepped : {P : Type 0} (means : Meaning P) (old : SessionView P) (io : Io) → drained io.outputs ≡ io.outputs → CommandDone means (command_rules old.plan old.heap) old.heap commands.Show old.kept old.kept (at old.link io) (at old.link io) Show
 show_stepped means old io empty = record {
   doing = calm;
   none = λ stayed number. refl;

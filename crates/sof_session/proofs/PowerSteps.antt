@@ -24,7 +24,7 @@ use Rattle.host_widgets.specs.HostActs.{Save}
 use Rattle.host_widgets.specs.ActLists.{go_down, stop_acts, stop_by}
 use Rattle.host_widgets.specs.OneAct.{act_rules}
 use Rattle.host_widgets.specs.Host.{Outcome}
-use Rattle.host_widgets.specs.Orders.{Carried, Order, suspending}
+use Rattle.host_widgets.specs.Orders.{Carried, Procedure, suspending}
 use Rattle.host_widgets.specs.TestedOrders.{Tested}
 use Rattle.host_widgets.proofs.StandingOn.{ReadsOn, reads-of}
 use Rattle.host_widgets.proofs.WalksHold.{Held, HeldBy, walk-holds}
@@ -33,7 +33,7 @@ use Rattle.host_pm.proofs.GoingDown.{down-taken}
 use Rattle.sof_script.specs.declared.script.Command.TheVariants as commands
 use Rattle.sof_session.specs.Agreement.{Powered}
 use Rattle.sof_session.specs.Commands.{answer_by, command_rules}
-use Rattle.sof_session.specs.Seat.{Seat}
+use Rattle.sof_session.specs.SessionView.{SessionView}
 use Rattle.sof_session.specs.SessionStep.{CommandDone}
 use Rattle.sof_session.specs.SessionCalls.{CallRan}
 use Rattle.sof_session.proofs.ActsLed.{acts-io, acts-ends}
@@ -83,8 +83,8 @@ few-down plan kept sound = omega (arith, few-streams plan sound, few-stops plan.
 
 -- ---- a suspend
 
-module _ {P : Type 0} (means : Meaning P) (old : Seat P) (wire : Wire P) (io io' : Io) (agreed : AgreeAtLoad means old) (kept : Record) (result : Outcome) where
-  abbrev order : Order
+module _ {P : Type 0} (means : Meaning P) (old : SessionView P) (wire : Wire P) (io io' : Io) (agreed : AgreeAtLoad means old) (kept : Record) (result : Outcome) where
+  abbrev order : Procedure
   order = suspending old.plan old.kept
 
   abbrev CarriedSo : Type 0
@@ -129,14 +129,14 @@ module _ {P : Type 0} (means : Meaning P) (old : Seat P) (wire : Wire P) (io io'
         by (Some fault) is = ap (λ (x : World (Wire P)). bound_ends x.io) (tested.early fault is).1
         by None is = cut-ends (was-powered old.kept.power (was-on old.kept.power is) agreed.powered) (tested.late is)
 
-module _ {P : Type 0} (means : Meaning P) (old new : Seat P) (io io' : Io) (agreed : AgreeAtLoad means old) (few : old.link.sent < 2 ^ 63) where
+module _ {P : Type 0} (means : Meaning P) (old new : SessionView P) (io io' : Io) (agreed : AgreeAtLoad means old) (few : old.link.sent < 2 ^ 63) where
   abbrev w : World (Wire P)
   w = at old.link io
 
   abbrev v : World (Wire P)
   v = at new.link io'
 
-  abbrev o : Order
+  abbrev o : Procedure
   o = suspending old.plan old.kept
 
   abbrev Ran : Answer → Type 0

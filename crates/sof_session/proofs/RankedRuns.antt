@@ -22,7 +22,7 @@ use Rattle.host_widgets.specs.declared.kept.Record.{Record}
 use Rattle.host_widgets.specs.Host.{Outcome}
 use Rattle.host_widgets.specs.HostActs.{Act, after, fresh_in}
 use Rattle.host_widgets.specs.OneAct.{act_rules, Performed, one_act, performed, outcome_by, own, lag_of}
-use Rattle.host_widgets.specs.Orders.{Order, Manner, Plain, Loading, Resuming, Suspending, goes_on_after_refusal, end_by, sends, where_on}
+use Rattle.host_widgets.specs.Orders.{Procedure, Ending, Plain, Loading, Resuming, Suspending, goes_on_after_refusal, end_by, sends, where_on}
 use Rattle.host_widgets.specs.ViewOf.{record_view, graph_by}
 use Rattle.host_widgets.specs.Walk.{Walked, walk, followed_by, goes_past}
 use Rattle.host_widgets.proofs.SoundPlays.{sound-plays}
@@ -38,7 +38,7 @@ use Rattle.sof_script.specs.declared.script.Command.{Command}
 use Rattle.sof_script.specs.declared.script.Command.TheVariants as commands
 use Rattle.sof_session.specs.CommandTests.{asking, fault_of}
 use Rattle.sof_session.specs.AskedOrders.{asked_order}
-use Rattle.sof_session.specs.Commands.{Known, Came, is_plan, order_of, carried, tested, next, command_rules}
+use Rattle.sof_session.specs.Commands.{Known, CommandResult, is_plan, order_of, carried, tested, next, command_rules}
 use Rattle.sof_session.specs.RunLaws.{HasRanks}
 use Rattle.sof_session.proofs.SameNext.{is-planned, is-tested}
 
@@ -155,7 +155,7 @@ first-ranks plan kept (commands.Get name) = tt
 first-ranks plan kept (commands.Read name) = read-ranks kept (named_at plan kept name)
 first-ranks plan kept command = asked-ranks plan kept (asking command)
 
-pub end-ranks : (manner : Manner) (plan : Plan) (done : Record → Record) (start now : Record) (o : Outcome) → AllRanks (end_by manner plan done start now o).1
+pub end-ranks : (ending : Ending) (plan : Plan) (done : Record → Record) (start now : Record) (o : Outcome) → AllRanks (end_by ending plan done start now o).1
 end-ranks Plain plan done start now (Ok passed) = tt
 end-ranks Plain plan done start now (Err LinkDown) = tt
 end-ranks Plain plan done start now (Err fault) = tt
@@ -168,21 +168,21 @@ end-ranks Suspending plan done start now o = tt
 -- ---- a command
 
 module _ (plan : Plan) (sound : IsSound plan) (heap : ℕ) (doing : Doing) (known : Known Record) where
-  carried-ranks : (o : Order) → AllRanks o.first → AllRanks (carried (command_rules plan heap) doing known (order_job plan known.kept o)).moments
+  carried-ranks : (o : Procedure) → AllRanks o.first → AllRanks (carried (command_rules plan heap) doing known (order_job plan known.kept o)).moments
   carried-ranks o first =
-      let w = walk (act_rules plan heap) (goes_on_after_refusal o.manner) (next_meeting doing) known.kept known.queue o.acts in
-      let e = end_by o.manner plan o.done known.kept w.kept w.outcome in
+      let w = walk (act_rules plan heap) (goes_on_after_refusal o.ending) (next_meeting doing) known.kept known.queue o.acts in
+      let e = end_by o.ending plan o.done known.kept w.kept w.outcome in
       all-append o.first (w.moments ++ e.1) first
-      (all-append w.moments e.1 (walk-ranks plan sound heap (goes_on_after_refusal o.manner) doing o.acts known.kept known.queue) (end-ranks o.manner plan o.done known.kept w.kept w.outcome))
+      (all-append w.moments e.1 (walk-ranks plan sound heap (goes_on_after_refusal o.ending) doing o.acts known.kept known.queue) (end-ranks o.ending plan o.done known.kept w.kept w.outcome))
 
-  tested-ranks : (o : Order) (fault : Option HostFault) → AllRanks o.first → AllRanks (tested (command_rules plan heap) doing known (order_job plan known.kept o) fault).moments
+  tested-ranks : (o : Procedure) (fault : Option HostFault) → AllRanks o.first → AllRanks (tested (command_rules plan heap) doing known (order_job plan known.kept o) fault).moments
   tested-ranks o (Some fault) first = tt
   tested-ranks o None first = carried-ranks o first
 
   pub next-ranks : (command : Command) → AllRanks (next (command_rules plan heap) doing known command).moments
   next-ranks command =
       elim (cases_Bool (is_plan command)) [
-        | inl planned ↦ subst (λ (c : Came Record Act). AllRanks c.moments) (sym ((is-planned plan heap known command planned).is doing)) tt
-        | inr other ↦ subst (λ (c : Came Record Act). AllRanks c.moments) (sym (is-tested plan heap known doing command other))
+        | inl planned ↦ subst (λ (c : CommandResult Record Act). AllRanks c.moments) (sym ((is-planned plan heap known command planned).is doing)) tt
+        | inr other ↦ subst (λ (c : CommandResult Record Act). AllRanks c.moments) (sym (is-tested plan heap known doing command other))
             (tested-ranks (order_of plan known.kept command) (fault_of plan known.kept command) (first-ranks plan known.kept command))
       ]

@@ -33,7 +33,7 @@ use Rattle.host_widgets.specs.Host.{AreControls, Outcome}
 use Rattle.host_widgets.specs.Bringing.{ticks_put}
 use Rattle.host_widgets.specs.HostActs.{Act}
 use Rattle.host_widgets.specs.Kept.{with_power}
-use Rattle.host_widgets.specs.Orders.{Carried, Order, brought_end, resuming}
+use Rattle.host_widgets.specs.Orders.{Carried, Procedure, brought_end, resuming}
 use Rattle.host_widgets.specs.ViewOf.{record_view}
 use Rattle.host_widgets.specs.Walk.{Walked, walk}
 use Rattle.host_widgets.proofs.BuildingActs.{Leaves}
@@ -45,7 +45,7 @@ use Rattle.host_pm.specs.Resumed.{Resumed, ResumeLeft}
 use Rattle.host_pm.proofs.PowerOrders.{back-leaves, rests-off}
 use Rattle.sof_script.specs.declared.script.Command.TheVariants as commands
 use Rattle.sof_session.specs.Commands.{answer_by, command_rules}
-use Rattle.sof_session.specs.Seat.{Seat}
+use Rattle.sof_session.specs.SessionView.{SessionView}
 use Rattle.sof_session.specs.SessionStep.{CommandDone}
 use Rattle.sof_session.specs.SessionCalls.{ResumeRan}
 use Rattle.sof_session.proofs.Agreement.{at, AgreeAtLoad}
@@ -85,8 +85,8 @@ few-back plan kept sound are =
 
 -- ---- a resume that was carried out
 
-module _ {P : Type 0} (means : Meaning P) (old : Seat P) (wire : Wire P) (io io' : Io) (agreed : AgreeAtLoad means old) (kept : Record) (result : Outcome) where
-  abbrev order : Order
+module _ {P : Type 0} (means : Meaning P) (old : SessionView P) (wire : Wire P) (io io' : Io) (agreed : AgreeAtLoad means old) (kept : Record) (result : Outcome) where
+  abbrev order : Procedure
   order = resuming old.plan old.kept
 
   abbrev w : World (Wire P)
@@ -179,7 +179,7 @@ module _ {P : Type 0} (means : Meaning P) (old : Seat P) (wire : Wire P) (io io'
       pub resume-leads : Leads
       resume-leads = by met.outcome refl
 
-module _ {P : Type 0} (means : Meaning P) (old new : Seat P) (io io' : Io) (agreed : AgreeAtLoad means old) (few : old.link.sent < 2 ^ 63) where
+module _ {P : Type 0} (means : Meaning P) (old new : SessionView P) (io io' : Io) (agreed : AgreeAtLoad means old) (few : old.link.sent < 2 ^ 63) where
   abbrev a : World (Wire P)
   a = at old.link io
 

@@ -18,7 +18,7 @@ use Rattle.host_widgets.specs.Routines.{Routine, Finished, Sending, Job, JobDone
 use Rattle.host_widgets.specs.Walk.{Walked, walk, followed_by, goes_past}
 use Rattle.sof_script.specs.declared.script.Command.{Command}
 use Rattle.sof_session.specs.CommandRules.{CommandRules}
-use Rattle.sof_session.specs.Commands.{Known, Came, carried, tested, next, is_plan}
+use Rattle.sof_session.specs.Commands.{Known, CommandResult, carried, tested, next, is_plan}
 use Rattle.sof_session.specs.SessionStep.{CallsBy, known_of}
 use Rattle.sof_session.specs.Written.{boots_in, raised}
 use Rattle.sof_session.proofs.JobCalm.{routine-led}
@@ -93,7 +93,7 @@ module _ {P S A : Type 0} (means : Meaning P) (rules : CommandRules S A) (heap :
   abbrev known : Known S
   known = known_of w.device kept
 
-  abbrev BootsBy : Came S A → Type 0
+  abbrev BootsBy : CommandResult S A → Type 0
   BootsBy c = means.boots v.device.device ≡ raised (boots_in c.moments) (means.boots w.device.device)
 
   -- the written job boots as often as its first moments say

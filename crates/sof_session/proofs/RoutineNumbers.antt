@@ -15,7 +15,7 @@ use Rattle.host_widgets.specs.Routines.{Routine, Finished, Sending, Job, Routine
 use Rattle.sof_script.specs.declared.script.Command.{Command}
 use Rattle.sof_script.specs.declared.script.Command.TheVariants as commands
 use Rattle.sof_session.specs.CommandRules.{CommandRules}
-use Rattle.sof_session.specs.Commands.{Known, Came, came, is_plan, ended, tested, planned_where_room, next}
+use Rattle.sof_session.specs.Commands.{Known, CommandResult, came, is_plan, ended, tested, planned_where_room, next}
 use Rattle.sof_session.proofs.FewMeetings.{few-meetings}
 use Rattle.sof_session.proofs.JobWalks.{walk-front}
 use Rattle.sof_session.proofs.SameDoings.{walk-up, walk-few, same-walk}
@@ -102,7 +102,7 @@ module _ {S A : Type 0} (rules : CommandRules S A) (known : Known S) where
   planned-by (commands.Lag k ticks) is = plans (commands.Lag k ticks) _ _ (λ doing. refl)
   planned-by command is = absurd (cc is)
 
-  abbrev pub tested_by : Doing → Command → Came S A
+  abbrev pub tested_by : Doing → Command → CommandResult S A
   tested_by doing command = tested rules doing known (rules.job known.kept command) (rules.fault known.kept command)
 
   pub tested-is : (doing : Doing) (command : Command) → is_plan command ≡ false → next rules doing known command ≡ tested_by doing command
@@ -116,7 +116,7 @@ module _ {S A : Type 0} (rules : CommandRules S A) (known : Known S) where
   abbrev pub JobWithin : ℕ → Job S A → Option HostFault → Type 0
   JobWithin n job fault = fault ≡ None → (doing : Doing) → SendsWithin rules.acts (next_meeting doing) n job.from known.queue job.routine
 
-  abbrev Within : ℕ → Came S A → Type 0
+  abbrev Within : ℕ → CommandResult S A → Type 0
   Within most c = (known.queue.sent ≤ c.known.queue.sent) × (c.known.queue.sent ≤ known.queue.sent + most)
 
   job-within : (doing : Doing) (n : ℕ) (job : Job S A) (fault : Option HostFault) → JobWithin n job fault → known.queue.sent + n < 2 ^ 64 - 1 → Within n (tested rules doing known job fault)
@@ -145,6 +145,6 @@ module _ {S A : Type 0} (rules : CommandRules S A) (known : Known S) where
           | inl is ↦ let p = planned-by command is in p.is d ∙ sym (p.is e)
           | inr is ↦
               tested-is d command is
-              ∙ job-same n (rules.job known.kept command) (rules.fault known.kept command) (sends is) few (subst (λ (c : Came S A). SameTo c.known.queue.sent) (tested-is d command is) same)
+              ∙ job-same n (rules.job known.kept command) (rules.fault known.kept command) (sends is) few (subst (λ (c : CommandResult S A). SameTo c.known.queue.sent) (tested-is d command is) same)
               ∙ sym (tested-is e command is)
         ]

@@ -15,7 +15,7 @@ use Rattle.host_widgets.specs.Host.{Outcome}
 use Rattle.host_widgets.specs.OneAct.{act_rules, Performed, one_act, outcome_by, own, performed, lag_of}
 use Rattle.host_widgets.specs.Walk.{Walked, walk, followed_by, goes_past}
 use Rattle.host_widgets.specs.ActCalls.{ActsDid, Onwards, next_of, calls_of}
-use Rattle.host_widgets.specs.Orders.{Order, Manner, Plain, Loading, Resuming, Suspending, Carried, goes_on_after_refusal, plain_end, brought_end, end_by}
+use Rattle.host_widgets.specs.Orders.{Procedure, Ending, Plain, Loading, Resuming, Suspending, Carried, goes_on_after_refusal, plain_end, brought_end, end_by}
 use Rattle.host_widgets.specs.Routines.{order_job}
 use Rattle.sof_session.specs.Written.{boots_in, raised}
 use Rattle.sof_session.specs.Commands.{carried, Known, command_rules}
@@ -80,18 +80,18 @@ none-brought : (done : Record → Record) (failed now : Record) (outcome : Outco
 none-brought done failed now (Ok passed) = refl
 none-brought done failed now (Err fault) = refl
 
-pub none-ended : (manner : Manner) (plan : Plan) (done : Record → Record) (start now : Record) (outcome : Outcome) → NoBoot (end_by manner plan done start now outcome).1
+pub none-ended : (ending : Ending) (plan : Plan) (done : Record → Record) (start now : Record) (outcome : Outcome) → NoBoot (end_by ending plan done start now outcome).1
 none-ended Plain plan done start now outcome = none-plain done now outcome
 none-ended Loading plan done start now outcome = none-brought done (first_record plan) now outcome
 none-ended Resuming plan done start now outcome = none-brought done start now outcome
 none-ended Suspending plan done start now outcome = refl
 
 -- so a command boots as often as its first moments say
-pub carried-boots : (plan : Plan) (heap : ℕ) (doing : Doing) (known : Known Record) (o : Order) (count : ℕ) → raised (boots_in (carried (command_rules plan heap) doing known (order_job plan known.kept o)).moments) count ≡ raised (boots_in o.first) count
+pub carried-boots : (plan : Plan) (heap : ℕ) (doing : Doing) (known : Known Record) (o : Procedure) (count : ℕ) → raised (boots_in (carried (command_rules plan heap) doing known (order_job plan known.kept o)).moments) count ≡ raised (boots_in o.first) count
 carried-boots plan heap doing known o count =
-    let w = walk (act_rules plan heap) (goes_on_after_refusal o.manner) (next_meeting doing) known.kept known.queue o.acts in
-    let last = (end_by o.manner plan o.done known.kept w.kept w.outcome).1 in
-    let none : NoBoot (w.moments ++ last) = none-more w.moments last (none-walked plan heap (goes_on_after_refusal o.manner) (next_meeting doing) o.acts known.kept known.queue) (none-ended o.manner plan o.done known.kept w.kept w.outcome) in
+    let w = walk (act_rules plan heap) (goes_on_after_refusal o.ending) (next_meeting doing) known.kept known.queue o.acts in
+    let last = (end_by o.ending plan o.done known.kept w.kept w.outcome).1 in
+    let none : NoBoot (w.moments ++ last) = none-more w.moments last (none-walked plan heap (goes_on_after_refusal o.ending) (next_meeting doing) o.acts known.kept known.queue) (none-ended o.ending plan o.done known.kept w.kept w.outcome) in
     boots-append o.first (w.moments ++ last) count ∙ ap (λ n. raised n (raised (boots_in o.first) count)) none
 
 -- ---- calls
@@ -116,11 +116,11 @@ module _ {D : Type 0} (means : Meaning D) where
       onwards (goes_past past_refusals a.outcome) ms did.0 v (ActsDid means (act_rules plan heap) past_refusals a.kept acts ms did.0 v) (acts-boots plan heap past_refusals acts ms a.kept did.0 v) did.2
       ∙ did.1.exchanged.boots
 
-  pub order-boots : (plan : Plan) (heap : ℕ) (o : Order) (kept kept' : Record) (w v : World D) (result : Outcome) → Carried means plan heap o kept kept' w v result → means.boots v.device ≡ raised (boots_in o.first) (means.boots w.device)
+  pub order-boots : (plan : Plan) (heap : ℕ) (o : Procedure) (kept kept' : Record) (w v : World D) (result : Outcome) → Carried means plan heap o kept kept' w v result → means.boots v.device ≡ raised (boots_in o.first) (means.boots w.device)
   order-boots plan heap o kept kept' w v result c =
-      let walked = walk (act_rules plan heap) (goes_on_after_refusal o.manner) next_of kept c.meetings o.acts in
-      let last = (end_by o.manner plan o.done kept walked.kept walked.outcome).1 in
+      let walked = walk (act_rules plan heap) (goes_on_after_refusal o.ending) next_of kept c.meetings o.acts in
+      let last = (end_by o.ending plan o.done kept walked.kept walked.outcome).1 in
       led-boots heap last c.sent v c.ends.1
-      ∙ ap (λ n. raised n (means.boots c.sent.device)) (none-ended o.manner plan o.done kept walked.kept walked.outcome)
-      ∙ acts-boots plan heap (goes_on_after_refusal o.manner) o.acts c.meetings kept c.begun c.sent c.walked
+      ∙ ap (λ n. raised n (means.boots c.sent.device)) (none-ended o.ending plan o.done kept walked.kept walked.outcome)
+      ∙ acts-boots plan heap (goes_on_after_refusal o.ending) o.acts c.meetings kept c.begun c.sent c.walked
       ∙ led-boots heap o.first w c.begun c.first

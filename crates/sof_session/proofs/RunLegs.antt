@@ -13,8 +13,8 @@ use Rattle.mbox_link.proofs.Led.{Steady-by}
 use Rattle.tplg_plan.specs.declared.plans.Plan.{Plan}
 use Rattle.sof_script.specs.declared.script.Command.{Command}
 use Rattle.sof_session.specs.Modes.{Mode, CommandDoneIn, basis_in}
-use Rattle.sof_session.specs.Seat.{Seat, seat_in}
-use Rattle.sof_session.specs.Commands.{Known, Came, is_plan, next}
+use Rattle.sof_session.specs.SessionView.{SessionView, seat_in}
+use Rattle.sof_session.specs.Commands.{Known, CommandResult, is_plan, next}
 use Rattle.sof_session.specs.Written.{Basis, Ground, At, Leg, IsLeg, IsRun, came_at, first_at, end_of, moments_of, boots_in, raised, empty_outputs, written_in, written_between}
 use Rattle.sof_script.specs.Tasks.{Out, Turn, Task, Begin, Carry}
 use Rattle.sof_session.specs.SessionStep.{Calm, StandsAt, CallsBy, known_of}
@@ -67,9 +67,9 @@ module _ {P S A : Type 0} (means : Meaning P) (mode : Mode P S A) (g : Ground) (
     pub leg-same : (command : Command) (old : At S) (leg : Leg S) → came_at basis d command old ≡ came_at basis e command old → IsLeg basis d command old leg → IsLeg basis e command old leg
     leg-same command old leg same is = record {
       command_is = is.command_is;
-      goes = record { known = is.goes.known ∙ ap (λ (c : Came S A). c.known) same; led = subst (λ (c : Came S A). Leads g.whole old.past c.moments leg.at.past) same is.goes.led };
-      out_is = is.out_is ∙ ap (λ (c : Came S A). let out : Out = record { answer = c.answer; shown = basis.rules.shown old.known.kept command; written = written_between g.slots old.past leg.at.past } in out) same;
-      moments_are = is.moments_are ∙ ap (λ (c : Came S A). c.moments) same;
+      goes = record { known = is.goes.known ∙ ap (λ (c : CommandResult S A). c.known) same; led = subst (λ (c : CommandResult S A). Leads g.whole old.past c.moments leg.at.past) same is.goes.led };
+      out_is = is.out_is ∙ ap (λ (c : CommandResult S A). let out : Out = record { answer = c.answer; shown = basis.rules.shown old.known.kept command; written = written_between g.slots old.past leg.at.past } in out) same;
+      moments_are = is.moments_are ∙ ap (λ (c : CommandResult S A). c.moments) same;
     }
 
     -- and by doings that are one at later numbers, a run
@@ -128,7 +128,7 @@ module _ {P S A : Type 0} (means : Meaning P) (mode : Mode P S A) (g : Ground) (
   }
 
   -- one leg, by a session's step
-  module _ (seat seat' : Seat P) (inputs inputs' : List InputView) (slots slots' : List ℕ) (command : Command) (out : Out) (before : List Moment) (at : At S)
+  module _ (seat seat' : SessionView P) (inputs inputs' : List InputView) (slots slots' : List ℕ) (command : Command) (out : Out) (before : List Moment) (at : At S)
       (c : Carries means command out seat seat' inputs inputs' slots) (same : slots' ≡ slots) (is : IsAt means mode g seat inputs slots before at) where
     pub done : (d : CommandDoneIn means mode command seat seat' (world seat.link inputs (empty_outputs slots)) (world seat'.link inputs' c.outputs) out.answer) × (c.stepped.doing ≡ d.done.doing)
     done = laws.stepped command seat seat' (world seat.link inputs (empty_outputs slots)) (world seat'.link inputs' c.outputs) out.answer c.stepped is.mode_is
@@ -139,7 +139,7 @@ module _ {P S A : Type 0} (means : Meaning P) (mode : Mode P S A) (g : Ground) (
     to : next (mode.rules seat.plan seat.heap) doing (known_of seat.link (mode.sees seat)) command ≡ came_at b doing command at
     to = λ i. next (mode.rules (is.plan_is i) (is.heap_is i)) doing (is.known_is i) command
 
-    abbrev pub come : Came S A
+    abbrev pub come : CommandResult S A
     come = came_at b doing command at
 
     abbrev Stood : List Moment → Type 0
@@ -147,7 +147,7 @@ module _ {P S A : Type 0} (means : Meaning P) (mode : Mode P S A) (g : Ground) (
         × (written_in c.outputs ≡ written_between (map (λ o. o.slot) (empty_outputs slots)) at.past past')
 
     pub stood : Stood come.moments
-    stood = subst (λ (x : Came S A). Stood x.moments) to (done.0.done.stands g.whole before at.past is.stands)
+    stood = subst (λ (x : CommandResult S A). Stood x.moments) to (done.0.done.stands g.whole before at.past is.stands)
 
     abbrev pub at' : At S
     at' = record { known = come.known; past = stood.0 }
@@ -157,7 +157,7 @@ module _ {P S A : Type 0} (means : Meaning P) (mode : Mode P S A) (g : Ground) (
 
     out-is : out ≡ record { answer = come.answer; shown = b.rules.shown at.known.kept command; written = written_between g.slots at.past stood.0 }
     out-is = λ i. record {
-      answer = (done.0.done.answer_is ∙ ap (λ (x : Came S A). x.answer) to) i;
+      answer = (done.0.done.answer_is ∙ ap (λ (x : CommandResult S A). x.answer) to) i;
       shown = (c.shown ∙ laws.shows command seat is.mode_is ∙ (λ j. (mode.rules (is.plan_is j) (is.heap_is j)).shown (is.known_is j).kept command)) i;
       written = (c.written ∙ stood.3 ∙ ap (λ xs. written_between xs at.past stood.0) (slots-empty slots ∙ is.slots_are)) i;
     }
@@ -171,7 +171,7 @@ module _ {P S A : Type 0} (means : Meaning P) (mode : Mode P S A) (g : Ground) (
       plan_is = c.plan_is ∙ is.plan_is;
       heap_is = c.heap_is ∙ is.heap_is;
       slots_are = same ∙ is.slots_are;
-      known_is = done.0.done.known_is ∙ ap (λ (x : Came S A). x.known) to;
+      known_is = done.0.done.known_is ∙ ap (λ (x : CommandResult S A). x.known) to;
       stands = stood.2;
     }
 
@@ -238,7 +238,7 @@ module _ {P S A : Type 0} (means : Meaning P) (mode : Mode P S A) (g : Ground) (
       }
 
   -- all of them
-  makes : (commands : List Command) (turns : List Turn) (seat : Seat P) (inputs : List InputView) (slots : List ℕ) (before : List Moment) (at : At S) (last : Life P) →
+  makes : (commands : List Command) (turns : List Turn) (seat : SessionView P) (inputs : List InputView) (slots : List ℕ) (before : List Moment) (at : At S) (last : Life P) →
       AreCarried commands turns → at.known.queue.sent + messages laws.most commands < 2 ^ 63 → laws.IsKept at.known.kept →
       IsAt means mode g seat inputs slots before at → Turns means (Seated seat inputs slots) turns last → Makes commands turns (Seated seat inputs slots) before at last
   makes [] [] seat inputs slots before at last carried counted kept is turned =

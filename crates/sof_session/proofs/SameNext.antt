@@ -13,16 +13,16 @@ use Rattle.host_widgets.specs.HostActs.{Act}
 use Rattle.mbox_link.specs.Meetings.{Queue}
 use Rattle.host_widgets.specs.OneAct.{act_rules}
 use Rattle.host_widgets.specs.Walk.{Walked}
-use Rattle.host_widgets.specs.Orders.{Order, goes_on_after_refusal, end_by}
+use Rattle.host_widgets.specs.Orders.{Procedure, goes_on_after_refusal, end_by}
 use Rattle.host_widgets.specs.Routines.{order_job}
 use Rattle.sof_script.specs.declared.script.Command.{Command}
 use Rattle.sof_script.specs.declared.script.Command.TheVariants as commands
 use Rattle.sof_session.specs.CommandTests.{fault_of}
-use Rattle.sof_session.specs.Commands.{Known, Came, came, is_plan, order_of, carried, tested, planned_where_room, next, answer_by, command_rules}
+use Rattle.sof_session.specs.Commands.{Known, CommandResult, came, is_plan, order_of, carried, tested, planned_where_room, next, answer_by, command_rules}
 use Rattle.sof_session.proofs.SameDoings.{walk-up, walk-few, same-walk}
 
 -- the acts of an order that are due: none where a test fails
-abbrev pub due : Order → Option HostFault → List Act
+abbrev pub due : Procedure → Option HostFault → List Act
 due o (Some fault) = []
 due o None = o.acts
 
@@ -49,7 +49,7 @@ module _ (plan : Plan) (heap : ℕ) (known : Known Record) where
   is-planned (commands.Lag k ticks) is = plans (commands.Lag k ticks) _ _ (λ doing. refl)
   is-planned command is = absurd (cc is)
 
-  abbrev pub tested_by : Doing → Command → Came Record Act
+  abbrev pub tested_by : Doing → Command → CommandResult Record Act
   tested_by doing command = tested (command_rules plan heap) doing known (order_job plan known.kept (order_of plan known.kept command)) (fault_of plan known.kept command)
 
   pub is-tested : (doing : Doing) (command : Command) → is_plan command ≡ false → next (command_rules plan heap) doing known command ≡ tested_by doing command
@@ -61,12 +61,12 @@ module _ (plan : Plan) (heap : ℕ) (known : Known Record) where
 
   -- ---- numbers
 
-  abbrev Within : ℕ → Came Record Act → Type 0
+  abbrev Within : ℕ → CommandResult Record Act → Type 0
   Within most c = (known.queue.sent ≤ c.known.queue.sent) × (c.known.queue.sent ≤ known.queue.sent + most)
 
-  tested-within : (doing : Doing) (o : Order) (fault : Option HostFault) → known.queue.sent + length (due o fault) < 2 ^ 64 - 1 → Within (length (due o fault)) (tested (command_rules plan heap) doing known (order_job plan known.kept o) fault)
+  tested-within : (doing : Doing) (o : Procedure) (fault : Option HostFault) → known.queue.sent + length (due o fault) < 2 ^ 64 - 1 → Within (length (due o fault)) (tested (command_rules plan heap) doing known (order_job plan known.kept o) fault)
   tested-within doing o (Some fault) few = (omega arith, omega arith)
-  tested-within doing o None few = (walk-up (act_rules plan heap) (goes_on_after_refusal o.manner) doing o.acts known.kept known.queue few, walk-few (act_rules plan heap) (goes_on_after_refusal o.manner) doing o.acts known.kept known.queue)
+  tested-within doing o None few = (walk-up (act_rules plan heap) (goes_on_after_refusal o.ending) doing o.acts known.kept known.queue few, walk-few (act_rules plan heap) (goes_on_after_refusal o.ending) doing o.acts known.kept known.queue)
 
   pub next-within : (doing : Doing) (command : Command) → known.queue.sent + length (acts_due plan known.kept command) < 2 ^ 64 - 1 → Within (length (acts_due plan known.kept command)) (next (command_rules plan heap) doing known command)
   next-within doing command few =
@@ -83,15 +83,15 @@ module _ (plan : Plan) (heap : ℕ) (known : Known Record) where
     abbrev SameTo : ℕ → Type 0
     SameTo last = (number : ℕ) → known.queue.sent < number → number ≤ last → d number ≡ e number
 
-    carried-same : (o : Order) → known.queue.sent + length o.acts < 2 ^ 64 - 1 → SameTo (carried (command_rules plan heap) d known (order_job plan known.kept o)).known.queue.sent → carried (command_rules plan heap) d known (order_job plan known.kept o) ≡ carried (command_rules plan heap) e known (order_job plan known.kept o)
+    carried-same : (o : Procedure) → known.queue.sent + length o.acts < 2 ^ 64 - 1 → SameTo (carried (command_rules plan heap) d known (order_job plan known.kept o)).known.queue.sent → carried (command_rules plan heap) d known (order_job plan known.kept o) ≡ carried (command_rules plan heap) e known (order_job plan known.kept o)
     carried-same o few same =
         ap (λ (w : Walked Record Act Queue).
-        let end = end_by o.manner plan o.done known.kept w.kept w.outcome in
-        let c : Came Record Act = record { known = record { kept = end.0; queue = w.queue }; answer = answer_by o.answer w.outcome; moments = o.first ++ (w.moments ++ end.1); sent = w.sent } in
+        let end = end_by o.ending plan o.done known.kept w.kept w.outcome in
+        let c : CommandResult Record Act = record { known = record { kept = end.0; queue = w.queue }; answer = answer_by o.answer w.outcome; moments = o.first ++ (w.moments ++ end.1); sent = w.sent } in
         c)
-        (same-walk (act_rules plan heap) (goes_on_after_refusal o.manner) d e o.acts known.kept known.queue few same)
+        (same-walk (act_rules plan heap) (goes_on_after_refusal o.ending) d e o.acts known.kept known.queue few same)
 
-    tested-same : (o : Order) (fault : Option HostFault) → known.queue.sent + length (due o fault) < 2 ^ 64 - 1 → SameTo (tested (command_rules plan heap) d known (order_job plan known.kept o) fault).known.queue.sent → tested (command_rules plan heap) d known (order_job plan known.kept o) fault ≡ tested (command_rules plan heap) e known (order_job plan known.kept o) fault
+    tested-same : (o : Procedure) (fault : Option HostFault) → known.queue.sent + length (due o fault) < 2 ^ 64 - 1 → SameTo (tested (command_rules plan heap) d known (order_job plan known.kept o) fault).known.queue.sent → tested (command_rules plan heap) d known (order_job plan known.kept o) fault ≡ tested (command_rules plan heap) e known (order_job plan known.kept o) fault
     tested-same o (Some fault) few same = refl
     tested-same o None few same = carried-same o few same
 
@@ -101,6 +101,6 @@ module _ (plan : Plan) (heap : ℕ) (known : Known Record) where
           | inl is ↦ let p = is-planned command is in p.is d ∙ sym (p.is e)
           | inr is ↦
               is-tested d command is
-              ∙ tested-same (order_of plan known.kept command) (fault_of plan known.kept command) few (subst (λ (c : Came Record Act). SameTo c.known.queue.sent) (is-tested d command is) same)
+              ∙ tested-same (order_of plan known.kept command) (fault_of plan known.kept command) few (subst (λ (c : CommandResult Record Act). SameTo c.known.queue.sent) (is-tested d command is) same)
               ∙ sym (is-tested e command is)
         ]

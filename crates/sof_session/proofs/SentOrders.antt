@@ -14,7 +14,7 @@ use Rattle.host_widgets.specs.Host.{IsRecordOf}
 use Rattle.host_widgets.specs.Kept.{with_stream}
 use Rattle.host_widgets.specs.HostActs.{Act, Prepare, Trig}
 use Rattle.host_widgets.specs.ActLists.{close_by}
-use Rattle.host_widgets.specs.Orders.{Order, sends}
+use Rattle.host_widgets.specs.Orders.{Procedure, sends}
 use Rattle.host_widgets.proofs.WalksHold.{AreTaken}
 use Rattle.host_pcm.specs.declared.asking.Ask.{Ask}
 use Rattle.host_pcm.specs.declared.asking.Ask.TheVariants.{Opening, Preparing, Triggering, Closing}
@@ -31,7 +31,7 @@ few-closing host Running = omega arith
 few-closing host Paused = omega arith
 few-closing host Found_On = omega arith
 
-pub record IsSent (kept : Record) (o : Order) : Type 0 where
+pub record IsSent (kept : Record) (o : Procedure) : Type 0 where
   pub acts : List Act
   pub done : Record → Record
   pub answer : Answer
@@ -39,7 +39,7 @@ pub record IsSent (kept : Record) (o : Order) : Type 0 where
   pub few : length acts ≤ 900
 
 -- a call by its test and its order: where the test tells no fault, few acts are sent, and the device takes them
-pub record IsSentCall (plan : Plan) (kept : Record) (test : Option HostFault) (o : Order) : Type 0 where
+pub record IsSentCall (plan : Plan) (kept : Record) (test : Option HostFault) (o : Procedure) : Type 0 where
   pub sent : test ≡ None → IsSent kept o
   pub taken : test ≡ None → AreTaken plan false kept o.acts
 
@@ -77,8 +77,8 @@ pub stream-done : (plan : Plan) (kept : Record) (name : List ℕ) (ask : Ask) �
 stream-done plan kept name ask = let k = unwrap_or (stream_place plan name) 0 in asking-done plan kept (host_at plan k) (stream_at kept k).found ask
 
 -- at most 900
-pub few-sent : (kept : Record) (o : Order) → IsSent kept o → length o.acts ≤ 900
-few-sent kept o s = subst (λ (x : Order). length x.acts ≤ 900) (sym s.is) (sends-few kept.power s.acts s.done s.answer s.few)
+pub few-sent : (kept : Record) (o : Procedure) → IsSent kept o → length o.acts ≤ 900
+few-sent kept o s = subst (λ (x : Procedure). length x.acts ≤ 900) (sym s.is) (sends-few kept.power s.acts s.done s.answer s.few)
 
 pub few-stream : (plan : Plan) (kept : Record) (name : List ℕ) (ask : Ask) → length (stream_order plan kept name ask).acts ≤ 900
 few-stream plan kept name ask = few-sent kept (stream_order plan kept name ask) (sent-stream plan kept name ask)

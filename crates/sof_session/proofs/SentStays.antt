@@ -15,17 +15,17 @@ use Rattle.host_widgets.specs.HostActs.{Act}
 use Rattle.host_widgets.specs.OneAct.{act_rules}
 use Rattle.host_widgets.specs.ActCalls.{calls_of}
 use Rattle.host_widgets.specs.Host.{Outcome, Agrees}
-use Rattle.host_widgets.specs.Orders.{Order, Carried, sends}
+use Rattle.host_widgets.specs.Orders.{Procedure, Carried, sends}
 use Rattle.host_widgets.specs.TestedOrders.{Tested}
 use Rattle.sof_session.specs.Agreement.{Powered}
-use Rattle.sof_session.specs.Seat.{Seat}
+use Rattle.sof_session.specs.SessionView.{SessionView}
 use Rattle.sof_session.proofs.Agreement.{at, AgreeAtLoad}
 use Rattle.sof_session.proofs.ActsLed.{acts-io, acts-ends}
 use Rattle.sof_session.proofs.OrderStands.{sending, last, plain-cuts}
 use Rattle.sof_session.proofs.SentOrders.{IsSent}
 use Rattle.sof_session.proofs.Writings.{bound_ends}
 
-module _ {P : Type 0} (means : Meaning P) (old : Seat P) (wire : Wire P) (io io' : Io) (agreed : AgreeAtLoad means old) (kept : Record) (agree : Agrees (link means) old.plan kept wire) (result : Outcome) where
+module _ {P : Type 0} (means : Meaning P) (old : SessionView P) (wire : Wire P) (io io' : Io) (agreed : AgreeAtLoad means old) (kept : Record) (agree : Agrees (link means) old.plan kept wire) (result : Outcome) where
   abbrev w : World (Wire P)
   w = at old.link io
 
@@ -33,7 +33,7 @@ module _ {P : Type 0} (means : Meaning P) (old : Seat P) (wire : Wire P) (io io'
   v = at wire io'
 
   module _ (acts : List Act) (done : Record → Record) (answer : Answer) where
-    abbrev CarriedSo : Order → Type 0
+    abbrev CarriedSo : Procedure → Type 0
     CarriedSo o = Carried (link means) old.plan old.heap o old.kept kept w v result
 
     -- no more than a cut comes after the acts
@@ -66,7 +66,7 @@ module _ {P : Type 0} (means : Meaning P) (old : Seat P) (wire : Wire P) (io io'
         ∙ ap (λ (x : World (Wire P)). bound_ends x.io) c.first
 
   -- by a test, and such an order where none fails
-  module _ (test : Option HostFault) (o : Order) (sent : test ≡ None → IsSent old.kept o) (tested : Tested (link means) old.plan old.heap test o old.kept kept w v result) where
+  module _ (test : Option HostFault) (o : Procedure) (sent : test ≡ None → IsSent old.kept o) (tested : Tested (link means) old.plan old.heap test o old.kept kept w v result) where
     pub sent-io : (link means).pending old.link ≡ 0 → io' ≡ io
     sent-io none = by test refl
       where

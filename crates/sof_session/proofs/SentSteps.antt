@@ -15,7 +15,7 @@ use Rattle.host_widgets.specs.declared.kept.Record.{Record}
 use Rattle.host_widgets.specs.HostActs.{Act}
 use Rattle.host_widgets.specs.OneAct.{act_rules}
 use Rattle.host_widgets.specs.Host.{Outcome}
-use Rattle.host_widgets.specs.Orders.{Order, Carried, sends}
+use Rattle.host_widgets.specs.Orders.{Procedure, Carried, sends}
 use Rattle.host_widgets.proofs.StandingOn.{StandsOn}
 use Rattle.host_widgets.proofs.WalksHold.{AreTaken}
 use Rattle.host_widgets.specs.Routines.{order_job}
@@ -23,7 +23,7 @@ use Rattle.sof_script.specs.declared.script.Command.{Command}
 use Rattle.sof_session.specs.Agreement.{Powered}
 use Rattle.sof_session.specs.CommandTests.{fault_of}
 use Rattle.sof_session.specs.Commands.{Known, answer_by, carried, is_plan, next, order_of, tested, command_rules}
-use Rattle.sof_session.specs.Seat.{Seat}
+use Rattle.sof_session.specs.SessionView.{SessionView}
 use Rattle.sof_session.specs.SessionCalls.{CallRan}
 use Rattle.sof_session.specs.SessionStep.{CommandDone, known_of}
 use Rattle.sof_session.proofs.Agreement.{at, AgreeAtLoad}
@@ -35,7 +35,7 @@ use Rattle.sof_session.proofs.SameNext.{is-tested}
 use Rattle.sof_session.proofs.SentOrders.{IsSent, IsSentCall}
 use Rattle.sof_session.proofs.Stepping.{Standing, early-stepped, late-stepped, standing-by, stays-standing}
 
-module _ {P : Type 0} (means : Meaning P) (old new : Seat P) (io io' : Io) (agreed : AgreeAtLoad means old) (few : old.link.sent < 2 ^ 63) (empty : drained io.outputs ≡ io.outputs) where
+module _ {P : Type 0} (means : Meaning P) (old new : SessionView P) (io io' : Io) (agreed : AgreeAtLoad means old) (few : old.link.sent < 2 ^ 63) (empty : drained io.outputs ≡ io.outputs) where
   abbrev w : World (Wire P)
   w = at old.link io
 
@@ -43,17 +43,17 @@ module _ {P : Type 0} (means : Meaning P) (old new : Seat P) (io io' : Io) (agre
   v = at new.link io'
 
   module _ (outcome : Outcome) where
-    abbrev CarriedSo : Order → Type 0
+    abbrev CarriedSo : Procedure → Type 0
     CarriedSo o = Carried (link means) old.plan old.heap o old.kept new.kept w v outcome
 
     -- few messages were sent, and what stood stands where the written moments lead
-    abbrev Good : Order → Type 0
+    abbrev Good : Procedure → Type 0
     Good o = (c : CarriedSo o) → AreTaken old.plan false old.kept o.acts → (fewer : old.link.sent + length c.meetings < 2 ^ 64 - 1)
         × Standing means w v (carried (command_rules old.plan old.heap) (doing means old.heap old.plan o old.kept new.kept w v outcome c agreed.pending agreed.fated fewer) (known_of old.link old.kept) (order_job old.plan (known_of old.link old.kept).kept o)).moments
 
     module _ (acts : List Act) (done : Record → Record) (answer : Answer) (short : length acts ≤ 900) where
       -- nothing was sent
-      rests : (o : Order) → o ≡ sending [] done answer → Good o
+      rests : (o : Procedure) → o ≡ sending [] done answer → Good o
       rests o is = subst Good (sym is) (λ c taken.
           let still : v ≡ w = c.ends.1 ∙ c.walked.1 ∙ c.first in (
             omega (arith, few, few-meetings (link means) (act_rules old.plan old.heap) false [] c.meetings old.kept c.begun c.sent c.walked),
@@ -73,7 +73,7 @@ module _ {P : Type 0} (means : Meaning P) (old new : Seat P) (io io' : Io) (agre
                 empty,
           )
 
-    sent-good : (o : Order) → IsSent old.kept o → Good o
+    sent-good : (o : Procedure) → IsSent old.kept o → Good o
     sent-good o s = subst Good (sym s.is) (good s.acts s.done s.answer s.few old.kept.power agreed.powered)
 
   -- by its test and its order
@@ -81,7 +81,7 @@ module _ {P : Type 0} (means : Meaning P) (old new : Seat P) (io io' : Io) (agre
     abbrev test : Option HostFault
     test = fault_of old.plan old.kept command
 
-    abbrev order : Order
+    abbrev order : Procedure
     order = order_of old.plan old.kept command
 
     nexts : (doing : Doing) (known : Known Record) → next (command_rules old.plan old.heap) doing known command ≡ tested (command_rules old.plan old.heap) doing known (order_job old.plan known.kept (order_of old.plan known.kept command)) (fault_of old.plan known.kept command)

@@ -13,7 +13,7 @@ use Rattle.host_widgets.specs.ActRules.{ActRules}
 use Rattle.host_widgets.specs.Routines.{Job}
 use Rattle.sof_session.specs.Commands.{is_plan}
 use Rattle.sof_session.specs.Modes.{Mode, made_at_load, made_on_use, CommandDoneIn, DoneWith}
-use Rattle.sof_session.specs.Seat.{Seat}
+use Rattle.sof_session.specs.SessionView.{SessionView}
 use Rattle.sof_session.specs.SessionStep.{CallsBy}
 use Rattle.sof_script.specs.Tasks.{Out, Task, Begin, Fill, Carry, Give, Turn}
 use Rattle.sof_session.specs.Written.{empty_outputs}
@@ -35,16 +35,16 @@ module _ {P : Type 0} (means : Meaning P) where
       Steady-by means w.device.device j.begun.device.device v.device.device
       (Led-inside means (calls_of heap job.first) w j.begun j.first) (Led-inside means led.0 j.begun v led.1)
 
-  done-steady : {S A : Type 0} (mode : Mode P S A) (command : Command) (old new : Seat P) (w v : World (Wire P)) (answer : Answer) → CommandDoneIn means mode command old new w v answer → Steady means w.device.device v.device.device
+  done-steady : {S A : Type 0} (mode : Mode P S A) (command : Command) (old new : SessionView P) (w v : World (Wire P)) (answer : Answer) → CommandDoneIn means mode command old new w v answer → Steady means w.device.device v.device.device
   done-steady mode command old new w v answer d =
       let rules = mode.rules old.plan old.heap in
       calls-steady rules.acts old.heap d.done.doing (rules.job (mode.sees old) command) (mode.sees new) w v answer (is_plan command) (rules.fault (mode.sees old) command) d.done.calls
 
-  stepped-steady : (doing : Doing) (up : Option (List ℕ)) (command : Command) (old new : Seat P) (w v : World (Wire P)) (answer : Answer) → DoneWith means doing up command old new w v answer → Steady means w.device.device v.device.device
+  stepped-steady : (doing : Doing) (up : Option (List ℕ)) (command : Command) (old new : SessionView P) (w v : World (Wire P)) (answer : Answer) → DoneWith means doing up command old new w v answer → Steady means w.device.device v.device.device
   stepped-steady doing None command old new w v answer did = done-steady made_at_load command old new w v answer did.0
   stepped-steady doing (Some up) command old new w v answer did = done-steady (made_on_use means) command old new w v answer did.0
 
-  pub step-steady : (command : Command) (out : Out) (seat seat' : Seat P) (inputs inputs' : List InputView) (slots : List ℕ) → Carries means command out seat seat' inputs inputs' slots → Steady means seat.link.device seat'.link.device
+  pub step-steady : (command : Command) (out : Out) (seat seat' : SessionView P) (inputs inputs' : List InputView) (slots : List ℕ) → Carries means command out seat seat' inputs inputs' slots → Steady means seat.link.device seat'.link.device
   step-steady command out seat seat' inputs inputs' slots c =
       stepped-steady c.stepped.doing seat.up command seat seat' (world seat.link inputs (empty_outputs slots)) (world seat'.link inputs' c.outputs) out.answer c.stepped.did
 
@@ -53,7 +53,7 @@ module _ {P : Type 0} (means : Meaning P) where
   turn-steady (Begin on_use plan heap ins outs) out (Seated seat inputs slots) q step = absurd step
   turn-steady (Fill reads next) out (Bare dsp) q step = absurd step
   turn-steady (Fill reads next) out (Seated seat inputs slots) (Bare dsp) step = absurd step
-  turn-steady (Fill reads next) out (Seated seat inputs slots) (Seated seat' inputs' slots') step = Steady-none means seat.link.device seat'.link.device (ap (λ (s : Seat P). s.link.device) step.0)
+  turn-steady (Fill reads next) out (Seated seat inputs slots) (Seated seat' inputs' slots') step = Steady-none means seat.link.device seat'.link.device (ap (λ (s : SessionView P). s.link.device) step.0)
   turn-steady (Carry command) out (Bare dsp) q step = absurd step
   turn-steady (Carry command) out (Seated seat inputs slots) (Bare dsp) step = absurd step
   turn-steady (Carry command) out (Seated seat inputs slots) (Seated seat' inputs' slots') step = step-steady command out seat seat' inputs inputs' slots step.1

@@ -11,14 +11,14 @@ use Rattle.host_widgets.specs.declared.answers.Answer.{Answer}
 use Rattle.host_widgets.specs.declared.answers.HostFault.{HostFault}
 use Rattle.host_widgets.specs.declared.kept.Record.{Record}
 use Rattle.host_widgets.specs.Host.{Outcome}
-use Rattle.host_widgets.specs.Orders.{Order, Carried}
+use Rattle.host_widgets.specs.Orders.{Procedure, Carried}
 use Rattle.host_widgets.specs.Routines.{order_job}
 use Rattle.host_widgets.specs.HostActs.{Act}
 use Rattle.host_widgets.specs.OneAct.{act_rules}
 use Rattle.host_widgets.proofs.OrderJobs.{job-carried}
 use Rattle.sof_script.specs.declared.script.Command.{Command}
 use Rattle.sof_session.specs.CommandTests.{fault_of}
-use Rattle.sof_session.specs.Commands.{Known, Came, is_plan, order_of, tested, next, command_rules}
+use Rattle.sof_session.specs.Commands.{Known, CommandResult, is_plan, order_of, tested, next, command_rules}
 use Rattle.sof_session.specs.SessionStep.{Calm, CallsBy, known_of}
 use Rattle.sof_session.specs.Written.{boots_in, raised}
 use Rattle.sof_session.proofs.LinkFates.{Steady-none, Led-inside}
@@ -40,12 +40,12 @@ module _ {P : Type 0} (means : Meaning P) (plan : Plan) (heap : ℕ) where
   same_world : (w v : World (Wire P)) → v ≡ w → Inside w v
   same_world w v same = Steady-none means w.device.device v.device.device (ap (λ (x : World (Wire P)). x.device.device) same)
 
-  order-inside : (o : Order) (kept kept' : Record) (w v : World (Wire P)) (result : Outcome) → Carried (link means) plan heap o kept kept' w v result → Inside w v
+  order-inside : (o : Procedure) (kept kept' : Record) (w v : World (Wire P)) (result : Outcome) → Carried (link means) plan heap o kept kept' w v result → Inside w v
   order-inside o kept kept' w v result c = let led = carried-led means plan heap o kept kept' w v result c in Led-inside means led.0 w v led.1
 
   -- a command
   module _ (kept kept' : Record) (w v : World (Wire P)) (answer : Answer) where
-    calls-inside : (doing : Doing) (o : Order) (b : Bool) (fault : Option HostFault) → CallsBy means (act_rules plan heap) heap doing (order_job plan kept o) kept' w v answer b fault → Inside w v
+    calls-inside : (doing : Doing) (o : Procedure) (b : Bool) (fault : Option HostFault) → CallsBy means (act_rules plan heap) heap doing (order_job plan kept o) kept' w v answer b fault → Inside w v
     calls-inside doing o true fault calls = Steady-none means w.device.device v.device.device calls.0
     calls-inside doing o false (Some fault) calls = same_world w v calls
     calls-inside doing o false None calls = order-inside o kept kept' w v calls.0 (job-carried (link means) plan heap o kept kept' w v calls.0 calls.1)
@@ -53,10 +53,10 @@ module _ {P : Type 0} (means : Meaning P) (plan : Plan) (heap : ℕ) where
     abbrev known : Known Record
     known = known_of w.device kept
 
-    abbrev BootsBy : Came Record Act → Type 0
+    abbrev BootsBy : CommandResult Record Act → Type 0
     BootsBy c = means.boots v.device.device ≡ raised (boots_in c.moments) (means.boots w.device.device)
 
-    tested-boots : (doing : Doing) (o : Order) (fault : Option HostFault) → CallsBy means (act_rules plan heap) heap doing (order_job plan kept o) kept' w v answer false fault → BootsBy (tested (command_rules plan heap) doing known (order_job plan known.kept o) fault)
+    tested-boots : (doing : Doing) (o : Procedure) (fault : Option HostFault) → CallsBy means (act_rules plan heap) heap doing (order_job plan kept o) kept' w v answer false fault → BootsBy (tested (command_rules plan heap) doing known (order_job plan known.kept o) fault)
     tested-boots doing o (Some fault) calls = ap (λ (x : World (Wire P)). means.boots x.device.device) calls
     tested-boots doing o None calls =
         order-boots (link means) plan heap o kept kept' w v calls.0 (job-carried (link means) plan heap o kept kept' w v calls.0 calls.1) ∙ sym (carried-boots plan heap doing known o (means.boots w.device.device))

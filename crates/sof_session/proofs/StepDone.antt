@@ -15,7 +15,7 @@ use Rattle.sof_session.specs.Commands.{is_tick}
 use Rattle.sof_session.specs.CommandTests.{fault_of}
 use Rattle.sof_session.specs.Commands.{Known, is_plan, order_of}
 use Rattle.sof_session.specs.Fills.{input_ends}
-use Rattle.sof_session.specs.Seat.{Seat}
+use Rattle.sof_session.specs.SessionView.{SessionView}
 use Rattle.sof_session.specs.SessionCalls.{Stays, CallRan}
 use Rattle.sof_session.specs.SessionStep.{known_of}
 use Rattle.sof_session.proofs.Agreement.{at-load, none-up}
@@ -26,7 +26,7 @@ use Rattle.sof_session.proofs.SentSteps.{sent_stepped}
 use Rattle.sof_session.proofs.StepMoves.{step-moves}
 use Rattle.sof_session.proofs.Stepping.{SteppedIn}
 
-module _ {P : Type 0} (means : Meaning P) (old new : Seat P) (before after : Io) (answer : Answer) where
+module _ {P : Type 0} (means : Meaning P) (old new : SessionView P) (before after : Io) (answer : Answer) where
   pub record StepDone (command : Command) : Type 0 where
     pub stepped : SteppedIn means old new before after answer command
     pub agreed : AreAgreed means new
@@ -66,7 +66,7 @@ module _ {P : Type 0} (means : Meaning P) (old new : Seat P) (before after : Io)
         }
 
 -- where the command sends acts alone
-pub sent-done : {P : Type 0} (means : Meaning P) (old new : Seat P) (before after : Io) (answer : Answer) → old.up ≡ None → Stays means old new before after → old.link.sent < 2 ^ 63 → drained before.outputs ≡ before.outputs →
+pub sent-done : {P : Type 0} (means : Meaning P) (old new : SessionView P) (before after : Io) (answer : Answer) → old.up ≡ None → Stays means old new before after → old.link.sent < 2 ^ 63 → drained before.outputs ≡ before.outputs →
     (command other : Command) → command ≡ other → is_plan other ≡ false → IsSentCall old.plan old.kept (fault_of old.plan old.kept other) (order_of old.plan old.kept other) →
     CallRan means (fault_of old.plan old.kept other) (order_of old.plan old.kept other) old new before after answer → StepDone means old new before after answer command
 sent-done means old new before after answer none stays few empty command other is plans call ran =

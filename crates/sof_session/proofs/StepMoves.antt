@@ -16,7 +16,7 @@ use Rattle.host_widgets.specs.Host.{Outcome}
 use Rattle.host_widgets.specs.ActRules.{ActRules}
 use Rattle.host_widgets.specs.HostActs.{Act}
 use Rattle.host_widgets.specs.OneAct.{act_rules, one_act}
-use Rattle.host_widgets.specs.Orders.{Order, Carried, end_by, goes_on_after_refusal}
+use Rattle.host_widgets.specs.Orders.{Procedure, Carried, end_by, goes_on_after_refusal}
 use Rattle.host_widgets.specs.Walk.{walk, goes_past}
 use Rattle.host_widgets.specs.Routines.{order_job}
 use Rattle.host_widgets.proofs.OrderJobs.{job-carried}
@@ -24,7 +24,7 @@ use Rattle.sof_script.specs.declared.script.Command.{Command}
 use Rattle.sof_session.specs.Agreement.{AreAgreed}
 use Rattle.sof_session.specs.Commands.{order_of, is_plan}
 use Rattle.sof_session.specs.CommandTests.{fault_of}
-use Rattle.sof_session.specs.Seat.{Seat}
+use Rattle.sof_session.specs.SessionView.{SessionView}
 use Rattle.sof_session.specs.SessionStep.{CallsBy}
 use Rattle.sof_session.proofs.Agreement.{at}
 use Rattle.sof_session.proofs.CommandMoves.{few-record, order-paced, end-paced}
@@ -94,14 +94,14 @@ module _ {D : Type 0} (means : Meaning D) where
   -- ---- an order
 
   -- its first moments, its acts and its last moments, of which no tick is
-  order-moves : (plan : Plan) (heap : ℕ) (o : Order) (kept kept' : Record) (w v : World D) (result : Outcome) → Carried means plan heap o kept kept' w v result → means.pending w.device ≤ 16 →
+  order-moves : (plan : Plan) (heap : ℕ) (o : Procedure) (kept kept' : Record) (w v : World D) (result : Outcome) → Carried means plan heap o kept kept' w v result → means.pending w.device ≤ 16 →
       (ticks_in o.first ≡ 0) ⊎ ((ticks_in o.first ≤ 1) × (o.acts ≡ [])) → MovesBy 983040 w.io.inputs v.io.inputs
   order-moves plan heap o kept kept' w v result c few paced slot =
-      let met = walk (act_rules plan heap) (goes_on_after_refusal o.manner) next_of kept c.meetings o.acts in
+      let met = walk (act_rules plan heap) (goes_on_after_refusal o.ending) next_of kept c.meetings o.acts in
       let first = moments-ticked heap o.first w c.begun c.first in
-      let last = moments-ticked heap (end_by o.manner plan o.done kept met.kept met.outcome).1 c.sent v c.ends.1 in
-      let none = (end-paced o.manner plan o.done kept met.kept met.outcome).1 in
-      let sent = acts-sent (act_rules plan heap) (goes_on_after_refusal o.manner) kept o.acts c.meetings c.begun c.sent c.walked in
+      let last = moments-ticked heap (end_by o.ending plan o.done kept met.kept met.outcome).1 c.sent v c.ends.1 in
+      let none = (end-paced o.ending plan o.done kept met.kept met.outcome).1 in
+      let sent = acts-sent (act_rules plan heap) (goes_on_after_refusal o.ending) kept o.acts c.meetings c.begun c.sent c.walked in
       let begun : position_of c.begun.io.inputs slot ≤ position_of w.io.inputs slot + 61440 * ticks_in o.first = first.moves slot in
       let over : position_of v.io.inputs slot ≤ position_of c.sent.io.inputs slot = let at = last.moves slot in omega (arith, at, none) in
       ⊎_elim
@@ -109,14 +109,14 @@ module _ {D : Type 0} (means : Meaning D) where
       (let walked : position_of c.sent.io.inputs slot ≤ position_of c.begun.io.inputs slot + 61440 * (means.pending c.begun.device - means.pending c.sent.device) = sent.moves slot in
       omega (arith, few, zero, first.pending, sent.pending, begun, walked, over)))
       (λ (one : (ticks_in o.first ≤ 1) × (o.acts ≡ [])).
-      (let still : c.sent ≡ c.begun = (subst (λ (acts : List Act). ActsDid means (act_rules plan heap) (goes_on_after_refusal o.manner) kept acts c.meetings c.begun c.sent) one.1 c.walked).1 in
+      (let still : c.sent ≡ c.begun = (subst (λ (acts : List Act). ActsDid means (act_rules plan heap) (goes_on_after_refusal o.ending) kept acts c.meetings c.begun c.sent) one.1 c.walked).1 in
       let stays : position_of c.sent.io.inputs slot ≡ position_of c.begun.io.inputs slot = ap (λ (x : World D). position_of x.io.inputs slot) still in
       omega (arith, one.0, begun, stays, over)))
       paced
 
 -- ---- a step
 
-module _ {P : Type 0} (means : Meaning P) (old new : Seat P) (io io' : Io) (agreed : AreAgreed means old) (answer : Answer) (command : Command) where
+module _ {P : Type 0} (means : Meaning P) (old new : SessionView P) (io io' : Io) (agreed : AreAgreed means old) (answer : Answer) (command : Command) where
   pub step-moves : SteppedIn means old new io io' answer command → MovesBy 983040 io.inputs io'.inputs
   step-moves stepped = by (is_plan command) (fault_of old.plan old.kept command) refl stepped.calls
     where

@@ -24,8 +24,8 @@ use Rattle.host_widgets.proofs.OrderJobs.{order-done}
 use Rattle.sof_script.specs.declared.script.Command.{Command}
 use Rattle.sof_session.specs.Agreement.{IsFated}
 use Rattle.sof_session.specs.CommandTests.{fault_of}
-use Rattle.sof_session.specs.Commands.{Known, Came, came, carried, tested, next, order_of, is_plan, answer_by, command_rules}
-use Rattle.sof_session.specs.Seat.{Seat}
+use Rattle.sof_session.specs.Commands.{Known, CommandResult, came, carried, tested, next, order_of, is_plan, answer_by, command_rules}
+use Rattle.sof_session.specs.SessionView.{SessionView}
 use Rattle.sof_session.specs.SessionStep.{CommandDone, StandsAt, CallsBy, known_of}
 use Rattle.sof_session.specs.SessionCalls.{ports}
 use Rattle.sof_session.specs.Written.{written_between, written_in}
@@ -70,10 +70,10 @@ module _ {P : Type 0} (means : Meaning P) (plan : Plan) (heap : ℕ) (command : 
         record {
           doing = calm;
           none = λ stayed number. refl;
-          known_is = (λ i. known_of (same i).device (stays i)) ∙ ap (λ (c : Came Record Act). c.known) (sym next-is);
-          answer_is = said ∙ ap (λ (c : Came Record Act). c.answer) (sym next-is);
+          known_is = (λ i. known_of (same i).device (stays i)) ∙ ap (λ (c : CommandResult Record Act). c.known) (sym next-is);
+          answer_is = said ∙ ap (λ (c : CommandResult Record Act). c.answer) (sym next-is);
           calls = subst (λ (x : Bool × Option HostFault). CallsSo calm x.0 x.1) (λ i. (sym plans i, sym fails i)) same;
-          stands = subst (Standing means w v) (ap (λ (c : Came Record Act). c.moments) (sym next-is)) (stays-standing means w v (ap (λ (x : World (Wire P)). means.on x.device.device) same) (ap (λ (x : World (Wire P)). x.io) same) empty);
+          stands = subst (Standing means w v) (ap (λ (c : CommandResult Record Act). c.moments) (sym next-is)) (stays-standing means w v (ap (λ (x : World (Wire P)). means.on x.device.device) same) (ap (λ (x : World (Wire P)). x.io) same) empty);
         }
 
     -- no test failed
@@ -81,7 +81,7 @@ module _ {P : Type 0} (means : Meaning P) (plan : Plan) (heap : ℕ) (command : 
       abbrev does : Doing
       does = doing means heap plan (order_of plan kept command) kept kept' w v result c none fated few
 
-      abbrev written : Came Record Act
+      abbrev written : CommandResult Record Act
       written = carried (command_rules plan heap) does old (order_job plan old.kept (order_of plan kept command))
 
       next-is : next (command_rules plan heap) does old command ≡ written
@@ -91,15 +91,15 @@ module _ {P : Type 0} (means : Meaning P) (plan : Plan) (heap : ℕ) (command : 
       late-stepped said standing = record {
         doing = does;
         none = λ stayed. carried-calm means heap plan (order_of plan kept command) kept kept' w v result c none fated few (record { faults = stayed.faults; refusals = stayed.refusals });
-        known_is = carried-known means heap plan (order_of plan kept command) kept kept' w v result c none fated few ∙ ap (λ (x : Came Record Act). x.known) (sym next-is);
-        answer_is = said ∙ carried-answer means heap plan (order_of plan kept command) kept kept' w v result c none fated few ∙ ap (λ (x : Came Record Act). x.answer) (sym next-is);
+        known_is = carried-known means heap plan (order_of plan kept command) kept kept' w v result c none fated few ∙ ap (λ (x : CommandResult Record Act). x.known) (sym next-is);
+        answer_is = said ∙ carried-answer means heap plan (order_of plan kept command) kept kept' w v result c none fated few ∙ ap (λ (x : CommandResult Record Act). x.answer) (sym next-is);
         calls = subst (λ (x : Bool × Option HostFault). CallsSo does x.0 x.1) (λ i. (sym plans i, sym passes i))
             (result, order-done (link means) plan heap (order_of plan kept command) kept kept' w v result c, said, carried-met means heap plan (order_of plan kept command) kept kept' w v result c none fated few);
-        stands = subst (Standing means w v) (ap (λ (x : Came Record Act). x.moments) (sym next-is)) standing;
+        stands = subst (Standing means w v) (ap (λ (x : CommandResult Record Act). x.moments) (sym next-is)) standing;
       }
 
 -- the step of a session, by its command
-abbrev pub SteppedIn : {P : Type 0} → Meaning P → Seat P → Seat P → Io → Io → Answer → Command → Type 0
+abbrev pub SteppedIn : {P : Type 0} → Meaning P → SessionView P → SessionView P → Io → Io → Answer → Command → Type 0
 SteppedIn means old new io io' answer command = CommandDone means (command_rules old.plan old.heap) old.heap command old.kept new.kept (at old.link io) (at new.link io') answer
 
 -- endpoints that stayed

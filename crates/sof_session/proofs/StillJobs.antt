@@ -19,7 +19,7 @@ use Rattle.host_widgets.specs.ActLists.{part_acts}
 use Rattle.host_widgets.specs.Host.{Outcome}
 use Rattle.host_widgets.specs.HostActs.{Act, Put, with_values, with_blob}
 use Rattle.host_widgets.specs.Kept.{with_control}
-use Rattle.host_widgets.specs.Orders.{Order, Manner, Plain, Loading, Resuming, Suspending, end_by, where_on, sends}
+use Rattle.host_widgets.specs.Orders.{Procedure, Ending, Plain, Loading, Resuming, Suspending, end_by, where_on, sends}
 use Rattle.host_widgets.specs.Routines.{Routine, Job}
 use Rattle.host_widgets.proofs.StandingOn.{AllStill}
 use Rattle.host_pcm.specs.declared.asking.Ask.{Ask}
@@ -59,16 +59,16 @@ reading-first kept (Some (k, c)) = sends-first kept.power (ask_acts k.comp k.kin
 stream-first : (plan : Plan) (kept : Record) (name : List ℕ) (ask : Ask) → AllStill (stream_order plan kept name ask).first
 stream-first plan kept name ask =
     let sent = sent-stream plan kept name ask in
-    subst (λ (o : Order). AllStill o.first) (sym sent.is) (sends-first kept.power sent.acts sent.done sent.answer)
+    subst (λ (o : Procedure). AllStill o.first) (sym sent.is) (sends-first kept.power sent.acts sent.done sent.answer)
 
 -- nor does it matter what is up
-up-first : (up : Bool) (o : Order) → AllStill o.first → AllStill (if up then o else unsent o).first
+up-first : (up : Bool) (o : Procedure) → AllStill o.first → AllStill (if up then o else unsent o).first
 up-first true o first = first
 up-first false o first = first
 
 -- ---- how they end
 
-ends-still : (manner : Manner) (plan : Plan) (done : Record → Record) (start now : Record) (o : Outcome) → AllStill (end_by manner plan done start now o).1
+ends-still : (ending : Ending) (plan : Plan) (done : Record → Record) (start now : Record) (o : Outcome) → AllStill (end_by ending plan done start now o).1
 ends-still Plain plan done start now (Ok passed) = tt
 ends-still Plain plan done start now (Err faults.LinkDown) = tt
 ends-still Plain plan done start now (Err (faults.Refused e)) = tt
@@ -140,8 +140,8 @@ module _ {D : Type 0} (means : Meaning D) (plan : Plan) (heap : ℕ) where
   resuming-still before now (Err fault) = tt
 
   -- an order of the ordinary host
-  plain-job-still : (s : UpState) (o : Order) → AllStill o.first → StillJob (plain_job plan s o)
-  plain-job-still s o first = record { first = first; ends = λ now outcome. ends-still o.manner plan o.done s.kept now.kept outcome }
+  plain-job-still : (s : UpState) (o : Procedure) → AllStill o.first → StillJob (plain_job plan s o)
+  plain-job-still s o first = record { first = first; ends = λ now outcome. ends-still o.ending plan o.done s.kept now.kept outcome }
 
   load-still : (s : UpState) → StillJob (up_job plan heap s commands.Load)
   load-still s = record { first = tt; ends = tt }
@@ -181,10 +181,10 @@ module _ {D : Type 0} (means : Meaning D) (plan : Plan) (heap : ℕ) where
   job-still s (commands.Pause name) own = asks-still s name (Triggering triggers.Pause)
   job-still s (commands.Release name) own = asks-still s name (Triggering triggers.Release)
   job-still s (commands.Set name values) own =
-      let o : Order = set_order plan s.kept name values in
+      let o : Procedure = set_order plan s.kept name values in
       plain-job-still s (if is_control_up plan s.up name then o else unsent o) (up-first (is_control_up plan s.up name) o (setting-first plan s.kept values (named_control plan name)))
   job-still s (commands.Bytes name blob) own =
-      let o : Order = bytes_order plan s.kept name blob in
+      let o : Procedure = bytes_order plan s.kept name blob in
       plain-job-still s (if is_control_up plan s.up name then o else unsent o) (up-first (is_control_up plan s.up name) o (installing-first plan s.kept blob (named_control plan name)))
   job-still s (commands.Get name) own = plain-job-still s (order_of plan s.kept (commands.Get name)) tt
   job-still s (commands.Read name) own = plain-job-still s (order_of plan s.kept (commands.Read name)) (reading-first s.kept (named_at plan s.kept name))

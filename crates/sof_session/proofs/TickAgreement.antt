@@ -19,7 +19,7 @@ use Rattle.host_dynamic.specs.UpDevices.{there_on}
 use Rattle.host_dynamic.specs.UpStates.{IsUpState}
 use Rattle.host_dynamic.proofs.UpExchanges.{ticks-there}
 use Rattle.sof_session.specs.Agreement.{AreAgreed, Powered, expected_in}
-use Rattle.sof_session.specs.Seat.{Seat}
+use Rattle.sof_session.specs.SessionView.{SessionView}
 use Rattle.sof_session.proofs.Agreement.{at, AgreeAtLoad, at-load, from-load, calls-kept, seat_with, kept-by, agreed-with}
 use Rattle.sof_session.proofs.Keeping.{Keeps-moved}
 use Rattle.sof_session.proofs.UpAgreement.{AgreeOnUse, on-use, from-use}
@@ -44,8 +44,8 @@ Ticked-led means Off old new io io' same = ([], λ i. at (same.0 i) (same.1 i))
 
 -- ---- both sides
 
-module _ {P : Type 0} (means : Meaning P) (old : Seat P) (wire : Wire P) (io io' : Io) (agreed : AgreeAtLoad means old) where
-  abbrev new : Seat P
+module _ {P : Type 0} (means : Meaning P) (old : SessionView P) (wire : Wire P) (io io' : Io) (agreed : AgreeAtLoad means old) where
+  abbrev new : SessionView P
   new = seat_with means old wire io io' agreed old.kept
 
   record Both (power : Power) : Type 0 where
@@ -73,8 +73,8 @@ module _ {P : Type 0} (means : Meaning P) (old : Seat P) (wire : Wire P) (io io'
       agreed-with means old wire io io' agreed (kept-by means old wire io io' agreed led.0 led.1) old.kept (record { record_is = agreed.agree.record_is; sides = both.sides }) both.powered
 
 -- where pipelines are made on use
-module _ {P : Type 0} (means : Meaning P) (old : Seat P) (wire : Wire P) (io io' : Io) (up : List ℕ) (agreed : AgreeOnUse means old up) where
-  abbrev later : Seat P
+module _ {P : Type 0} (means : Meaning P) (old : SessionView P) (wire : Wire P) (io io' : Io) (up : List ℕ) (agreed : AgreeOnUse means old up) where
+  abbrev later : SessionView P
   later = record { link = wire; kept = old.kept; plan = old.plan; heap = old.heap; up = old.up }
 
   abbrev shown : View
@@ -115,8 +115,8 @@ module _ {P : Type 0} (means : Meaning P) (old : Seat P) (wire : Wire P) (io io'
       }
 
 -- in either mode
-module _ {P : Type 0} (means : Meaning P) (old : Seat P) (wire : Wire P) (io io' : Io) (agreed : AreAgreed means old) (tick : TickedBy means old.kept.power old.link wire io io') where
-  abbrev pub ticked_seat : Seat P
+module _ {P : Type 0} (means : Meaning P) (old : SessionView P) (wire : Wire P) (io io' : Io) (agreed : AreAgreed means old) (tick : TickedBy means old.kept.power old.link wire io io') where
+  abbrev pub ticked_seat : SessionView P
   ticked_seat = record { link = wire; kept = old.kept; plan = old.plan; heap = old.heap; up = old.up }
 
   pub AreAgreed-ticked : AreAgreed means ticked_seat
@@ -128,7 +128,7 @@ module _ {P : Type 0} (means : Meaning P) (old : Seat P) (wire : Wire P) (io io'
 
 -- ---- the endpoints
 
-module _ {P : Type 0} (means : Meaning P) (old : Seat P) (wire : Wire P) (io io' : Io) where
+module _ {P : Type 0} (means : Meaning P) (old : SessionView P) (wire : Wire P) (io io' : Io) where
   on-stays : (v : View) (o : Option FwState) → means.on old.link.device ≡ o → option_map view_of o ≡ Some v → TickedBy means On old.link wire io io' → bound_ends io' ≡ bound_ends io
   on-stays v None is sides tick = absurd (cc sides)
   on-stays v (Some f) is sides tick = ap bound_ends (tick.on f is).1 ∙ one-ends f io

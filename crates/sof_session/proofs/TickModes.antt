@@ -9,15 +9,15 @@ use Rattle.host_widgets.specs.declared.answers.Answer.TheVariants.{Done}
 use Rattle.sof_script.specs.declared.script.Command.TheVariants as commands
 use Rattle.sof_session.specs.Agreement.{AreAgreed}
 use Rattle.sof_session.specs.Modes.{SteppedBy}
-use Rattle.sof_session.specs.Seat.{Seat}
+use Rattle.sof_session.specs.SessionView.{SessionView}
 use Rattle.sof_session.proofs.Agreement.{at, at-load}
 use Rattle.sof_session.proofs.ModeSteps.{load-step, use-step}
 use Rattle.sof_session.proofs.TickAgreement.{TickedBy, ticked_seat}
 use Rattle.sof_session.proofs.TickSteps.{tick_stepped}
 use Rattle.sof_session.proofs.UpTicks.{up-ticked}
 
-module _ {P : Type 0} (means : Meaning P) (old : Seat P) (wire : Wire P) (io io' : Io) (empty : drained io.outputs ≡ io.outputs) (agreed : AreAgreed means old) (tick : TickedBy means old.kept.power old.link wire io io') (number : ℕ) where
-  abbrev new : Seat P
+module _ {P : Type 0} (means : Meaning P) (old : SessionView P) (wire : Wire P) (io io' : Io) (empty : drained io.outputs ≡ io.outputs) (agreed : AreAgreed means old) (tick : TickedBy means old.kept.power old.link wire io io') (number : ℕ) where
+  abbrev new : SessionView P
   new = ticked_seat means old wire io io' agreed tick
 
   pub ticked-step : SteppedBy means (commands.Tick number) old new (at old.link io) (at wire io') Done

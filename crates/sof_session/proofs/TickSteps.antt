@@ -16,14 +16,14 @@ use Rattle.host_widgets.specs.declared.answers.Answer.TheVariants.{Done}
 use Rattle.host_widgets.specs.declared.kept.Power.{Power}
 use Rattle.host_widgets.specs.declared.kept.Power.TheVariants.{Unloaded, On, Off}
 use Rattle.host_widgets.specs.ViewOf.{record_view}
-use Rattle.host_widgets.specs.Orders.{Order, Plain, Carried, where_on}
+use Rattle.host_widgets.specs.Orders.{Procedure, Plain, Carried, where_on}
 use Rattle.host_widgets.proofs.SoundPlays.{sound-plays}
 use Rattle.host_widgets.proofs.StandingOn.{StandsOn, one-tick}
 use Rattle.host_widgets.proofs.OrderJobs.{order-done}
 use Rattle.sof_script.specs.declared.script.Command.TheVariants as commands
 use Rattle.sof_session.specs.Commands.{command_rules}
 use Rattle.sof_session.specs.Agreement.{Powered}
-use Rattle.sof_session.specs.Seat.{Seat}
+use Rattle.sof_session.specs.SessionView.{SessionView}
 use Rattle.sof_session.specs.SessionStep.{CommandDone, DidAsMet}
 use Rattle.sof_session.proofs.Agreement.{at, AgreeAtLoad}
 use Rattle.sof_session.proofs.Carrying.{quietly}
@@ -32,7 +32,7 @@ use Rattle.sof_session.proofs.Stepping.{Standing, standing-by, stays-standing}
 
 -- ---- a tick of a device that is on
 
-module _ {P : Type 0} (means : Meaning P) (old new : Seat P) (io io' : Io) (empty : drained io.outputs ≡ io.outputs) where
+module _ {P : Type 0} (means : Meaning P) (old new : SessionView P) (io io' : Io) (empty : drained io.outputs ≡ io.outputs) where
   abbrev w : World (Wire P)
   w = at old.link io
 
@@ -49,8 +49,8 @@ module _ {P : Type 0} (means : Meaning P) (old new : Seat P) (io io' : Io) (empt
   -- ---- by the power
 
   -- its order
-  abbrev ticking_at : Power → Order
-  ticking_at power = record { first = where_on power (Tick ∷ []); acts = []; manner = Plain; done = λ now. now; answer = Done }
+  abbrev ticking_at : Power → Procedure
+  ticking_at power = record { first = where_on power (Tick ∷ []); acts = []; ending = Plain; done = λ now. now; answer = Done }
 
   abbrev CarriedSo : Power → Type 0
   CarriedSo power = Carried (link means) old.plan old.heap (ticking_at power) old.kept new.kept w v (Ok tt)

@@ -19,7 +19,7 @@ use Rattle.host_widgets.specs.Orders.{Carried, unload_fault, unloading}
 use Rattle.host_widgets.proofs.LoadOrders.{unloading_at}
 use Rattle.host_widgets.proofs.StandingOn.{StandsOn, stands-none, reads-of, cut-stands}
 use Rattle.sof_script.specs.declared.script.Command.TheVariants as commands
-use Rattle.sof_session.specs.Seat.{Seat}
+use Rattle.sof_session.specs.SessionView.{SessionView}
 use Rattle.sof_session.specs.SessionStep.{CommandDone}
 use Rattle.sof_session.specs.SessionCalls.{CallRan}
 use Rattle.sof_session.specs.Commands.{answer_by, command_rules}
@@ -27,7 +27,7 @@ use Rattle.sof_session.proofs.Agreement.{at, AgreeAtLoad}
 use Rattle.sof_session.proofs.FewMeetings.{few-meetings}
 use Rattle.sof_session.proofs.Stepping.{Standing, early-stepped, late-stepped, standing-by, stays-standing}
 
-module _ {P : Type 0} (means : Meaning P) (old new : Seat P) (io io' : Io) (agreed : AgreeAtLoad means old) (few : old.link.sent < 2 ^ 63) (empty : drained io.outputs ≡ io.outputs) where
+module _ {P : Type 0} (means : Meaning P) (old new : SessionView P) (io io' : Io) (agreed : AgreeAtLoad means old) (few : old.link.sent < 2 ^ 63) (empty : drained io.outputs ≡ io.outputs) where
   abbrev w : World (Wire P)
   w = at old.link io
 

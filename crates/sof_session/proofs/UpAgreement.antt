@@ -9,10 +9,10 @@ use Rattle.host_dynamic.specs.Up.{up_view}
 use Rattle.host_dynamic.specs.UpDevices.{up_state_in}
 use Rattle.host_dynamic.specs.UpStates.{IsUpState}
 use Rattle.sof_session.specs.Agreement.{AreAgreed, IsFated, PoweredBy, expected_in}
-use Rattle.sof_session.specs.Seat.{Seat}
+use Rattle.sof_session.specs.SessionView.{SessionView}
 
 -- the device is on with what is up, or off, and this, and nothing else, is there; all else is as in either mode
-pub record AgreeOnUse {P : Type 0} (means : Meaning P) (seat : Seat P) (up : List ℕ) : Type 0 where
+pub record AgreeOnUse {P : Type 0} (means : Meaning P) (seat : SessionView P) (up : List ℕ) : Type 0 where
   pub agree : AgreesBy means seat.plan (up_view seat.plan seat.kept up) seat.kept seat.link.device
   pub state : IsUpState seat.plan (up_state_in means seat.kept up seat.link.device)
   pub room : seat.heap ≤ means.most seat.link.device
@@ -20,7 +20,7 @@ pub record AgreeOnUse {P : Type 0} (means : Meaning P) (seat : Seat P) (up : Lis
   pub fated : IsFated seat.link
   pub sound : IsSound seat.plan
 
-module _ {P : Type 0} (means : Meaning P) (seat : Seat P) (up : List ℕ) (is : seat.up ≡ Some up) where
+module _ {P : Type 0} (means : Meaning P) (seat : SessionView P) (up : List ℕ) (is : seat.up ≡ Some up) where
   pub on-use : AreAgreed means seat → AgreeOnUse means seat up
   on-use agreed = record {
     agree = subst (λ (o : Option (List ℕ)). AgreesBy means seat.plan (expected_in o seat.plan seat.kept) seat.kept seat.link.device) is agreed.agree;
@@ -46,5 +46,5 @@ pub some-up : (up : Option (List ℕ)) → is_some up ≡ true → (list : List 
 some-up None is = absurd (false≢true is)
 some-up (Some list) is = (list, λ i. Some list)
 
-pub same-some : {P : Type 0} {a b : Seat P} → a ≡ b → is_some b.up ≡ true → is_some a.up ≡ true
-same-some {P} is some = ap (λ (s : Seat P). is_some s.up) is ∙ some
+pub same-some : {P : Type 0} {a b : SessionView P} → a ≡ b → is_some b.up ≡ true → is_some a.up ≡ true
+same-some {P} is some = ap (λ (s : SessionView P). is_some s.up) is ∙ some

@@ -20,7 +20,7 @@ use Rattle.host_widgets.specs.ActCalls.{next_of}
 use Rattle.host_widgets.specs.AnsweredOrders.{TestedAnswered}
 use Rattle.host_widgets.specs.Host.{Outcome, SidesBy}
 use Rattle.host_widgets.specs.Named.{loaded_fault, off_fault}
-use Rattle.host_widgets.specs.Orders.{Order, quiet}
+use Rattle.host_widgets.specs.Orders.{Procedure, quiet}
 use Rattle.host_widgets.specs.Routines.{JobDone, JobTested}
 use Rattle.host_widgets.specs.TestedOrders.{Tested}
 use Rattle.host_pcm.specs.declared.asking.Ask.{Ask}
@@ -45,7 +45,7 @@ use Rattle.sof_script.specs.declared.script.Command.TheVariants as commands
 use Rattle.sof_session.specs.Agreement.{AreAgreed}
 use Rattle.sof_session.specs.Commands.{is_tick}
 use Rattle.sof_session.specs.Modes.{up_state_of}
-use Rattle.sof_session.specs.Seat.{Seat}
+use Rattle.sof_session.specs.SessionView.{SessionView}
 use Rattle.sof_session.specs.SessionCalls.{Stays}
 use Rattle.sof_session.specs.UpCommands.{up_fault, up_job, down_fault}
 use Rattle.sof_session.proofs.Agreement.{at}
@@ -57,11 +57,11 @@ use Rattle.sof_session.proofs.UpStays.{use-stays}
 
 -- ---- what an order answers, whether its component is up or not
 
-by-up : (up : Bool) (o : Order) (answer : Answer) → o.answer ≡ answer → (if up then o else unsent o).answer ≡ answer
+by-up : (up : Bool) (o : Procedure) (answer : Answer) → o.answer ≡ answer → (if up then o else unsent o).answer ≡ answer
 by-up true o answer is = is
 by-up false o answer is = is
 
-pub control-answer : (plan : Plan) (up name : List ℕ) (o : Order) (answer : Answer) → o.answer ≡ answer → (control_order plan up name o).answer ≡ answer
+pub control-answer : (plan : Plan) (up name : List ℕ) (o : Procedure) (answer : Answer) → o.answer ≡ answer → (control_order plan up name o).answer ≡ answer
 control-answer plan up name o answer is = by-up (is_control_up plan up name) o answer is
 
 -- ---- a session
@@ -80,7 +80,7 @@ inside means plan up kept wire powers.Off sides = sides
 pub inside-agrees : {P : Type 0} (means : Meaning P) (plan : Plan) (up : List ℕ) (kept : Record) (wire : Wire P) → UpAgrees (link means) plan kept up wire → UpAgrees means plan kept up wire.device
 inside-agrees means plan up kept wire agree = record { record_is = agree.record_is; sides = inside means plan up kept wire kept.power agree.sides }
 
-module _ {P : Type 0} (means : Meaning P) (old : Seat P) (are : AreAgreed means old) (some : is_some old.up ≡ true) where
+module _ {P : Type 0} (means : Meaning P) (old : SessionView P) (are : AreAgreed means old) (some : is_some old.up ≡ true) where
   abbrev s : UpState
   s = up_state_of means old
 
@@ -108,7 +108,7 @@ module _ {P : Type 0} (means : Meaning P) (old : Seat P) (are : AreAgreed means 
     abbrev v : World (Wire P)
     v = at wire io'
 
-    abbrev new : Seat P
+    abbrev new : SessionView P
     new = record { link = wire; kept = kept'; plan = old.plan; heap = old.heap; up = old.up }
 
     abbrev s' : UpState

@@ -24,7 +24,7 @@ use Rattle.host_widgets.specs.ActLists.{control_acts, prepare_acts, close_by}
 use Rattle.host_widgets.specs.Host.{Outcome, IsRecordOf}
 use Rattle.host_widgets.specs.HostActs.{Act, Make, Finish}
 use Rattle.host_widgets.specs.HostActs as acts
-use Rattle.host_widgets.specs.Orders.{Order}
+use Rattle.host_widgets.specs.Orders.{Procedure}
 use Rattle.host_widgets.specs.Routines.{Routine}
 use Rattle.host_widgets.specs.Walk.{walk}
 use Rattle.host_widgets.proofs.FewJoins.{few-brought}
@@ -267,10 +267,10 @@ module _ (plan : Plan) (sound : IsSound plan) {Q : Type 0} (next : Q → Meeting
       )
 
   -- one that sends what the ordinary host does
-  plain-few : (s : UpState) (q : Q) (n : ℕ) (o : Order) → length o.acts ≤ n → Sends n s q (plain_job plan s o).routine
+  plain-few : (s : UpState) (q : Q) (n : ℕ) (o : Procedure) → length o.acts ≤ n → Sends n s q (plain_job plan s o).routine
   plain-few s q n o few = (omega (arith, few, length-map o.acts Ordinary), tt)
 
-  control-few : (b : Bool) (s : UpState) (q : Q) (o : Order) → length o.acts ≤ 1200 → Sends 1200 s q (plain_job plan s (cond b o (unsent o))).routine
+  control-few : (b : Bool) (s : UpState) (q : Q) (o : Procedure) → length o.acts ≤ 1200 → Sends 1200 s q (plain_job plan s (cond b o (unsent o))).routine
   control-few true s q o few = plain-few s q 1200 o few
   control-few false s q o few = plain-few s q 1200 (unsent o) (omega arith)
 
@@ -367,8 +367,8 @@ module _ (plan : Plan) where
   resuming-none before now (Ok passed) = refl
   resuming-none before now (Err fault) = refl
 
-  plain-none : (s : UpState) (o : Order) → None_boots (plain_job plan s o).routine
-  plain-none s o now outcome = none-ended o.manner plan o.done s.kept now.kept outcome
+  plain-none : (s : UpState) (o : Procedure) → None_boots (plain_job plan s o).routine
+  plain-none s o now outcome = none-ended o.ending plan o.done s.kept now.kept outcome
 
   pub up-none : (heap : ℕ) (s : UpState) (command : Command) → None_boots (up_job plan heap s command).routine
   up-none heap s commands.Load = refl

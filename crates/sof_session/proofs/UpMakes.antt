@@ -16,7 +16,7 @@ use Rattle.sof_script.specs.declared.script.Command.{Command}
 use Rattle.sof_session.specs.Agreement.{AreAgreed}
 use Rattle.sof_session.specs.Commands.{is_tick}
 use Rattle.sof_session.specs.Modes.{up_state_of}
-use Rattle.sof_session.specs.Seat.{Seat}
+use Rattle.sof_session.specs.SessionView.{SessionView}
 use Rattle.sof_session.specs.SessionCalls.{Stays}
 use Rattle.sof_session.specs.UpCommands.{up_job}
 use Rattle.sof_session.proofs.Agreement.{at}
@@ -24,7 +24,7 @@ use Rattle.sof_session.proofs.StillJobs.{job-still}
 use Rattle.sof_session.proofs.UpCalls.{inside-agrees, use-state, use-agrees}
 use Rattle.sof_session.proofs.UpStays.{use-stays}
 
-module _ {P : Type 0} (means : Meaning P) (old : Seat P) (are : AreAgreed means old) (up : List ℕ) (is_up : old.up ≡ Some up) where
+module _ {P : Type 0} (means : Meaning P) (old : SessionView P) (are : AreAgreed means old) (up : List ℕ) (is_up : old.up ≡ Some up) where
   abbrev s : UpState
   s = up_state_in means old.kept up old.link.device
 
@@ -44,7 +44,7 @@ module _ {P : Type 0} (means : Meaning P) (old : Seat P) (are : AreAgreed means 
   made-agrees = subst (λ (list : List ℕ). UpAgrees (link means) old.plan old.kept list old.link) same-up-list (use-agrees means old are some)
 
   module _ (wire : Wire P) (io io' : Io) (kept' : Record) (up' : List ℕ) (command : Command) (test : Option HostFault) (result : Outcome) where
-    abbrev new : Seat P
+    abbrev new : SessionView P
     new = record { link = wire; kept = kept'; plan = old.plan; heap = old.heap; up = Some up' }
 
     abbrev Tested : UpState → Type 0
@@ -61,7 +61,7 @@ module _ {P : Type 0} (means : Meaning P) (old : Seat P) (are : AreAgreed means 
   -- where what is up stays
 
   module _ (wire : Wire P) (io io' : Io) (kept' : Record) (command : Command) (test : Option HostFault) (result : Outcome) where
-    abbrev left : Seat P
+    abbrev left : SessionView P
     left = record { link = wire; kept = kept'; plan = old.plan; heap = old.heap; up = old.up }
 
     abbrev TestedBy : List ℕ → Type 0

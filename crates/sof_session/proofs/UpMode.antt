@@ -18,7 +18,7 @@ use Rattle.sof_script.specs.declared.script.Command.{Command}
 use Rattle.sof_script.specs.declared.script.Command.TheVariants as commands
 use Rattle.sof_session.specs.Agreement.{AreAgreed, PoweredBy}
 use Rattle.sof_session.specs.Modes.{made_on_use, up_state_of, IsInMode, CommandDoneIn, DoneWith, SteppedBy, shown_in}
-use Rattle.sof_session.specs.Seat.{Seat, seat_in}
+use Rattle.sof_session.specs.SessionView.{SessionView, seat_in}
 use Rattle.sof_session.specs.UpCommands.{up_rules, up_shown}
 use Rattle.sof_session.proofs.ModeLaws.{ModeLaws}
 use Rattle.sof_session.proofs.RoutineBoots.{inside-by, boots-by}
@@ -28,7 +28,7 @@ use Rattle.sof_session.proofs.UpPaced.{up-paced}
 
 module _ {P : Type 0} (means : Meaning P) where
   -- a session of this mode goes by its rules
-  pub up-stepped : (command : Command) (old new : Seat P) (w v : World (Wire P)) (answer : Answer) (s : SteppedBy means command old new w v answer) → IsInMode (made_on_use means) old →
+  pub up-stepped : (command : Command) (old new : SessionView P) (w v : World (Wire P)) (answer : Answer) (s : SteppedBy means command old new w v answer) → IsInMode (made_on_use means) old →
       (d : CommandDoneIn means (made_on_use means) command old new w v answer) × (s.doing ≡ d.done.doing)
   up-stepped command old new w v answer s is = by old.up is s.did
     where
@@ -37,7 +37,7 @@ module _ {P : Type 0} (means : Meaning P) where
       by (Some up) some did = did
 
   -- what is kept of it is a state
-  pub up-kept : (seat : Seat P) → AreAgreed means seat → IsInMode (made_on_use means) seat → IsUpState seat.plan (up_state_of means seat)
+  pub up-kept : (seat : SessionView P) → AreAgreed means seat → IsInMode (made_on_use means) seat → IsUpState seat.plan (up_state_of means seat)
   up-kept seat agreed is = by seat.up refl is agreed.powered
     where
       by : (up : Option (List ℕ)) → seat.up ≡ up → is_some up ≡ true → PoweredBy means seat up → IsUpState seat.plan (up_state_of means seat)
@@ -69,7 +69,7 @@ up-shows (commands.Lose k) plan s = refl
 up-shows (commands.Lag k t) plan s = refl
 
 module _ {P : Type 0} (means : Meaning P) where
-  shows-up : (command : Command) (seat : Seat P) → IsInMode (made_on_use means) seat → shown_in command seat.up seat.plan seat.kept ≡ up_shown seat.plan (up_state_of means seat) command
+  shows-up : (command : Command) (seat : SessionView P) → IsInMode (made_on_use means) seat → shown_in command seat.up seat.plan seat.kept ≡ up_shown seat.plan (up_state_of means seat) command
   shows-up command seat is = by seat.up refl is
     where
       by : (up : Option (List ℕ)) → seat.up ≡ up → is_some up ≡ true → shown_in command seat.up seat.plan seat.kept ≡ up_shown seat.plan (up_state_of means seat) command

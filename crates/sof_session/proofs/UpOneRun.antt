@@ -11,7 +11,7 @@ use Rattle.sof_script.specs.declared.script.Command.{Command}
 use Rattle.sof_session.specs.Commands.{Known}
 use Rattle.sof_session.specs.RunLaws.{HasRanks, UpRunIsOne}
 use Rattle.sof_session.specs.UpCommands.{up_rules}
-use Rattle.sof_session.specs.Written.{Basis, Ground, At, Leg, Goes, IsLeg, IsRun, came_at, out_of, first_at}
+use Rattle.sof_session.specs.Written.{Basis, Ground, At, Leg, LegStep, IsLeg, IsRun, came_at, out_of, first_at}
 use Rattle.sof_session.proofs.RankedRuns.{empty-ranks, are-ranked, leads-ranks}
 use Rattle.sof_session.proofs.UpEdges.{AreEdges}
 use Rattle.sof_session.proofs.UpRanks.{came-ranked}
@@ -27,7 +27,7 @@ module _ (g : Ground) (sound : IsSound g.plan) (doing : Doing) where
   abbrev moments_at : Command → At UpState → List Moment
   moments_at command old = (came_at b doing command old).moments
 
-  one-at : (command : Command) (old a c : At UpState) → AreRanked old.past.view (moments_at command old) → Goes b doing command old a → Goes b doing command old c → a ≡ c
+  one-at : (command : Command) (old a c : At UpState) → AreRanked old.past.view (moments_at command old) → LegStep b doing command old a → LegStep b doing command old c → a ≡ c
   one-at command old a c ranked x y = λ i. record {
     known = (x.known ∙ sym y.known) i;
     past = leads_same g.whole (moments_at command old) old.past a.past c.past ranked x.led y.led i;

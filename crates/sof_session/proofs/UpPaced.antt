@@ -43,7 +43,7 @@ use Rattle.host_widgets.specs.Host.{Outcome}
 use Rattle.host_widgets.specs.HostActs as acts
 use Rattle.host_widgets.specs.HostActs.{Act}
 use Rattle.host_widgets.specs.OneAct.{Performed, one_act, performed, outcome_by, lag_of}
-use Rattle.host_widgets.specs.Orders.{Order, sends, suspending, where_on}
+use Rattle.host_widgets.specs.Orders.{Procedure, sends, suspending, where_on}
 use Rattle.host_widgets.specs.Routines.{Routine, Finished, Sending, Job, followed, walk_on, walk_routine, not_begun}
 use Rattle.host_widgets.specs.Walk.{Walked, walk, followed_by, goes_past}
 use Rattle.host_pcm.specs.declared.asking.Ask as asks
@@ -65,7 +65,7 @@ use Rattle.host_dynamic.proofs.Sublists.{range-low}
 use Rattle.sof_script.specs.declared.script.Command.{Command}
 use Rattle.sof_script.specs.declared.script.Command.TheVariants as commands
 use Rattle.sof_session.specs.CommandTests.{fault_of}
-use Rattle.sof_session.specs.Commands.{Known, Came, is_plan, is_tick, order_of, carried, tested, next}
+use Rattle.sof_session.specs.Commands.{Known, CommandResult, is_plan, is_tick, order_of, carried, tested, next}
 use Rattle.sof_session.specs.UpCommands.{up_fault, up_job, up_rules}
 use Rattle.sof_session.proofs.CommandMoves.{AllFew, IsFewAct, AreFewActs, few-record, plan-periods, view-in-range, few-prepares, order-paced, end-paced, lags-both, one-tick}
 use Rattle.sof_session.proofs.FewRows.{HasFewPeriod, HasFewParams, AreFewThere, IsFewMessage, row-few, all-left, allowed-few}
@@ -416,10 +416,10 @@ module _ (plan : Plan) (sound : IsSound plan) where
           λ now o. resuming-ends s now o,
         )
 
-    plain-paced : (s : UpState) (o : Order) → AllByRecursion MakesNone o.acts → AreFewActs o.acts → Paced (plain_job plan s o).routine
-    plain-paced s o none few = (all-ordinary plan o.acts (both-few plan o.acts none few), λ now outcome. end-paced o.manner plan o.done s.kept now.kept outcome)
+    plain-paced : (s : UpState) (o : Procedure) → AllByRecursion MakesNone o.acts → AreFewActs o.acts → Paced (plain_job plan s o).routine
+    plain-paced s o none few = (all-ordinary plan o.acts (both-few plan o.acts none few), λ now outcome. end-paced o.ending plan o.done s.kept now.kept outcome)
 
-    control-paced : (b : Bool) (s : UpState) (o : Order) → AllByRecursion MakesNone o.acts → AreFewActs o.acts → Paced (plain_job plan s (cond b o (unsent o))).routine
+    control-paced : (b : Bool) (s : UpState) (o : Procedure) → AllByRecursion MakesNone o.acts → AreFewActs o.acts → Paced (plain_job plan s (cond b o (unsent o))).routine
     control-paced true s o none few = plain-paced s o none few
     control-paced false s o none few = plain-paced s (unsent o) tt tt
 
@@ -458,7 +458,7 @@ module _ (plan : Plan) (sound : IsSound plan) (heap : ℕ) (doing : Doing) (know
   abbrev s : UpState
   s = known.kept
 
-  abbrev IsPaced : Came UpState DynamicAct → Type 0
+  abbrev IsPaced : CommandResult UpState DynamicAct → Type 0
   IsPaced c = AllInRange c.moments × (ticks_in c.moments ≤ 16)
 
   few : AllFew s.kept.streams
@@ -526,7 +526,7 @@ module _ (plan : Plan) (sound : IsSound plan) (heap : ℕ) (doing : Doing) (know
   first-sends powers.Off xs done answer = refl
   first-sends powers.Unloaded xs done answer = refl
 
-  no-first : (o : Order) → o.first ≡ [] → StartsSo (plain_job plan s o)
+  no-first : (o : Procedure) → o.first ≡ [] → StartsSo (plain_job plan s o)
   no-first o is_none = record { range = subst AllInRange (sym is_none) tt; there = there; ticks = ap ticks_in is_none }
 
   set-first : (values : List ℕ) (k : Option ControlPlan) → (setting_order plan s.kept values k).first ≡ []
@@ -550,7 +550,7 @@ module _ (plan : Plan) (sound : IsSound plan) (heap : ℕ) (doing : Doing) (know
   stream-first : (name : List ℕ) (ask : asks.Ask) → (stream_order plan s.kept name ask).first ≡ []
   stream-first name ask = let k = unwrap_or (stream_place plan name) 0 in asking-first (host_at plan k) (stream_at s.kept k).found ask
 
-  control-first : (b : Bool) (o : Order) → o.first ≡ [] → StartsSo (plain_job plan s (cond b o (unsent o)))
+  control-first : (b : Bool) (o : Procedure) → o.first ≡ [] → StartsSo (plain_job plan s (cond b o (unsent o)))
   control-first true o is_none = no-first o is_none
   control-first false o is_none = no-first (unsent o) is_none
 

@@ -32,7 +32,7 @@ use Rattle.host_widgets.specs.Host.{Outcome}
 use Rattle.host_widgets.specs.HostActs.{Act, Make, Join, Finish, Ask, Part}
 use Rattle.host_widgets.specs.Kept.{controls_of}
 use Rattle.host_widgets.specs.OneAct.{Performed, outcome_by, performed, one_act, lag_of}
-use Rattle.host_widgets.specs.Orders.{Order, end_by, sends}
+use Rattle.host_widgets.specs.Orders.{Procedure, end_by, sends}
 use Rattle.host_widgets.specs.Routines.{Routine, Finished, Sending, Job, followed, not_begun, walk_on}
 use Rattle.host_widgets.specs.Walk.{Walked, goes_past, followed_by, walk}
 use Rattle.host_pcm.specs.declared.asking.Ask.{Ask as Asking}
@@ -49,7 +49,7 @@ use Rattle.host_dynamic.specs.Dynamic.{UpState, there_by, up_own, up_act_rules, 
 use Rattle.host_dynamic.proofs.Needs.{flat-in}
 use Rattle.sof_script.specs.declared.script.Command.{Command}
 use Rattle.sof_script.specs.declared.script.Command.TheVariants as commands
-use Rattle.sof_session.specs.Commands.{Known, Came, order_of, planned_where_room, carried, tested, next}
+use Rattle.sof_session.specs.Commands.{Known, CommandResult, order_of, planned_where_room, carried, tested, next}
 use Rattle.sof_session.specs.UpCommands.{place_named, up_fault, up_job, up_rules}
 use Rattle.sof_session.proofs.RankedRuns.{AllRanks, all-append, lag-ranks, where-ranks, first-ranks, end-ranks}
 use Rattle.sof_session.proofs.UpEdges.{IsPlanned, AreEdges, IsOfPlan, there-edges, there-ranks}
@@ -237,15 +237,15 @@ module _ (plan : Plan) where
     cut-ranked : (s : UpState) → AreEdges plan s.there → AreEdges plan (cut_off s).there
     cut-ranked s are = by-power (cut_off s).kept.power s.there are
 
-    plain-ranked : (s : UpState) (o : Order) → AreEdges plan s.there → AllRanks o.first → AreSent o.acts → IsRankedJob (plain_job plan s o)
+    plain-ranked : (s : UpState) (o : Procedure) → AreEdges plan s.there → AllRanks o.first → AreSent o.acts → IsRankedJob (plain_job plan s o)
     plain-ranked s o are first sent = record {
       first = first;
       from = are;
-      routine = (ordinary o.acts sent, λ now outcome later. (end-ranks o.manner plan o.done s.kept now.kept outcome, by-power (end_by o.manner plan o.done s.kept now.kept outcome).0.power now.there later));
+      routine = (ordinary o.acts sent, λ now outcome later. (end-ranks o.ending plan o.done s.kept now.kept outcome, by-power (end_by o.ending plan o.done s.kept now.kept outcome).0.power now.there later));
     }
 
     -- one whose control is up, or not
-    control-ranked : (s : UpState) (o : Order) (b : Bool) → AreEdges plan s.there → AllRanks o.first → AreSent o.acts → IsRankedJob (plain_job plan s (cond b o (unsent o)))
+    control-ranked : (s : UpState) (o : Procedure) (b : Bool) → AreEdges plan s.there → AllRanks o.first → AreSent o.acts → IsRankedJob (plain_job plan s (cond b o (unsent o)))
     control-ranked s o true are first sent = plain-ranked s o are first sent
     control-ranked s o false are first sent = plain-ranked s (unsent o) are first tt
 
@@ -285,7 +285,7 @@ module _ (plan : Plan) where
     module _ (heap : ℕ) (s : UpState) (are : AreEdges plan s.there) where
       asked-ranked : (name : List ℕ) (ask : Asking) (command : Command) → order_of plan s.kept command ≡ stream_order plan s.kept name ask → IsRankedJob (plain_job plan s (order_of plan s.kept command))
       asked-ranked name ask command is =
-          plain-ranked s (order_of plan s.kept command) are (first-ranks plan s.kept command) (subst (λ (o : Order). AreSent o.acts) (sym is) (stream-sent s.kept name ask))
+          plain-ranked s (order_of plan s.kept command) are (first-ranks plan s.kept command) (subst (λ (o : Procedure). AreSent o.acts) (sym is) (stream-sent s.kept name ask))
 
       job-ranked : (command : Command) → IsRankedJob (up_job plan heap s command)
       job-ranked commands.Load = record { first = tt; from = tt; routine = (tt, tt) }
@@ -322,7 +322,7 @@ module _ (plan : Plan) where
       job-ranked (commands.Lag k ticks) = plain-ranked s (order_of plan s.kept (commands.Lag k ticks)) are tt tt
 
     module _ (heap : ℕ) (known : Known UpState) (are : AreEdges plan known.kept.there) where
-      abbrev RankedCame : Came UpState DynamicAct → Type 0
+      abbrev RankedCame : CommandResult UpState DynamicAct → Type 0
       RankedCame c = Ranked c.moments c.known.kept.there
 
       carried-ranked : (job : Job UpState DynamicAct) → IsRankedJob job → RankedCame (carried (up_rules plan heap) doing known job)

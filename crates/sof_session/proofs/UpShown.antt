@@ -30,7 +30,7 @@ use Rattle.host_dynamic.proofs.UpResuming.{resuming-keeps}
 use Rattle.host_dynamic.proofs.UpWalks.{Keeps, routine-keeps}
 use Rattle.sof_script.specs.declared.script.Command.{Command}
 use Rattle.sof_script.specs.declared.script.Command.TheVariants as commands
-use Rattle.sof_session.specs.Commands.{Known, Came, tested, planned_where_room, next}
+use Rattle.sof_session.specs.Commands.{Known, CommandResult, tested, planned_where_room, next}
 use Rattle.sof_session.specs.SessionStep.{CommandDone, known_of}
 use Rattle.sof_session.specs.UpCommands.{up_fault, up_job, up_rules}
 use Rattle.sof_session.specs.UpLaws.{UpIsShown, FirstIsShown, RunShowsUp}
@@ -86,7 +86,7 @@ module _ (plan : Plan) (sound : IsSound plan) (heap : ℕ) (doing : Doing) (know
   q = known.queue
 
   -- the result of a command
-  abbrev IsKept : Came UpState DynamicAct → Type 0
+  abbrev IsKept : CommandResult UpState DynamicAct → Type 0
   IsKept c = IsUpState plan c.known.kept
 
   -- what is planned changes nothing that is kept

@@ -12,7 +12,7 @@ use Rattle.sof_script.specs.declared.script.Command.{Command}
 use Rattle.sof_session.specs.Agreement.{AreAgreed}
 use Rattle.sof_session.specs.Commands.{is_plan, carried}
 use Rattle.sof_session.specs.Modes.{up_state_of}
-use Rattle.sof_session.specs.Seat.{Seat}
+use Rattle.sof_session.specs.SessionView.{SessionView}
 use Rattle.sof_session.specs.SessionStep.{known_of}
 use Rattle.sof_session.specs.UpCommands.{up_fault, up_job, up_rules}
 use Rattle.sof_session.proofs.Agreement.{at}
@@ -23,7 +23,7 @@ use Rattle.sof_session.proofs.UpStageRows.{stage-row, quiet-row}
 use Rattle.sof_session.proofs.UpStandsCommands.{command-stands}
 use Rattle.sof_session.proofs.Stepping.{Standing}
 
-module _ {P : Type 0} (means : Meaning P) (old new : Seat P) (io io' : Io) (agreed : AreAgreed means old) (some : is_some old.up ≡ true) (empty : drained io.outputs ≡ io.outputs) (command : Command) (plans : is_plan command ≡ false)
+module _ {P : Type 0} (means : Meaning P) (old new : SessionView P) (io io' : Io) (agreed : AreAgreed means old) (some : is_some old.up ≡ true) (empty : drained io.outputs ≡ io.outputs) (command : Command) (plans : is_plan command ≡ false)
     (none : up_fault old.plan (up_state_of means old) command ≡ None) (result : Outcome)
     (j : JobDone (link means) (up_act_rules old.plan) old.heap (up_job old.plan old.heap (up_state_of means old) command) (up_state_of means new) (at old.link io) (at new.link io') result)
     (fewer : old.link.sent + length j.meetings < 2 ^ 64 - 1) where

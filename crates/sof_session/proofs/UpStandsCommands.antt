@@ -30,7 +30,7 @@ use Rattle.sof_script.specs.declared.script.Command.TheVariants as commands
 use Rattle.sof_session.specs.Agreement.{AreAgreed, expected_in}
 use Rattle.sof_session.specs.Commands.{carried}
 use Rattle.sof_session.specs.Modes.{up_state_of}
-use Rattle.sof_session.specs.Seat.{Seat}
+use Rattle.sof_session.specs.SessionView.{SessionView}
 use Rattle.sof_session.specs.SessionStep.{known_of}
 use Rattle.sof_session.specs.UpCommands.{up_fault, up_job, up_rules}
 use Rattle.sof_session.proofs.Agreement.{at}
@@ -94,7 +94,7 @@ module _ (plan : Plan) (sound : IsSound plan) (plays : PlaysAtStages plan) (stag
 
 -- ---- over a link
 
-module _ {P : Type 0} (means : Meaning P) (old new : Seat P) (io io' : Io) (agreed : AreAgreed means old) (some : is_some old.up ≡ true) (empty : drained io.outputs ≡ io.outputs)
+module _ {P : Type 0} (means : Meaning P) (old new : SessionView P) (io io' : Io) (agreed : AreAgreed means old) (some : is_some old.up ≡ true) (empty : drained io.outputs ≡ io.outputs)
     (plays : PlaysAtStages old.plan) (stage-rows : RowsAtStages old.plan) (plain-rows : PlainRows old.plan) (quiet-rows : QuietRows old.plan) (command : Command) (none : up_fault old.plan (up_state_of means old) command ≡ None) (result : Outcome)
     (j : JobDone (link means) (up_act_rules old.plan) old.heap (up_job old.plan old.heap (up_state_of means old) command) (up_state_of means new) (at old.link io) (at new.link io') result)
     (fewer : old.link.sent + length j.meetings < 2 ^ 64 - 1) where

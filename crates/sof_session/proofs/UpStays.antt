@@ -14,7 +14,7 @@ use Rattle.host_dynamic.specs.Dynamic.{UpState, up_act_rules}
 use Rattle.host_dynamic.specs.UpDevices.{up_state_in, UpAgrees}
 use Rattle.host_dynamic.specs.UpStates.{IsUpState}
 use Rattle.sof_session.specs.Agreement.{AreAgreed}
-use Rattle.sof_session.specs.Seat.{Seat}
+use Rattle.sof_session.specs.SessionView.{SessionView}
 use Rattle.sof_session.specs.SessionCalls.{Stays}
 use Rattle.sof_session.proofs.Agreement.{at, CallsKept, calls-kept}
 use Rattle.sof_session.proofs.JobPorts.{job-io, job-ends, job-moves, job-led}
@@ -24,8 +24,8 @@ use Rattle.sof_session.proofs.Writings.{bound_ends}
 
 -- ---- both sides
 
-module _ {P : Type 0} (means : Meaning P) (old : Seat P) (wire : Wire P) (io io' : Io) (are : AreAgreed means old) (some : is_some old.up ≡ true) (kept : Record) (up : List ℕ) (now_up : Option (List ℕ)) (is_up : now_up ≡ Some up) where
-  abbrev new : Seat P
+module _ {P : Type 0} (means : Meaning P) (old : SessionView P) (wire : Wire P) (io io' : Io) (are : AreAgreed means old) (some : is_some old.up ≡ true) (kept : Record) (up : List ℕ) (now_up : Option (List ℕ)) (is_up : now_up ≡ Some up) where
+  abbrev new : SessionView P
   new = record { link = wire; kept = kept; plan = old.plan; heap = old.heap; up = now_up }
 
   -- what is up again agrees

@@ -19,7 +19,7 @@ use Rattle.sof_session.specs.Agreement.{AreAgreed}
 use Rattle.sof_session.specs.Commands.{Known, is_plan, is_tick}
 use Rattle.sof_session.specs.Fills.{input_ends}
 use Rattle.sof_session.specs.Modes.{CommandDoneIn, made_on_use, up_state_of, most_sent_by, lines_in}
-use Rattle.sof_session.specs.Seat.{Seat}
+use Rattle.sof_session.specs.SessionView.{SessionView}
 use Rattle.sof_session.specs.SessionCalls.{Stays, JobRan}
 use Rattle.sof_session.specs.SessionStep.{CommandDone, known_of}
 use Rattle.sof_session.specs.UpCommands.{up_fault, up_job, up_rules, up_show_lines}
@@ -60,7 +60,7 @@ pub use-most : (up : Option (List ℕ)) → is_some up ≡ true → (command : C
 use-most None some command = absurd (false≢true some)
 use-most (Some up) some command = use-most-of up command
 
-module _ {P : Type 0} (means : Meaning P) (old new : Seat P) (before after : Io) (answer : Answer) where
+module _ {P : Type 0} (means : Meaning P) (old new : SessionView P) (before after : Io) (answer : Answer) where
   abbrev s : UpState
   s = up_state_of means old
 
@@ -120,7 +120,7 @@ pub use-lines : (up : Option (List ℕ)) → is_some up ≡ true → (plan : Pla
 use-lines None some plan kept = absurd (false≢true some)
 use-lines (Some up) some plan kept = refl
 
-pub use_show_stepped : {P : Type 0} (means : Meaning P) (old : Seat P) (io : Io) → AreAgreed means old → is_some old.up ≡ true → old.link.sent < 2 ^ 63 → drained io.outputs ≡ io.outputs →
+pub use_show_stepped : {P : Type 0} (means : Meaning P) (old : SessionView P) (io : Io) → AreAgreed means old → is_some old.up ≡ true → old.link.sent < 2 ^ 63 → drained io.outputs ≡ io.outputs →
     CommandDone means (up_rules old.plan old.heap) old.heap commands.Show (up_state_of means old) (up_state_of means old) (at old.link io) (at old.link io) Show
 use_show_stepped means old io agreed some few empty =
     job_stepped means old old io io agreed some few empty commands.Show refl Show (record {

@@ -17,7 +17,7 @@ use Rattle.sof_script.specs.declared.script.Command.{Command}
 use Rattle.sof_session.specs.Agreement.{AreAgreed}
 use Rattle.sof_session.specs.Commands.{answer_by, is_plan}
 use Rattle.sof_session.specs.Modes.{up_state_of}
-use Rattle.sof_session.specs.Seat.{Seat}
+use Rattle.sof_session.specs.SessionView.{SessionView}
 use Rattle.sof_session.specs.SessionCalls.{JobRan}
 use Rattle.sof_session.specs.SessionStep.{CommandDone, known_of}
 use Rattle.sof_session.specs.UpCommands.{up_fault, up_job, up_rules}
@@ -28,7 +28,7 @@ use Rattle.sof_session.proofs.UpFew.{up_most, up-few, most-few}
 use Rattle.sof_session.proofs.UpMode.{up-kept}
 use Rattle.sof_session.proofs.UpStands.{job-stands}
 
-module _ {P : Type 0} (means : Meaning P) (old new : Seat P) (io io' : Io) (agreed : AreAgreed means old) (some : is_some old.up ≡ true) (few : old.link.sent < 2 ^ 63) (empty : drained io.outputs ≡ io.outputs) where
+module _ {P : Type 0} (means : Meaning P) (old new : SessionView P) (io io' : Io) (agreed : AreAgreed means old) (some : is_some old.up ≡ true) (few : old.link.sent < 2 ^ 63) (empty : drained io.outputs ≡ io.outputs) where
   abbrev w : World (Wire P)
   w = at old.link io
 

@@ -28,7 +28,7 @@ use Rattle.host_dynamic.proofs.UpExchanges.{ticks-there}
 use Rattle.sof_script.specs.declared.script.Command.TheVariants as commands
 use Rattle.sof_session.specs.Agreement.{AreAgreed}
 use Rattle.sof_session.specs.Modes.{up_state_of}
-use Rattle.sof_session.specs.Seat.{Seat}
+use Rattle.sof_session.specs.SessionView.{SessionView}
 use Rattle.sof_session.specs.SessionStep.{CommandDone}
 use Rattle.sof_session.specs.UpCommands.{up_rules}
 use Rattle.sof_session.proofs.Agreement.{at}
@@ -39,8 +39,8 @@ use Rattle.sof_session.proofs.TickSteps.{tick-standing}
 use Rattle.sof_session.proofs.UpAgreement.{some-up, on-use}
 use Rattle.sof_session.proofs.UpPlays.{up-plays}
 
-module _ {P : Type 0} (means : Meaning P) (old : Seat P) (wire : Wire P) (io io' : Io) (empty : drained io.outputs ≡ io.outputs) (agreed : AreAgreed means old) (some : is_some old.up ≡ true) (tick : TickedBy means old.kept.power old.link wire io io') where
-  abbrev new : Seat P
+module _ {P : Type 0} (means : Meaning P) (old : SessionView P) (wire : Wire P) (io io' : Io) (empty : drained io.outputs ≡ io.outputs) (agreed : AreAgreed means old) (some : is_some old.up ≡ true) (tick : TickedBy means old.kept.power old.link wire io io') where
+  abbrev new : SessionView P
   new = ticked_seat means old wire io io' agreed tick
 
   abbrev w : World (Wire P)

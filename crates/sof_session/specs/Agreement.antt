@@ -15,10 +15,10 @@ use Rattle.host_widgets.specs.ViewOf.{record_view}
 use Rattle.host_dynamic.specs.Up.{up_view}
 use Rattle.host_dynamic.specs.UpDevices.{up_state_in}
 use Rattle.host_dynamic.specs.UpStates.{IsUpState}
-use Rattle.sof_session.specs.Seat.{Seat}
+use Rattle.sof_session.specs.SessionView.{SessionView}
 
 -- where the record says that the power is on, the device is on in a state that keeps it; else it is off
-abbrev pub Powered : {P : Type 0} → Meaning P → Seat P → Power → Type 0
+abbrev pub Powered : {P : Type 0} → Meaning P → SessionView P → Power → Type 0
 Powered means seat On = (f : FwState) × (means.on seat.link.device ≡ Some f) × KeepsRecord seat.plan seat.heap seat.kept f
 Powered means seat _ = means.on seat.link.device ≡ None
 
@@ -36,13 +36,13 @@ expected_in (Some up) plan kept = up_view plan kept up
 
 -- what is kept of the device: where all pipelines are made at a load, it keeps the record while it is on; and where they are made on use,
 -- what is up is what the streams need that are not closed, and this, and nothing else, is there
-abbrev pub PoweredBy : {P : Type 0} → Meaning P → Seat P → Option (List ℕ) → Type 0
+abbrev pub PoweredBy : {P : Type 0} → Meaning P → SessionView P → Option (List ℕ) → Type 0
 PoweredBy means seat None = Powered means seat seat.kept.power
 PoweredBy means seat (Some up) = IsUpState seat.plan (up_state_in means seat.kept up seat.link.device)
 
 -- The two sides agree: the device is on with the view that is expected, or off; the device itself has no tick pending, and
 -- what is planned has a meaning.
-pub record AreAgreed {P : Type 0} (means : Meaning P) (seat : Seat P) : Type 0 where
+pub record AreAgreed {P : Type 0} (means : Meaning P) (seat : SessionView P) : Type 0 where
   pub agree : AgreesBy means seat.plan (expected_in seat.up seat.plan seat.kept) seat.kept seat.link.device
   pub powered : PoweredBy means seat seat.up
   pub room : seat.heap ≤ means.most seat.link.device

@@ -15,7 +15,7 @@ use Rattle.host_widgets.specs.Host.{Outcome}
 use Rattle.host_widgets.specs.HostActs.{Act}
 use Rattle.host_widgets.specs.OneAct.{act_rules}
 use Rattle.host_widgets.specs.Walk.{Walked}
-use Rattle.host_widgets.specs.Orders.{Order, quiet, loading, unloading, suspending, resuming, ticking}
+use Rattle.host_widgets.specs.Orders.{Procedure, quiet, loading, unloading, suspending, resuming, ticking}
 use Rattle.host_widgets.specs.Routines.{Job, walk_routine, order_job}
 use Rattle.host_pcm.specs.declared.asking.Ask.{Ask}
 use Rattle.host_pcm.specs.StreamOrders.{stream_order}
@@ -40,7 +40,7 @@ first_known rules = record { kept = rules.first; queue = record { sent = 0; entr
 -- ---- the host that keeps its record, with all pipelines made
 
 -- what is done where no test fails; a command that asks nothing of a stream, and is none of the others, does nothing
-abbrev pub order_of : Plan → Record → Command → Order
+abbrev pub order_of : Plan → Record → Command → Procedure
 order_of plan kept commands.Load = loading plan kept
 order_of plan kept commands.Unload = unloading plan kept
 order_of plan kept commands.Suspend = suspending plan kept
@@ -65,13 +65,13 @@ command_rules plan heap = record {
 -- ---- by any rules
 
 -- the result of a command: what is known after it, its answer, the moments of the device, and the acts whose messages were sent
-pub record Came (S A : Type 0) : Type 0 where
+pub record CommandResult (S A : Type 0) : Type 0 where
   pub known : Known S
   pub answer : Answer
   pub moments : List Moment
   pub sent : List A
 
-abbrev pub came : {S A : Type 0} → Known S → Answer → Came S A
+abbrev pub came : {S A : Type 0} → Known S → Answer → CommandResult S A
 came known answer = record { known = known; answer = answer; moments = []; sent = [] }
 
 -- a command that was done has its job's answer
@@ -79,7 +79,7 @@ abbrev pub answer_by : Answer → Outcome → Answer
 answer_by answer (Ok done) = answer
 answer_by answer (Err fault) = answers.Fault fault
 
-abbrev pub ended : {S A : Type 0} → Job S A → Walked S A Queue → Came S A
+abbrev pub ended : {S A : Type 0} → Job S A → Walked S A Queue → CommandResult S A
 ended job w = record {
   known = record { kept = w.kept; queue = w.queue };
   answer = answer_by job.answer w.outcome;
@@ -88,11 +88,11 @@ ended job w = record {
 }
 
 -- its routine is walked from what is kept after the first moments
-abbrev pub carried : {S A : Type 0} → CommandRules S A → Doing → Known S → Job S A → Came S A
+abbrev pub carried : {S A : Type 0} → CommandRules S A → Doing → Known S → Job S A → CommandResult S A
 carried rules doing known job = ended job (walk_routine rules.acts (next_meeting doing) job.from known.queue job.routine)
 
 -- where a test fails, that is answered, and nothing is done
-abbrev pub tested : {S A : Type 0} → CommandRules S A → Doing → Known S → Job S A → Option HostFault → Came S A
+abbrev pub tested : {S A : Type 0} → CommandRules S A → Doing → Known S → Job S A → Option HostFault → CommandResult S A
 tested rules doing known job (Some fault) = came known (answers.Fault fault)
 tested rules doing known job None = carried rules doing known job
 
@@ -105,13 +105,13 @@ is_plan (commands.Lag k ticks) = true
 is_plan command = false
 
 -- something is planned where there is room for it
-abbrev pub planned_where_room : {S A : Type 0} → Known S → Bool → List Entry → Came S A
+abbrev pub planned_where_room : {S A : Type 0} → Known S → Bool → List Entry → CommandResult S A
 planned_where_room known true entries = came (record { kept = known.kept; queue = record { sent = known.queue.sent; entries = entries } }) answers.Done
 planned_where_room known false entries = came known answers.PlanFull
 
 -- A command; the K-th message from now is planned, and a tick is one, whatever its number. The device does to messages of its
 -- own accord what `doing` says.
-abbrev pub next : {S A : Type 0} → CommandRules S A → Doing → Known S → Command → Came S A
+abbrev pub next : {S A : Type 0} → CommandRules S A → Doing → Known S → Command → CommandResult S A
 next rules doing known (commands.Refuse k e) =
     let n = known.queue.sent + k in planned_where_room known (has_room n known.queue.entries) (with_fate n (fates.Refuse e) known.queue.entries)
 next rules doing known (commands.Drop k) =

@@ -1,7 +1,7 @@
 pub mod Show
 pub mod StateLines
 pub mod ShownLines
-pub mod Seat
+pub mod SessionView
 pub mod CommandTests
 pub mod CommandRanges
 pub mod CommandRules

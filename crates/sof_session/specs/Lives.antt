@@ -6,7 +6,7 @@ use Rattle.mbox_link.specs.Calls.{Meaning, Did, world}
 use Rattle.sof_script.specs.declared.script.Command.{Command}
 use Rattle.sof_session.specs.Agreement.{AreAgreed}
 use Rattle.sof_session.specs.Fills.{FilledBy, next_read, input_ends}
-use Rattle.sof_session.specs.Seat.{Seat, seat_in}
+use Rattle.sof_session.specs.SessionView.{SessionView, seat_in}
 use Rattle.sof_session.specs.Modes.{SteppedBy, shown_in}
 use Rattle.sof_script.specs.Tasks.{Out, Task, Begin, Fill, Carry, Give, Turn, AreTurns}
 use Rattle.sof_session.specs.Written.{empty_outputs, written_in}
@@ -14,7 +14,7 @@ use Rattle.sof_session.specs.Written.{empty_outputs, written_in}
 -- a device before a session, and in it with the inputs and the slots of the outputs
 pub data Life (P : Type 0) : Type 0 where
   Bare : (dsp : P) → Life P
-  Seated : (seat : Seat P) (inputs : List InputView) (slots : List ℕ) → Life P
+  Seated : (seat : SessionView P) (inputs : List InputView) (slots : List ℕ) → Life P
 
 -- the device in a life
 abbrev pub device_of : {P : Type 0} → Life P → P
@@ -29,7 +29,7 @@ inputs_of (Seated seat inputs slots) = inputs
 -- ---- turns
 
 -- a session carries out a command: its step, from outputs to which nothing was written, over the same plan, heap and inputs
-pub record Carries {P : Type 0} (means : Meaning P) (command : Command) (out : Out) (old new : Seat P) (inputs inputs' : List InputView) (slots : List ℕ) : Type 0 where
+pub record Carries {P : Type 0} (means : Meaning P) (command : Command) (out : Out) (old new : SessionView P) (inputs inputs' : List InputView) (slots : List ℕ) : Type 0 where
   pub outputs : List OutputView
   pub stepped : SteppedBy means command old new (world old.link inputs (empty_outputs slots)) (world new.link inputs' outputs) out.answer
   pub shown : out.shown ≡ shown_in command old.up old.plan old.kept

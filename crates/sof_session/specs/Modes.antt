@@ -14,7 +14,7 @@ use Rattle.sof_script.specs.declared.script.Command.{Command}
 use Rattle.sof_script.specs.declared.script.Command.TheVariants as commands
 use Rattle.sof_session.specs.CommandRules.{CommandRules}
 use Rattle.sof_session.specs.Commands.{command_rules}
-use Rattle.sof_session.specs.Seat.{Seat}
+use Rattle.sof_session.specs.SessionView.{SessionView}
 use Rattle.sof_session.specs.SessionStep.{CommandDone}
 use Rattle.sof_session.specs.Show.{show_lines}
 use Rattle.sof_session.specs.UpCommands.{up_rules, up_show_lines}
@@ -23,15 +23,15 @@ use Rattle.sof_session.specs.Written.{Basis, Ground}
 -- by which rules the commands of a session go, over its plan and heap, and what of the session they go by
 pub record Mode (P S A : Type 0) : Type 0 where
   pub rules : Plan → ℕ → CommandRules S A
-  pub sees : Seat P → S
+  pub sees : SessionView P → S
   pub on_use : Bool
 
 -- all pipelines are made at a load
 abbrev pub made_at_load : {P : Type 0} → Mode P Record Act
-made_at_load {P} = record { rules = command_rules; sees = λ (seat : Seat P). seat.kept; on_use = false }
+made_at_load {P} = record { rules = command_rules; sees = λ (seat : SessionView P). seat.kept; on_use = false }
 
 -- what a session keeps whose pipelines are made on use, with what its device has
-abbrev pub up_state_of : {P : Type 0} → Meaning P → Seat P → UpState
+abbrev pub up_state_of : {P : Type 0} → Meaning P → SessionView P → UpState
 up_state_of means seat = up_state_in means seat.kept (unwrap_or seat.up []) seat.link.device
 
 -- each is made on use
@@ -39,23 +39,23 @@ abbrev pub made_on_use : {P : Type 0} → Meaning P → Mode P UpState DynamicAc
 made_on_use means = record { rules = up_rules; sees = up_state_of means; on_use = true }
 
 -- a session is of a mode
-abbrev pub IsInMode : {P S A : Type 0} → Mode P S A → Seat P → Type 0
+abbrev pub IsInMode : {P S A : Type 0} → Mode P S A → SessionView P → Type 0
 IsInMode mode seat = is_some seat.up ≡ mode.on_use
 
 -- ---- one command
 
 -- a command was done by the rules of this mode, and the session stays in it
-pub record CommandDoneIn {P S A : Type 0} (means : Meaning P) (mode : Mode P S A) (command : Command) (old new : Seat P) (w v : World (Wire P)) (answer : Answer) : Type 0 where
+pub record CommandDoneIn {P S A : Type 0} (means : Meaning P) (mode : Mode P S A) (command : Command) (old new : SessionView P) (w v : World (Wire P)) (answer : Answer) : Type 0 where
   pub done : CommandDone means (mode.rules old.plan old.heap) old.heap command (mode.sees old) (mode.sees new) w v answer
   pub stays : IsInMode mode new
 
 -- by those of the mode in which the session was, with these doings of the device
-abbrev pub DoneWith : {P : Type 0} → Meaning P → Doing → Option (List ℕ) → Command → Seat P → Seat P → World (Wire P) → World (Wire P) → Answer → Type 0
+abbrev pub DoneWith : {P : Type 0} → Meaning P → Doing → Option (List ℕ) → Command → SessionView P → SessionView P → World (Wire P) → World (Wire P) → Answer → Type 0
 DoneWith means doing None command old new w v answer = (did : CommandDoneIn means made_at_load command old new w v answer) × (doing ≡ did.done.doing)
 DoneWith means doing (Some up) command old new w v answer = (did : CommandDoneIn means (made_on_use means) command old new w v answer) × (doing ≡ did.done.doing)
 
 -- a session did a command, in its mode
-pub record SteppedBy {P : Type 0} (means : Meaning P) (command : Command) (old new : Seat P) (w v : World (Wire P)) (answer : Answer) : Type 0 where
+pub record SteppedBy {P : Type 0} (means : Meaning P) (command : Command) (old new : SessionView P) (w v : World (Wire P)) (answer : Answer) : Type 0 where
   pub doing : Doing
   pub did : DoneWith means doing old.up command old new w v answer
 

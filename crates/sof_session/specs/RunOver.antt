@@ -7,7 +7,7 @@ use Rattle.mbox_link.specs.declared.fates.Fate.TheVariants.{Pass}
 use Rattle.mbox_link.specs.Calls.{Meaning}
 use Rattle.mbox_link.specs.Meetings.{Doing}
 use Rattle.sof_script.specs.declared.script.Command.{Command}
-use Rattle.sof_session.specs.Seat.{Seat}
+use Rattle.sof_session.specs.SessionView.{SessionView}
 use Rattle.sof_session.specs.Modes.{Mode, IsInMode, basis_in}
 use Rattle.sof_session.specs.Lives.{Life, Bare, Seated, Carries, Turned, device_of, carried_outs}
 use Rattle.sof_script.specs.Tasks.{Task, Carry, Turn, Out}
@@ -16,7 +16,7 @@ use Rattle.sof_session.specs.Written.{Ground, At, Leg, IsRun, first_at, end_of, 
 
 -- A session of a mode is where a run is: it is over the run's plan, heap and slots, its host and link know what is known there, and its
 -- device and the inputs stand where the moments so far lead.
-pub record IsAt {P S A : Type 0} (means : Meaning P) (mode : Mode P S A) (g : Ground) (seat : Seat P) (inputs : List InputView) (slots : List ℕ) (moments : List Moment) (at : At S) : Type 0 where
+pub record IsAt {P S A : Type 0} (means : Meaning P) (mode : Mode P S A) (g : Ground) (seat : SessionView P) (inputs : List InputView) (slots : List ℕ) (moments : List Moment) (at : At S) : Type 0 where
   pub mode_is : IsInMode mode seat
   pub plan_is : seat.plan ≡ g.plan
   pub heap_is : seat.heap ≡ g.heap

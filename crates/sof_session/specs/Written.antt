@@ -12,7 +12,7 @@ use Rattle.sof_script.specs.declared.script.Command.{Command}
 use Rattle.host_widgets.specs.declared.kept.Record.{Record}
 use Rattle.host_widgets.specs.HostActs.{Act}
 use Rattle.sof_session.specs.CommandRules.{CommandRules}
-use Rattle.sof_session.specs.Commands.{Known, Came, first_known, next, command_rules}
+use Rattle.sof_session.specs.Commands.{Known, CommandResult, first_known, next, command_rules}
 use Rattle.sof_script.specs.Tasks.{Written, Out}
 
 -- ---- what comes out
@@ -70,11 +70,11 @@ first_at b = record { known = first_known b.rules; past = start }
 -- ---- one command
 
 -- what a command comes to where the run is
-abbrev pub came_at : {S A : Type 0} → Basis S A → Doing → Command → At S → Came S A
+abbrev pub came_at : {S A : Type 0} → Basis S A → Doing → Command → At S → CommandResult S A
 came_at b doing command at = next b.rules doing at.known command
 
 -- The run goes on by a command: what is known is the written next, and its moments lead on by the equations.
-pub record Goes {S A : Type 0} (b : Basis S A) (doing : Doing) (command : Command) (old new : At S) : Type 0 where
+pub record LegStep {S A : Type 0} (b : Basis S A) (doing : Doing) (command : Command) (old new : At S) : Type 0 where
   pub known : new.known ≡ (came_at b doing command old).known
   pub led : Leads b.whole old.past (came_at b doing command old).moments new.past
 
@@ -97,7 +97,7 @@ pub record Leg (S : Type 0) : Type 0 where
 
 pub record IsLeg {S A : Type 0} (b : Basis S A) (doing : Doing) (command : Command) (old : At S) (leg : Leg S) : Type 0 where
   pub command_is : leg.command ≡ command
-  pub goes : Goes b doing command old leg.at
+  pub goes : LegStep b doing command old leg.at
   pub out_is : leg.out ≡ out_of b doing command old leg.at
   pub moments_are : leg.moments ≡ (came_at b doing command old).moments
 

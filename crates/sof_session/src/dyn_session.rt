@@ -10,7 +10,7 @@ ghost use Rattle.sof_session.specs.CommandRanges.{is_in_range};
 ghost use Rattle.sof_session.specs.Commands.{is_tick};
 ghost use Rattle.sof_session.specs.Fills.{input_ends};
 ghost use Rattle.sof_session.specs.Modes.{up_state_of};
-ghost use Rattle.sof_session.specs.Seat.{seat_in};
+ghost use Rattle.sof_session.specs.SessionView.{seat_in};
 ghost use Rattle.sof_session.specs.SessionStep.{CommandDone};
 ghost use Rattle.sof_session.specs.ShownLines.{IsLineAt};
 ghost use Rattle.sof_session.specs.UpCommands.{up_rules, up_show_lines};
@@ -33,9 +33,9 @@ pub struct DynSession<P: Dsp> {
 
 impl<P: Dsp> Model for DynSession<P> {
     ghost use Rattle.std.specs.Prelude.{◌≡◌, is_some, true};
-    ghost use Rattle.sof_session.specs.Seat.{Seat};
+    ghost use Rattle.sof_session.specs.SessionView.{SessionView};
 
-    ghost Value = { Seat P };
+    ghost Value = { SessionView P };
 
     ghost view = { λ s. s.session };
 

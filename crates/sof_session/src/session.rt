@@ -20,8 +20,8 @@ ghost use Rattle.sof_session.specs.CommandRanges.{is_in_range, most_sent};
 ghost use Rattle.sof_session.specs.Commands.{is_tick, command_rules};
 ghost use Rattle.sof_session.specs.Fills.{input_ends};
 ghost use Rattle.sof_session.specs.Modes.{SteppedBy, CommandDoneIn, made_on_use, up_state_of, lines_in, most_sent_by};
-ghost use Rattle.sof_session.specs.Seat as seats;
-ghost use Rattle.sof_session.specs.Seat.{new_seat, seat_in, with_device};
+ghost use Rattle.sof_session.specs.SessionView as seats;
+ghost use Rattle.sof_session.specs.SessionView.{new_seat, seat_in, with_device};
 ghost use Rattle.sof_session.specs.SessionCalls.{Stays, CallRan, JobRan, LoadRan, ResumeRan, PlanRan, LagRan, ports};
 ghost use Rattle.sof_session.specs.SessionStep.{CommandDone};
 ghost use Rattle.sof_session.specs.ShownLines.{IsLineAt};
@@ -85,9 +85,9 @@ pub struct Session<P: Dsp> {
 }
 
 impl<P: Dsp> Model for Session<P> {
-    ghost use Rattle.sof_session.specs.Seat.{Seat};
+    ghost use Rattle.sof_session.specs.SessionView.{SessionView};
 
-    ghost Value = { Seat P };
+    ghost Value = { SessionView P };
 
     ghost use Rattle.sof_session.specs.Agreement.{AreAgreed};
 
@@ -108,7 +108,7 @@ impl<P: Dsp> Session<P> {
             (λ session. session ≡ new_seat plan heap dsp)
             (λ refused. refused.dsp ≡ dsp) }
     {
-        Session::begun(alloc, false, plan, heap, dsp)
+        Session::with_mode(alloc, false, plan, heap, dsp)
     }
 
     /// As [`Session::new`], of a session that makes pipelines when a stream that needs them is first opened, and unmakes them after the
@@ -122,11 +122,11 @@ impl<P: Dsp> Session<P> {
             (λ session. session ≡ seat_in true plan heap dsp)
             (λ refused. refused.dsp ≡ dsp) }
     {
-        Session::begun(alloc, true, plan, heap, dsp)
+        Session::with_mode(alloc, true, plan, heap, dsp)
     }
 
     /// As [`Session::on_use`] where pipelines are to be made on use, and else as [`Session::new`].
-    pub fn begun(
+    pub fn with_mode(
         alloc: Global,
         on_use: bool,
         plan: Plan,

@@ -10,7 +10,7 @@ use Rattle.host_widgets.specs.declared.answers.Answer.{Answer}
 use Rattle.sof_script.specs.declared.script.Command.{Command}
 use Rattle.sof_session.specs.Agreement.{AreAgreed}
 use Rattle.sof_session.specs.Fills.{input_ends}
-use Rattle.sof_session.specs.Seat.{Seat}
+use Rattle.sof_session.specs.SessionView.{SessionView}
 use Rattle.sof_session.specs.Modes.{SteppedBy, shown_in}
 use Rattle.sof_script.specs.Tasks.{Out, Turn, Carry}
 use Rattle.sof_session.specs.Written.{with_bytes, written_in}
@@ -21,7 +21,7 @@ use Rattle.sof_stress.specs.CommandTurns.{CommandTurn, bytes_to, command_turns, 
 use Rattle.sof_stress.specs.CarriedTurns.{turns_after, CarriedOut, AreCountsOf, CarriesOn, CarriedFirst, CommandsCarried, IsUnderWay}
 
 -- a session's step is a turn
-pub carries-on : {P : Type 0} (means : Meaning P) (command : Command) (seat seat' : Seat P) (inputs inputs' : List InputView) (outputs outputs' : List OutputView) (answer : Answer) →
+pub carries-on : {P : Type 0} (means : Meaning P) (command : Command) (seat seat' : SessionView P) (inputs inputs' : List InputView) (outputs outputs' : List OutputView) (answer : Answer) →
     drained outputs ≡ outputs → SteppedBy means command seat seat' (world seat.link inputs outputs) (world seat'.link inputs' outputs') answer → seat'.plan ≡ seat.plan → seat'.heap ≡ seat.heap → AreAgreed means seat' → input_ends inputs' ≡ input_ends inputs →
     Turned means (Carry command) (record { answer = answer; shown = shown_in command seat.up seat.plan seat.kept; written = written_in outputs' }) (Seated seat inputs (output_slots outputs)) (Seated seat' inputs' (output_slots outputs))
 carries-on means command seat seat' inputs inputs' outputs outputs' answer empty stepped plan heap agreed ends = (
@@ -76,7 +76,7 @@ turns-append (x ∷ xs) ys rest =
     ∙ sym (append_assoc (command_turns x) (turns_of xs) (turns_of ys ++ rest))
 
 -- before the first command
-pub first-under-way : {P : Type 0} (slot : ℕ) (seat : Seat P) (outputs : List OutputView) (counts : Counts) → seat.link.sent ≡ 0 → output_slots outputs ≡ slot ∷ [] → drained outputs ≡ outputs → counts ≡ no_counts → IsUnderWay slot 0 seat outputs counts
+pub first-under-way : {P : Type 0} (slot : ℕ) (seat : SessionView P) (outputs : List OutputView) (counts : Counts) → seat.link.sent ≡ 0 → output_slots outputs ≡ slot ∷ [] → drained outputs ≡ outputs → counts ≡ no_counts → IsUnderWay slot 0 seat outputs counts
 first-under-way slot seat outputs counts sent slots empty none = record {
   sent = omega (arith, sent);
   slots = slots;
@@ -118,7 +118,7 @@ module _ {P : Type 0} (means : Meaning P) (slot : ℕ) where
   -- ---- many commands
 
   -- none yet
-  pub none-yet : (seat : Seat P) (inputs : List InputView) (outputs : List OutputView) (counts : Counts) → drained outputs ≡ outputs → CommandsCarried means slot [] seat inputs outputs counts seat inputs outputs counts
+  pub none-yet : (seat : SessionView P) (inputs : List InputView) (outputs : List OutputView) (counts : Counts) → drained outputs ≡ outputs → CommandsCarried means slot [] seat inputs outputs counts seat inputs outputs counts
   none-yet seat inputs outputs counts empty = record {
     carried = λ rest end last done. done;
     sent = omega arith;
@@ -127,7 +127,7 @@ module _ {P : Type 0} (means : Meaning P) (slot : ℕ) where
     counted = λ n are. counts-mono n (n + 10 * 0) counts (omega arith) are;
   }
 
-  module _ {seat seat' : Seat P} {inputs inputs' : List InputView} {outputs outputs' : List OutputView} {counts counts' : Counts} where
+  module _ {seat seat' : SessionView P} {inputs inputs' : List InputView} {outputs outputs' : List OutputView} {counts counts' : Counts} where
     -- one
     pub one-carried : (made command : Command) → made ≡ command →
         CarriedFirst means slot (command_turns made) (Seated seat inputs (output_slots outputs)) counts (Seated seat' inputs' (output_slots outputs')) counts' → seat'.link.sent ≤ seat.link.sent + 12000 →
@@ -151,7 +151,7 @@ module _ {P : Type 0} (means : Meaning P) (slot : ℕ) where
     }
 
     -- others after them
-    pub and-then : (first second : List Command) {seat'' : Seat P} {inputs'' : List InputView} {outputs'' : List OutputView} {counts'' : Counts} →
+    pub and-then : (first second : List Command) {seat'' : SessionView P} {inputs'' : List InputView} {outputs'' : List OutputView} {counts'' : Counts} →
         CommandsCarried means slot first seat inputs outputs counts seat' inputs' outputs' counts' → CommandsCarried means slot second seat' inputs' outputs' counts' seat'' inputs'' outputs'' counts'' → CommandsCarried means slot (first ++ second) seat inputs outputs counts seat'' inputs'' outputs'' counts''
     and-then first second {seat''} {inputs''} {outputs''} {counts''} here there = record {
       carried = λ rest end last done.

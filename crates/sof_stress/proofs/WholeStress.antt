@@ -6,7 +6,7 @@ use Rattle.tplg_plan.specs.declared.plans.Plan.{Plan}
 use Rattle.host_widgets.specs.declared.answers.Answer.TheVariants as answers
 use Rattle.tplg_plan.specs.Sound.{IsSound}
 use Rattle.sof_session.specs.Agreement.{AreAgreed}
-use Rattle.sof_session.specs.Seat.{Seat, new_seat}
+use Rattle.sof_session.specs.SessionView.{SessionView, new_seat}
 use Rattle.sof_session.specs.Lives.{Seated}
 use Rattle.sof_stress.specs.declared.counts.Counts.{Counts}
 use Rattle.sof_stress.specs.Draws.{stream_count}
@@ -17,7 +17,7 @@ use Rattle.sof_stress.specs.GraphParts.{stress_heap, stress_plan}
 use Rattle.sof_stress.specs.StressRun.{stress_turns}
 use Rattle.sof_stress.specs.DeviceStress.{Stresses}
 
-module _ {P : Type 0} (means : Meaning P) (seed : ℕ) (p q : P) (plan : Plan) (heap slot sent : ℕ) (inputs inputs' : List InputView) (slots slots' : List ℕ) (seat seat' : Seat P) (counts : Counts) where
+module _ {P : Type 0} (means : Meaning P) (seed : ℕ) (p q : P) (plan : Plan) (heap slot sent : ℕ) (inputs inputs' : List InputView) (slots slots' : List ℕ) (seat seat' : SessionView P) (counts : Counts) where
   pub whole : IsSound plan → plan ≡ stress_plan seed → heap ≡ stress_heap (means.most p) seed → slot ≡ dai_slot (stream_count seed) → inputs ≡ stress_inputs (stream_count seed) → slots ≡ dai_slot (stream_count seed) ∷ [] →
       seat ≡ new_seat plan heap p → CarriedOut means slot (stress_turns seed) (Seated seat inputs slots) no_counts (Seated seat' inputs' slots') counts →
       q ≡ seat'.link.device → AreAgreed means seat' → sent ≡ seat'.link.sent → Stresses means seed p (record counts { messages = sent }) q

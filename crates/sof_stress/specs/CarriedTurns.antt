@@ -8,7 +8,7 @@ use Rattle.sof_base.specs.DrainedOutputs.{drained}
 use Rattle.sof_io.specs.Bound.{output_slots}
 use Rattle.mbox_link.specs.Calls.{Meaning}
 use Rattle.sof_script.specs.declared.script.Command.{Command}
-use Rattle.sof_session.specs.Seat.{Seat}
+use Rattle.sof_session.specs.SessionView.{SessionView}
 use Rattle.sof_session.specs.Lives.{Life, Seated, Turns}
 use Rattle.sof_script.specs.Tasks.{Turn, Task, Carry}
 use Rattle.sof_stress.specs.declared.counts.Counts.{Counts}
@@ -83,15 +83,15 @@ abbrev pub CarriedFirst : {P : Type 0} → Meaning P → ℕ → List CommandTur
 CarriedFirst means slot todo old before new after = (rest : List CommandTurn) → CarriesOn means slot (todo ++ rest) rest old before new after
 
 -- Nothing but so many commands was carried out, and the outputs are one, of this slot, and empty.
-pub record IsUnderWay {P : Type 0} (slot commands : ℕ) (seat : Seat P) (outputs : List OutputView) (counts : Counts) : Type 0 where
+pub record IsUnderWay {P : Type 0} (slot commands : ℕ) (seat : SessionView P) (outputs : List OutputView) (counts : Counts) : Type 0 where
   pub sent : seat.link.sent ≤ 12000 * commands
   pub slots : output_slots outputs ≡ slot ∷ []
   pub empty : drained outputs ≡ outputs
   pub counted : AreCountsOf (10 * commands) counts
 
 -- These commands were carried out, and the outputs are empty again.
-pub record CommandsCarried {P : Type 0} (means : Meaning P) (slot : ℕ) (commands : List Command) (seat : Seat P) (inputs : List InputView) (outputs : List OutputView) (counts : Counts)
-    (seat' : Seat P) (inputs' : List InputView) (outputs' : List OutputView) (counts' : Counts) : Type 0 where
+pub record CommandsCarried {P : Type 0} (means : Meaning P) (slot : ℕ) (commands : List Command) (seat : SessionView P) (inputs : List InputView) (outputs : List OutputView) (counts : Counts)
+    (seat' : SessionView P) (inputs' : List InputView) (outputs' : List OutputView) (counts' : Counts) : Type 0 where
   pub carried : CarriedFirst means slot (turns_of commands) (Seated seat inputs (output_slots outputs)) counts (Seated seat' inputs' (output_slots outputs')) counts'
   pub sent : seat'.link.sent ≤ seat.link.sent + 12000 * length commands
   pub slots : output_slots outputs' ≡ output_slots outputs

@@ -31,22 +31,22 @@ quota-most-requires c =
       over = is.over;
     }
 
-pub carry-requires-clause-few : goal.carry-requires-clause-few
-carry-requires-clause-few c =
+pub copy_component-requires-clause-few : goal.copy_component-requires-clause-few
+copy_component-requires-clause-few c =
     let s = c.args.step.now in let is = c.requires.step in let v = view_by c.args.registry.now in let can = c.requires.can in
     let now = runs-active v c.args.clock s.id (sym (runs-is v c.args.clock s.id s.period s.active is.active is.period) ∙ sym c.runs.ensures ∙ c.if-runs.true) in
     let few = quota-few v can.wired can.played c.args.clock s.id (active-live v can.wired can.linked can.played s.id now) in
     omega (arith, c.quota-most.ensures v is.period is.rate, few)
 
-pub carry-requires-clause-active : goal.carry-requires-clause-active
-carry-requires-clause-active c =
+pub copy_component-requires-clause-active : goal.copy_component-requires-clause-active
+copy_component-requires-clause-active c =
     let s = c.args.step.now in let is = c.requires.step in let v = view_by c.args.registry.now in
     runs-active v c.args.clock s.id (sym (runs-is v c.args.clock s.id s.period s.active is.active is.period) ∙ sym c.runs.ensures ∙ c.if-runs.true)
 
 pub returns-then-runs-clause-moved : goal.returns-then-runs-clause-moved
 returns-then-runs-clause-moved c =
     let s = c.args.step.now in let is = c.requires.step in let v = view_by c.args.registry.now in
-    c.carry.ensures.moved c.args.clock (sym (runs-is v c.args.clock s.id s.period s.active is.active is.period) ∙ sym c.runs.ensures ∙ c.if-runs.true) (c.quota-most.ensures v is.period is.rate)
+    c.copy_component.ensures.moved c.args.clock (sym (runs-is v c.args.clock s.id s.period s.active is.active is.period) ∙ sym c.runs.ensures ∙ c.if-runs.true) (c.quota-most.ensures v is.period is.rate)
 
 pub returns-else-runs-clause-grew : goal.returns-else-runs-clause-grew
 returns-else-runs-clause-grew c = grew-still (c.args.step.now.id ∷ []) c.args.out.now

@@ -36,8 +36,8 @@ loop-index-init g c = record {
   ahead = λ agrees. ahead-none g.P.Dsp.means c.args.side.now.plan.now c.args.side.now.heap (control_here c.args.side.now.plan.now c.args.place).comp c.args.count c.args.side.now.kept.now (world_of c.args.side.now) agrees;
 }
 
-pub hear-requires-clause-on : goal.hear-requires-clause-on
-hear-requires-clause-on g c = c.loop-index.invariant.on
+pub transact-requires-clause-on : goal.transact-requires-clause-on
+transact-requires-clause-on g c = c.loop-index.invariant.on
 
 pub returns-in_err-reply : goal.returns-in_err-reply
 returns-in_err-reply g c =
@@ -53,28 +53,28 @@ returns-in_err-reply g c =
     let w = world_of c.args.side.now in
     let j = c.loop-index.index in
     let m = world_of c.loop-index.side in
-    let v = world_of c.hear.new.side in
+    let v = world_of c.transact.new.side in
     let few : j < parts (record_here kept i).blob = omega (arith, c.loop-index-test.true, c.requires.count) in
     let same = c.loop-index.invariant.same in
     let here = place-control plan i low c.items.result.now _ (c.items.ensures ∙ (λ t. (same.plan t).now.controls)) in
     let asked = subst (λ (n : ℕ). AskedAhead means plan heap (control_here plan i).comp n kept w m j) c.requires.count c.loop-index.invariant.asked in
-    let h = subst (λ (p : ControlPlan × Record × ℕ). Replied means p.2 (message_spelling (GetData p.0.comp j)) p.1 c.hear.new.side.kept.now m v c.hear.result) (λ t. (here t, c.loop-index.invariant.stays t, same.heap t)) c.hear.ensures.replied in
+    let h = subst (λ (p : ControlPlan × Record × ℕ). Replied means p.2 (message_spelling (GetData p.0.comp j)) p.1 c.transact.new.side.kept.now m v c.transact.result) (λ t. (here t, c.loop-index.invariant.stays t, same.heap t)) c.transact.ensures.replied in
     let fault = c.in_err-reply.field-0.0 in
     let failed = handed_on c.from_residual.result fault c.from_residual.ensures in
     record {
-      answered = subst (λ (o : Outcome). OrderAnswered means plan heap (reading_order kept (Some (control_here plan i, record_here kept i))) kept c.hear.new.side.kept.now w v o) (sym failed)
-          (reading-answered plan sound kept is i low means heap w kind.0 kind.1 kind.2 c.requires.power c.hear.new.side.kept.now v (Err fault)
-          (asked-ends means plan heap (control_here plan i).comp (parts (record_here kept i).blob) kept w m v j few asked c.hear.new.side.kept.now fault (part-failed plan sound kept is i low means heap w kind.0 kind.1 kind.2 j few m v c.hear.new.side.kept.now c.hear.result h fault c.in_err-reply.was)));
-      told = λ set. subst (λ (o : Outcome). IfOk o (λ done. (c.loop-index.told.items ≡ (record_here kept i).blob) × HasSet means plan kept (control_here plan i).comp c.hear.new.side.dsp.now)) (sym failed) tt;
-      still = subst (λ (o : Outcome). IfOk o (λ done. c.hear.new.side.kept.now ≡ kept)) (sym failed) tt;
+      answered = subst (λ (o : Outcome). OrderAnswered means plan heap (reading_order kept (Some (control_here plan i, record_here kept i))) kept c.transact.new.side.kept.now w v o) (sym failed)
+          (reading-answered plan sound kept is i low means heap w kind.0 kind.1 kind.2 c.requires.power c.transact.new.side.kept.now v (Err fault)
+          (asked-ends means plan heap (control_here plan i).comp (parts (record_here kept i).blob) kept w m v j few asked c.transact.new.side.kept.now fault (part-failed plan sound kept is i low means heap w kind.0 kind.1 kind.2 j few m v c.transact.new.side.kept.now c.transact.result h fault c.in_err-reply.was)));
+      told = λ set. subst (λ (o : Outcome). IfOk o (λ done. (c.loop-index.told.items ≡ (record_here kept i).blob) × HasSet means plan kept (control_here plan i).comp c.transact.new.side.dsp.now)) (sym failed) tt;
+      still = subst (λ (o : Outcome). IfOk o (λ done. c.transact.new.side.kept.now ≡ kept)) (sym failed) tt;
       agree = λ agrees.
           let so = subst (λ (n : ℕ). Ahead means plan heap (control_here plan i).comp n kept w m j) c.requires.count (c.loop-index.invariant.ahead agrees) in
-          let both = ahead-ends plan sound kept is i low kind.0 kind.1 kind.2 means heap w m j few so c.requires.power c.hear.new.side.kept.now v c.hear.result h fault c.in_err-reply.was in (
-            subst (λ (o : Outcome). Carried means plan heap (reading_order kept (Some (control_here plan i, record_here kept i))) kept c.hear.new.side.kept.now w v o) (sym failed)
-                (reading-carried plan sound kept is i low kind.0 kind.1 kind.2 means heap c.requires.power c.hear.new.side.kept.now w v (Err fault) both.0),
+          let both = ahead-ends plan sound kept is i low kind.0 kind.1 kind.2 means heap w m j few so c.requires.power c.transact.new.side.kept.now v c.transact.result h fault c.in_err-reply.was in (
+            subst (λ (o : Outcome). Carried means plan heap (reading_order kept (Some (control_here plan i, record_here kept i))) kept c.transact.new.side.kept.now w v o) (sym failed)
+                (reading-carried plan sound kept is i low kind.0 kind.1 kind.2 means heap c.requires.power c.transact.new.side.kept.now w v (Err fault) both.0),
             both.1,
           );
-      same = same-on c.args.side.now c.loop-index.side c.hear.new.side same c.hear.ensures.same;
+      same = same-on c.args.side.now c.loop-index.side c.transact.new.side same c.transact.ensures.same;
     }
 
 pub loop-index-preserved : goal.loop-index-preserved
@@ -91,31 +91,31 @@ loop-index-preserved g c =
     let w = world_of c.args.side.now in
     let j = c.loop-index.index in
     let m = world_of c.loop-index.side in
-    let v = world_of c.hear.new.side in
+    let v = world_of c.transact.new.side in
     let few : j < parts (record_here kept i).blob = omega (arith, c.loop-index-test.true, c.requires.count) in
     let same = c.loop-index.invariant.same in
     let here = place-control plan i low c.items.result.now _ (c.items.ensures ∙ (λ t. (same.plan t).now.controls)) in
     let asked = subst (λ (n : ℕ). AskedAhead means plan heap (control_here plan i).comp n kept w m j) c.requires.count c.loop-index.invariant.asked in
-    let h = subst (λ (p : ControlPlan × Record × ℕ). Replied means p.2 (message_spelling (GetData p.0.comp j)) p.1 c.hear.new.side.kept.now m v c.hear.result) (λ t. (here t, c.loop-index.invariant.stays t, same.heap t)) c.hear.ensures.replied in
+    let h = subst (λ (p : ControlPlan × Record × ℕ). Replied means p.2 (message_spelling (GetData p.0.comp j)) p.1 c.transact.new.side.kept.now m v c.transact.result) (λ t. (here t, c.loop-index.invariant.stays t, same.heap t)) c.transact.ensures.replied in
     let initial = initial-here plan sound kept is i low kind.0 kind.1 kind.2 in
-    let one = part-passed plan sound kept is i low means heap w kind.0 kind.1 kind.2 j few m v c.hear.new.side.kept.now c.hear.result h c.in_ok-reply.reply c.in_ok-reply.was in
+    let one = part-passed plan sound kept is i low means heap w kind.0 kind.1 kind.2 j few m v c.transact.new.side.kept.now c.transact.result h c.in_ok-reply.reply c.in_ok-reply.was in
     let sent = answered-sent means plan heap (Ask (control_here plan i).comp j ∷ []) (λ now. now) kept kept m v one in
     record {
-      stays = part-stayed plan sound kept is i low means heap w kind.0 kind.1 kind.2 j few m v c.hear.new.side.kept.now c.hear.result h c.in_ok-reply.reply c.in_ok-reply.was;
-      same = same-on c.args.side.now c.loop-index.side c.hear.new.side same c.hear.ensures.same;
+      stays = part-stayed plan sound kept is i low means heap w kind.0 kind.1 kind.2 j few m v c.transact.new.side.kept.now c.transact.result h c.in_ok-reply.reply c.in_ok-reply.was;
+      same = same-on c.args.side.now c.loop-index.side c.transact.new.side same c.transact.ensures.same;
       room = sent-room means plan (Ask (control_here plan i).comp j ∷ []) m v (Ok tt) sent c.loop-index.invariant.room;
       on = sent-on means plan (Ask (control_here plan i).comp j ∷ []) m v (Ok tt) sent c.loop-index.invariant.on;
       asked = subst (λ (n : ℕ). AskedAhead means plan heap (control_here plan i).comp n kept w v (j + 1)) (sym c.requires.count) (asked-more means plan heap (control_here plan i).comp (parts (record_here kept i).blob) kept w m v j few asked one);
       told = λ set.
           let was = c.loop-index.invariant.told set in
-          let heard = part-heard plan sound kept is i low kind.0 kind.1 kind.2 j few means heap m c.loop-index.invariant.on was.1 c.hear.new.side.kept.now v c.hear.result h c.in_ok-reply.reply c.in_ok-reply.was in
+          let heard = part-heard plan sound kept is i low kind.0 kind.1 kind.2 j few means heap m c.loop-index.invariant.on was.1 c.transact.new.side.kept.now v c.transact.result h c.in_ok-reply.reply c.in_ok-reply.was in
           let joins = ap (λ (bytes : List ℕ). with_part bytes (blob_part (record_here kept i).blob j)) was.0 ∙ bytes-more (record_here kept i).blob j few initial in
           let fits = subst (λ (bytes : List ℕ). length bytes ≤ 1024) (sym joins) (bytes-fit (record_here kept i).blob j few initial) in
           (c.append_reply.ensures (blob_part (record_here kept i).blob j) heard.0 fits ∙ joins, has-set means plan kept (control_here plan i).comp v.device heard.1);
       ahead = λ agrees.
           let so = subst (λ (n : ℕ). Ahead means plan heap (control_here plan i).comp n kept w m j) c.requires.count (c.loop-index.invariant.ahead agrees) in
           subst (λ (n : ℕ). Ahead means plan heap (control_here plan i).comp n kept w v (j + 1)) (sym c.requires.count)
-          (ahead-more plan sound kept is i low kind.0 kind.1 kind.2 means heap w m j few so c.requires.power c.hear.new.side.kept.now v c.hear.result h c.in_ok-reply.reply c.in_ok-reply.was);
+          (ahead-more plan sound kept is i low kind.0 kind.1 kind.2 means heap w m j few so c.requires.power c.transact.new.side.kept.now v c.transact.result h c.in_ok-reply.reply c.in_ok-reply.was);
     }
 
 pub returns : goal.returns

@@ -5,7 +5,7 @@ use Rattle.host_widgets.specs.ActLists.{part_acts}
 use Rattle.host_widgets.specs.Host.{IsRecordOf}
 use Rattle.host_widgets.specs.HostActs.{with_blob}
 use Rattle.host_widgets.specs.Kept.{with_control}
-use Rattle.host_widgets.specs.Orders.{Order}
+use Rattle.host_widgets.specs.Orders.{Procedure}
 use Rattle.host_widgets.proofs.PartFacts.{blob-long}
 use Rattle.host_ctl.specs.ControlOrders.{installing_order}
 use Rattle.host_ctl.specs.ControlPlaces.{control_here}
@@ -52,7 +52,7 @@ returns-clause-kept c =
         refl,
         c.keep_blob.ensures ∙ blob-changed plan sound kept is i low c.args.blob.now
             ∙ ap (λ (f : Record → Record). f kept) (sym (sends-done kept.power (part_acts k.comp c.args.blob.now) (with_control plan k.comp (with_blob c.args.blob.now)) Done))
-            ∙ ap (λ (o : Order). o.done kept) (ap (installing_order plan kept c.args.blob.now) (sym named)),
+            ∙ ap (λ (o : Procedure). o.done kept) (ap (installing_order plan kept c.args.blob.now) (sym named)),
       );
     }
 

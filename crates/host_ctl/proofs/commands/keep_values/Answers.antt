@@ -5,7 +5,7 @@ use Rattle.host_widgets.specs.declared.kept.Record.{Record}
 use Rattle.host_widgets.specs.Host.{IsRecordOf}
 use Rattle.host_widgets.specs.HostActs.{Put, with_values}
 use Rattle.host_widgets.specs.Kept.{with_control}
-use Rattle.host_widgets.specs.Orders.{Order}
+use Rattle.host_widgets.specs.Orders.{Procedure}
 use Rattle.host_ctl.specs.ControlAsks.{channels_of, spread}
 use Rattle.host_ctl.specs.ControlOrders.{setting_order}
 use Rattle.host_ctl.specs.ControlPlaces.{control_here, with_values_at}
@@ -67,7 +67,7 @@ returns-clause-kept c =
         refl,
         c.keep.ensures ∙ ap (λ (xs : List ℕ). with_values_at i xs kept) all ∙ place-changed plan sound kept is i low vs
             ∙ ap (λ (f : Record → Record). f kept) (sym (sends-done kept.power (Put k.comp vs ∷ []) (with_control plan k.comp (with_values vs)) Done))
-            ∙ ap (λ (o : Order). o.done kept) (ap (setting_order plan kept c.args.values.now) (sym named)),
+            ∙ ap (λ (o : Procedure). o.done kept) (ap (setting_order plan kept c.args.values.now) (sym named)),
       );
     }
 

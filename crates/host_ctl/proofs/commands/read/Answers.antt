@@ -5,7 +5,7 @@ use Rattle.host_widgets.specs.declared.answers.Answer.{Answer}
 use Rattle.host_widgets.specs.declared.kept.Record.{Record}
 use Rattle.host_widgets.specs.AnsweredOrders.{OrderAnswered, TestedAnswered}
 use Rattle.host_widgets.specs.Host.{Agrees}
-use Rattle.host_widgets.specs.Orders.{Order, Carried}
+use Rattle.host_widgets.specs.Orders.{Procedure, Carried}
 use Rattle.host_widgets.specs.TestedOrders.{Tested}
 use Rattle.host_widgets.proofs.AnsweredActs.{late-answered}
 use Rattle.host_ctl.specs.ControlAsks.{read_fault}
@@ -37,7 +37,7 @@ returns-clause-answered g c =
     let v = world_of c.read.new.side in
     let came = outcome_of c.read.result in
     subst (λ (e : Record × World g.row.P.Denot). TestedAnswered means plan heap (read_fault plan kept name) (read_order plan kept name) kept e.0 w e.1 came) (search rules)
-    (late-answered means plan heap (read_fault plan kept name) (read_order plan kept name) kept now w v came c.in_ok-place.ensures.none (subst (λ (o : Order). OrderAnswered means plan heap o kept now w v came) same c.read.ensures.answered))
+    (late-answered means plan heap (read_fault plan kept name) (read_order plan kept name) kept now w v came c.in_ok-place.ensures.none (subst (λ (o : Procedure). OrderAnswered means plan heap o kept now w v came) same c.read.ensures.answered))
 
 pub returns-clause-asked : goal.returns-clause-asked
 returns-clause-asked g c agrees =
@@ -58,7 +58,7 @@ returns-clause-asked g c agrees =
     let v = world_of c.read.new.side in
     let came = outcome_of c.read.result in
     subst (λ (e : Record × World g.row.P.Denot). Tested means plan heap (read_fault plan kept name) (read_order plan kept name) kept e.0 w e.1 came) (search rules)
-    (tested-late means plan heap (read_fault plan kept name) (read_order plan kept name) kept w now v came c.in_ok-place.ensures.none (subst (λ (o : Order). Carried means plan heap o kept now w v came) same (c.read.ensures.agree agrees).0))
+    (tested-late means plan heap (read_fault plan kept name) (read_order plan kept name) kept w now v came c.in_ok-place.ensures.none (subst (λ (o : Procedure). Carried means plan heap o kept now w v came) same (c.read.ensures.agree agrees).0))
 
 pub returns-clause-told : goal.returns-clause-told
 returns-clause-told g c set =
@@ -78,7 +78,7 @@ returns-clause-told g c set =
     let now = c.read.new.side.kept.now in
     let v = world_of c.read.new.side in
     let came = outcome_of c.read.result in
-    subst (λ (x : Answer). IfOk c.read.result (λ a. a ≡ x)) (sym (sends-answer kept.power (ask_acts k.comp k.kind r) (λ now. now) (control_answer k.kind r)) ∙ ap (λ (o : Order). o.answer) same)
+    subst (λ (x : Answer). IfOk c.read.result (λ a. a ≡ x)) (sym (sends-answer kept.power (ask_acts k.comp k.kind r) (λ now. now) (control_answer k.kind r)) ∙ ap (λ (o : Procedure). o.answer) same)
     (told-alone c.read.result (control_answer k.kind r) (HasSet means plan kept k.comp c.read.new.side.dsp.now) (c.read.ensures.told (set k named)))
 
 pub returns-clause-shown : goal.returns-clause-shown

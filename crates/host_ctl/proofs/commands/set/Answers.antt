@@ -5,7 +5,7 @@ use Rattle.tplg_plan.specs.declared.plans.ControlPlan.{ControlPlan}
 use Rattle.host_widgets.specs.declared.kept.Record.{Record}
 use Rattle.host_widgets.specs.AnsweredOrders.{OrderAnswered, TestedAnswered}
 use Rattle.host_widgets.specs.Host.{Agrees}
-use Rattle.host_widgets.specs.Orders.{Order, Carried}
+use Rattle.host_widgets.specs.Orders.{Procedure, Carried}
 use Rattle.host_widgets.specs.TestedOrders.{Tested}
 use Rattle.host_widgets.proofs.AnsweredActs.{late-answered}
 use Rattle.host_ctl.specs.ControlAsks.{channels_of, spread, set_fault}
@@ -67,7 +67,7 @@ returns-clause-answered g c =
     let now = c.set.new.side.kept.now in
     let v = world_of c.set.new.side in
     subst (λ (e : Record × World g.row.P.Denot). TestedAnswered means plan heap fault order kept e.0 w e.1 c.set.result) (search rules)
-    (late-answered means plan heap fault order kept now w v c.set.result c.in_ok-place.ensures.none (subst (λ (o : Order). OrderAnswered means plan heap o kept now w v c.set.result) same c.set.ensures.answered))
+    (late-answered means plan heap fault order kept now w v c.set.result c.in_ok-place.ensures.none (subst (λ (o : Procedure). OrderAnswered means plan heap o kept now w v c.set.result) same c.set.ensures.answered))
 
 pub returns-clause-asked : goal.returns-clause-asked
 returns-clause-asked g c agrees =
@@ -89,7 +89,7 @@ returns-clause-asked g c agrees =
     let now = c.set.new.side.kept.now in
     let v = world_of c.set.new.side in
     subst (λ (e : Record × World g.row.P.Denot). Tested means plan heap fault order kept e.0 w e.1 c.set.result) (search rules)
-    (tested-late means plan heap fault order kept w now v c.set.result c.in_ok-place.ensures.none (subst (λ (o : Order). Carried means plan heap o kept now w v c.set.result) same (c.set.ensures.agree agrees).0))
+    (tested-late means plan heap fault order kept w now v c.set.result c.in_ok-place.ensures.none (subst (λ (o : Procedure). Carried means plan heap o kept now w v c.set.result) same (c.set.ensures.agree agrees).0))
 
 pub returns-clause-agree : goal.returns-clause-agree
 returns-clause-agree g c agrees = subst (λ (e : Record × g.row.P.Denot). Agrees g.P.Dsp.means c.args.plan.now e.0 e.1) (search rules) (c.set.ensures.agree agrees).1

@@ -18,8 +18,8 @@ invariant-loop g l =
       plan : l.session.plan ≡ l.fn.session.plan;
       sent : l.session.link.sent ≤ l.fn.session.link.sent;
       files : HaveFiles means l.inputs l.outputs l.desk;
-      keeps : CanKeep means g.K.Keeps.holds l.desk;
+      keeps : CanKeep means g.K.TraceBuffer.holds l.desk;
       empty : drained l.outputs ≡ l.outputs;
-      so_far : LeadsOn means (KeptTurn g.K.Dsp.means g.K.Keeps.holds g.K.Drain.empties) (rounds_todo (command_rounds l.numbered)) (rounds_todo (rounds_after (earlier l.numbered.command - l.counter) l.numbered))
+      so_far : LeadsOn means (KeptTurn g.K.Dsp.means g.K.TraceBuffer.holds g.K.Drain.empties) (rounds_todo (command_rounds l.numbered)) (rounds_todo (rounds_after (earlier l.numbered.command - l.counter) l.numbered))
           l.fn.desk (Seated l.fn.session l.fn.inputs (output_slots l.fn.outputs)) l.desk (Seated l.session l.inputs (output_slots l.outputs));
     }

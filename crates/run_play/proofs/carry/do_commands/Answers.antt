@@ -13,14 +13,14 @@ use Rattle.run_play.proofs.carry.do_commands.Goals as goal
 pub returns-then-not-do_command : goal.returns-then-not-do_command
 returns-then-not-do_command g c =
     let means = g.D.Desk.means in
-    let by = KeptTurn g.K.Dsp.means g.K.Keeps.holds g.K.Drain.empties in
+    let by = KeptTurn g.K.Dsp.means g.K.TraceBuffer.holds g.K.Drain.empties in
     let phase = subst (λ n. Phase means by (rounds_todo (command_rounds n)) c.do_command.result c.loop-numbered.desk (Seated c.loop-numbered.session c.loop-numbered.inputs (output_slots c.loop-numbered.outputs)) c.do_command.new.desk (Seated c.do_command.new.session c.do_command.new.inputs (output_slots c.do_command.new.outputs))) c.numbered-item.is c.do_command.ensures.phase in
     commands_off means by c.args.commands.now c.loop-numbered.numbered-index _ _ _ _ _ _ _ c.loop-numbered-test.true c.loop-numbered.invariant.so_far (rw c.if-not-do_command.true at phase)
 
 pub loop-numbered-preserved : goal.loop-numbered-preserved
 loop-numbered-preserved g c =
     let means = g.D.Desk.means in
-    let by = KeptTurn g.K.Dsp.means g.K.Keeps.holds g.K.Drain.empties in
+    let by = KeptTurn g.K.Dsp.means g.K.TraceBuffer.holds g.K.Drain.empties in
     let phase = subst (λ n. Phase means by (rounds_todo (command_rounds n)) c.do_command.result c.loop-numbered.desk (Seated c.loop-numbered.session c.loop-numbered.inputs (output_slots c.loop-numbered.outputs)) c.do_command.new.desk (Seated c.do_command.new.session c.do_command.new.inputs (output_slots c.do_command.new.outputs))) c.numbered-item.is c.do_command.ensures.phase in
     record {
       plan = c.do_command.ensures.plan ∙ c.loop-numbered.invariant.plan;

@@ -15,9 +15,9 @@ invariant-loop-numbered g l =
     record {
       plan : l.session.plan ≡ l.fn.session.plan;
       files : HaveFiles means l.inputs l.outputs l.desk;
-      keeps : CanKeep means g.K.Keeps.holds l.desk;
+      keeps : CanKeep means g.K.TraceBuffer.holds l.desk;
       empty : drained l.outputs ≡ l.outputs;
       sent : l.session.link.sent ≤ 1200 * l.numbered-index;
-      so_far : LeadsOn means (KeptTurn g.K.Dsp.means g.K.Keeps.holds g.K.Drain.empties) (commands_todo l.commands) (commands_todo (drop l.numbered-index l.commands))
+      so_far : LeadsOn means (KeptTurn g.K.Dsp.means g.K.TraceBuffer.holds g.K.Drain.empties) (commands_todo l.commands) (commands_todo (drop l.numbered-index l.commands))
           l.fn.desk (Seated l.fn.session l.fn.inputs (output_slots l.fn.outputs)) l.desk (Seated l.session l.inputs (output_slots l.outputs));
     }

@@ -18,7 +18,7 @@ pub returns-clause-phase : goal.returns-clause-phase
 returns-clause-phase g c numbered n is =
     let means = g.D.Desk.means in
     let device = g.K.Dsp.means in
-    let holds = g.K.Keeps.holds in
+    let holds = g.K.TraceBuffer.holds in
     let empties = g.K.Drain.empties in
     let round : Round = record { numbered = numbered; last = false } in
     let left = c.tick.new.self in
@@ -36,7 +36,7 @@ returns-clause-files g c =
     (ap output_slots c.write_unit.ensures.empty ∙ slots-drained c.tick.new.out ∙ c.tick.ensures.slots) c.write_unit.ensures.same c.requires.files
 
 pub returns-clause-keeps : goal.returns-clause-keeps
-returns-clause-keeps g c = keeps-same g.D.Desk.means g.K.Keeps.holds c.args.desk.now c.write_unit.new.desk c.write_unit.ensures.same c.requires.keeps
+returns-clause-keeps g c = keeps-same g.D.Desk.means g.K.TraceBuffer.holds c.args.desk.now c.write_unit.new.desk c.write_unit.ensures.same c.requires.keeps
 
 pub returns-clause-empty : goal.returns-clause-empty
 returns-clause-empty g c = rw c.write_unit.ensures.empty (drained-drained c.tick.new.out)

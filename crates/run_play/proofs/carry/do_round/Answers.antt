@@ -26,7 +26,7 @@ pub returns-then-write_unit-clause-phase : goal.returns-then-write_unit-clause-p
 returns-then-write_unit-clause-phase g c =
     let means = g.D.Desk.means in
     let device = g.K.Dsp.means in
-    let holds = g.K.Keeps.holds in
+    let holds = g.K.TraceBuffer.holds in
     let empties = g.K.Drain.empties in
     let numbered = c.args.numbered.now in
     let round : Round = record { numbered = numbered; last = true } in
@@ -49,7 +49,7 @@ pub returns-else-write_unit-clause-phase : goal.returns-else-write_unit-clause-p
 returns-else-write_unit-clause-phase g c =
     let means = g.D.Desk.means in
     let device = g.K.Dsp.means in
-    let holds = g.K.Keeps.holds in
+    let holds = g.K.TraceBuffer.holds in
     let empties = g.K.Drain.empties in
     let numbered = c.args.numbered.now in
     let round : Round = record { numbered = numbered; last = true } in
@@ -73,10 +73,10 @@ returns-else-write_unit-clause-files g c =
     (ap output_slots c.write_unit.ensures.empty ∙ slots-drained c.step-answer.new.out ∙ c.step-answer.ensures.slots) c.write_unit.ensures.same c.requires.files
 
 pub returns-then-write_unit-clause-keeps : goal.returns-then-write_unit-clause-keeps
-returns-then-write_unit-clause-keeps g c = keeps-same g.D.Desk.means g.K.Keeps.holds c.args.desk.now c.say_lines.new.desk (same_then g.D.Desk.means _ _ _ c.write_unit.ensures.same c.say_lines.ensures.same) c.requires.keeps
+returns-then-write_unit-clause-keeps g c = keeps-same g.D.Desk.means g.K.TraceBuffer.holds c.args.desk.now c.say_lines.new.desk (same_then g.D.Desk.means _ _ _ c.write_unit.ensures.same c.say_lines.ensures.same) c.requires.keeps
 
 pub returns-else-write_unit-clause-keeps : goal.returns-else-write_unit-clause-keeps
-returns-else-write_unit-clause-keeps g c = keeps-same g.D.Desk.means g.K.Keeps.holds c.args.desk.now c.write_unit.new.desk c.write_unit.ensures.same c.requires.keeps
+returns-else-write_unit-clause-keeps g c = keeps-same g.D.Desk.means g.K.TraceBuffer.holds c.args.desk.now c.write_unit.new.desk c.write_unit.ensures.same c.requires.keeps
 
 pub returns-then-write_unit-clause-empty : goal.returns-then-write_unit-clause-empty
 returns-then-write_unit-clause-empty g c = rw c.write_unit.ensures.empty (drained-drained c.step-answer.new.out)

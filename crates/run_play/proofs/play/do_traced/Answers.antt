@@ -16,5 +16,5 @@ returns-in-Ok g c =
 -- there was no memory for the records
 pub returns-in-Err : goal.returns-in-Err
 returns-in-Err g c =
-    wanted_kept g.D.Desk.means g.P.Dsp.means _ _ _ _ c.args.dsp _ _ (c.end_wanting.ensures.same ∙ c.in-Err.ensures)
-    (c.end_wanting.ensures.said (ready_todo c.args.form.on_use c.args.form.heap (option_map (λ name. name.now) c.args.form.trace) c.args.ready.plan (script_read c.args.ready.script)))
+    wanted_kept g.D.Desk.means g.P.Dsp.means _ _ _ _ c.args.dsp _ _ (c.fail_no_memory.ensures.same ∙ c.in-Err.ensures)
+    (c.fail_no_memory.ensures.said (ready_todo c.args.form.on_use c.args.form.heap (option_map (λ name. name.now) c.args.form.trace) c.args.ready.plan (script_read c.args.ready.script)))

@@ -29,8 +29,8 @@ unreachable-requires c =
     sym (ap (λ (o : Option Component). option_map_or (λ y. moves_of y.unit inlets) o false) (never-found-by id t.comps (c.in-None.ensures ∙ ap (position (λ (y : Component). y.id == id)) c.as_slice.ensures.value)))
     ∙ ap (λ (t : Tables). moves_at t id inlets) c.self.view_is ∙ c.requires.unit)
 
-pub carry-requires : goal.carry-requires
-carry-requires c =
+pub copy_frames-requires : goal.copy_frames-requires
+copy_frames-requires c =
     let t = tables_of c.self.inside in
     let id = c.args.id in
     let looked = c.args.looked.now in
@@ -58,17 +58,17 @@ invariant_of-self c =
     let x = c.index_mut.result.now in
     let place : Some c.in-Some.at ≡ position (λ (y : Component). y.id == id) t.comps = c.in-Some.ensures ∙ ap (position (λ (y : Component). y.id == id)) c.as_slice.ensures.value in
     let it : Some x ≡ find (λ (y : Component). y.id == id) t.comps = ap (λ (y : Component). Some y) c.index_mut.ensures.value ∙ taken-found id t.comps c.in-Some.at _ place in
-    let moved : IsMoved (chosen_by x.unit x.id t.joins) (output_number t.joins x.id) looked fed n t.buffers x c.carry.new.buffers.items c.carry.new.component =
-    subst (λ (js : List Join). IsMoved (chosen_by x.unit x.id js) (output_number js x.id) looked fed n t.buffers x c.carry.new.buffers.items c.carry.new.component) c.as_slice-in-Some.ensures.value c.carry.ensures.moved in
-    let comps = set t.comps c.in-Some.at c.carry.new.component in
-    let put = put-words (λ w. run_by w n) (λ w y. refl) id c.in-Some.at t.comps comps c.carry.new.component x c.self.invariant.kept.named.comps place refl (moved.component ∙ ap (run_by (kept_words c.carry.new.component) n) c.index_mut.ensures.value) in
+    let moved : IsMoved (chosen_by x.unit x.id t.joins) (output_number t.joins x.id) looked fed n t.buffers x c.copy_frames.new.buffers.items c.copy_frames.new.component =
+    subst (λ (js : List Join). IsMoved (chosen_by x.unit x.id js) (output_number js x.id) looked fed n t.buffers x c.copy_frames.new.buffers.items c.copy_frames.new.component) c.as_slice-in-Some.ensures.value c.copy_frames.ensures.moved in
+    let comps = set t.comps c.in-Some.at c.copy_frames.new.component in
+    let put = put-words (λ w. run_by w n) (λ w y. refl) id c.in-Some.at t.comps comps c.copy_frames.new.component x c.self.invariant.kept.named.comps place refl (moved.component ∙ ap (run_by (kept_words c.copy_frames.new.component) n) c.index_mut.ensures.value) in
     record {
       comps = c.self.invariant.comps;
-      buffers = subst (λ k. 128 ≤ k) (sym c.carry.ensures.capacity) c.self.invariant.buffers;
+      buffers = subst (λ k. 128 ≤ k) (sym c.copy_frames.ensures.capacity) c.self.invariant.buffers;
       pipes = c.self.invariant.pipes;
       joins = c.self.invariant.joins;
-      kept = now-kept t id x it c.self.invariant.kept looked fed n c.carry.new.component comps c.carry.new.buffers.items _ put.1 moved;
-      tallied = processed-tallied t c.self.inside.tallies c.self.invariant.tallied id n looked fed _ _ _ comps c.carry.new.buffers.items put.1 moved.table;
+      kept = now-kept t id x it c.self.invariant.kept looked fed n c.copy_frames.new.component comps c.copy_frames.new.buffers.items _ put.1 moved;
+      tallied = processed-tallied t c.self.inside.tallies c.self.invariant.tallied id n looked fed _ _ _ comps c.copy_frames.new.buffers.items put.1 moved.table;
     }
 
 pub returns-clause-tables : goal.returns-clause-tables
@@ -88,12 +88,12 @@ returns-clause-tables c =
     c.requires.single
     (subst (λ (t : Tables). AllByRecursion (IsInlet t.buffers (channels_moved t id) n) looked) (sym c.self.view_is) c.requires.looked)
     (subst (λ (t : Tables). AllByRecursion (IsOutlet t.buffers (channels_moved t id) n) fed) (sym c.self.view_is) c.requires.fed) in
-    let moved : IsMoved (chosen_by x.unit x.id t.joins) (output_number t.joins x.id) looked fed n t.buffers x c.carry.new.buffers.items c.carry.new.component =
-    subst (λ (js : List Join). IsMoved (chosen_by x.unit x.id js) (output_number js x.id) looked fed n t.buffers x c.carry.new.buffers.items c.carry.new.component) c.as_slice-in-Some.ensures.value c.carry.ensures.moved in
-    let comps = set t.comps c.in-Some.at c.carry.new.component in
-    let put = put-words (λ w. run_by w n) (λ w y. refl) id c.in-Some.at t.comps comps c.carry.new.component x c.self.invariant.kept.named.comps place refl (moved.component ∙ ap (run_by (kept_words c.carry.new.component) n) c.index_mut.ensures.value) in
-    let now : Tables = record { comps = comps; buffers = c.carry.new.buffers.items; pipes = t.pipes; joins = t.joins } in
-    now-processed t id x it c.self.invariant.kept looked fed n (all-by (IsOutlet t.buffers x.channels n) (λ b. has_id t.buffers b ≡ true) (λ b outlet. outlet.there) fed can.outlets) c.carry.new.component comps c.carry.new.buffers.items put.0 put.1 moved
+    let moved : IsMoved (chosen_by x.unit x.id t.joins) (output_number t.joins x.id) looked fed n t.buffers x c.copy_frames.new.buffers.items c.copy_frames.new.component =
+    subst (λ (js : List Join). IsMoved (chosen_by x.unit x.id js) (output_number js x.id) looked fed n t.buffers x c.copy_frames.new.buffers.items c.copy_frames.new.component) c.as_slice-in-Some.ensures.value c.copy_frames.ensures.moved in
+    let comps = set t.comps c.in-Some.at c.copy_frames.new.component in
+    let put = put-words (λ w. run_by w n) (λ w y. refl) id c.in-Some.at t.comps comps c.copy_frames.new.component x c.self.invariant.kept.named.comps place refl (moved.component ∙ ap (run_by (kept_words c.copy_frames.new.component) n) c.index_mut.ensures.value) in
+    let now : Tables = record { comps = comps; buffers = c.copy_frames.new.buffers.items; pipes = t.pipes; joins = t.joins } in
+    now-processed t id x it c.self.invariant.kept looked fed n (all-by (IsOutlet t.buffers x.channels n) (λ b. has_id t.buffers b ≡ true) (λ b outlet. outlet.there) fed can.outlets) c.copy_frames.new.component comps c.copy_frames.new.buffers.items put.0 put.1 moved
     ∙ ap (λ (t : Tables). processed id looked n fed (λ b. output_at t id b (made_at t id looked n)) (words_at now) (words_at now id) t) c.self.view_is
 
 pub returns-clause-numbers : goal.returns-clause-numbers
@@ -113,11 +113,11 @@ returns-clause-numbers c =
     c.requires.single
     (subst (λ (t : Tables). AllByRecursion (IsInlet t.buffers (channels_moved t id) n) looked) (sym c.self.view_is) c.requires.looked)
     (subst (λ (t : Tables). AllByRecursion (IsOutlet t.buffers (channels_moved t id) n) fed) (sym c.self.view_is) c.requires.fed) in
-    let moved : IsMoved (chosen_by x.unit x.id t.joins) (output_number t.joins x.id) looked fed n t.buffers x c.carry.new.buffers.items c.carry.new.component =
-    subst (λ (js : List Join). IsMoved (chosen_by x.unit x.id js) (output_number js x.id) looked fed n t.buffers x c.carry.new.buffers.items c.carry.new.component) c.as_slice-in-Some.ensures.value c.carry.ensures.moved in
-    let comps = set t.comps c.in-Some.at c.carry.new.component in
-    let put = put-words (λ w. run_by w n) (λ w y. refl) id c.in-Some.at t.comps comps c.carry.new.component x c.self.invariant.kept.named.comps place refl (moved.component ∙ ap (run_by (kept_words c.carry.new.component) n) c.index_mut.ensures.value) in
-    now-numbers t id x it c.self.invariant.kept looked fed n (all-by (IsOutlet t.buffers x.channels n) (λ b. has_id t.buffers b ≡ true) (λ b outlet. outlet.there) fed can.outlets) c.carry.new.component comps c.carry.new.buffers.items put.0 put.1 moved ∙ ap (λ (t : Tables). numbers_made_at t id looked n) c.self.view_is
+    let moved : IsMoved (chosen_by x.unit x.id t.joins) (output_number t.joins x.id) looked fed n t.buffers x c.copy_frames.new.buffers.items c.copy_frames.new.component =
+    subst (λ (js : List Join). IsMoved (chosen_by x.unit x.id js) (output_number js x.id) looked fed n t.buffers x c.copy_frames.new.buffers.items c.copy_frames.new.component) c.as_slice-in-Some.ensures.value c.copy_frames.ensures.moved in
+    let comps = set t.comps c.in-Some.at c.copy_frames.new.component in
+    let put = put-words (λ w. run_by w n) (λ w y. refl) id c.in-Some.at t.comps comps c.copy_frames.new.component x c.self.invariant.kept.named.comps place refl (moved.component ∙ ap (run_by (kept_words c.copy_frames.new.component) n) c.index_mut.ensures.value) in
+    now-numbers t id x it c.self.invariant.kept looked fed n (all-by (IsOutlet t.buffers x.channels n) (λ b. has_id t.buffers b ≡ true) (λ b outlet. outlet.there) fed can.outlets) c.copy_frames.new.component comps c.copy_frames.new.buffers.items put.0 put.1 moved ∙ ap (λ (t : Tables). numbers_made_at t id looked n) c.self.view_is
 
 pub returns-clause-staged : goal.returns-clause-staged
 returns-clause-staged c =
@@ -136,8 +136,8 @@ returns-clause-staged c =
     c.requires.single
     (subst (λ (t : Tables). AllByRecursion (IsInlet t.buffers (channels_moved t id) n) looked) (sym c.self.view_is) c.requires.looked)
     (subst (λ (t : Tables). AllByRecursion (IsOutlet t.buffers (channels_moved t id) n) fed) (sym c.self.view_is) c.requires.fed) in
-    let moved : IsMoved (chosen_by x.unit x.id t.joins) (output_number t.joins x.id) looked fed n t.buffers x c.carry.new.buffers.items c.carry.new.component =
-    subst (λ (js : List Join). IsMoved (chosen_by x.unit x.id js) (output_number js x.id) looked fed n t.buffers x c.carry.new.buffers.items c.carry.new.component) c.as_slice-in-Some.ensures.value c.carry.ensures.moved in
-    let comps = set t.comps c.in-Some.at c.carry.new.component in
-    let put = put-words (λ w. run_by w n) (λ w y. refl) id c.in-Some.at t.comps comps c.carry.new.component x c.self.invariant.kept.named.comps place refl (moved.component ∙ ap (run_by (kept_words c.carry.new.component) n) c.index_mut.ensures.value) in
-    now-staged t id x it c.self.invariant.kept looked fed n (all-by (IsOutlet t.buffers x.channels n) (λ b. has_id t.buffers b ≡ true) (λ b outlet. outlet.there) fed can.outlets) c.carry.new.component comps c.carry.new.buffers.items put.0 put.1 moved ∙ ap (λ (t : Tables). staged_in t.comps id) c.self.view_is
+    let moved : IsMoved (chosen_by x.unit x.id t.joins) (output_number t.joins x.id) looked fed n t.buffers x c.copy_frames.new.buffers.items c.copy_frames.new.component =
+    subst (λ (js : List Join). IsMoved (chosen_by x.unit x.id js) (output_number js x.id) looked fed n t.buffers x c.copy_frames.new.buffers.items c.copy_frames.new.component) c.as_slice-in-Some.ensures.value c.copy_frames.ensures.moved in
+    let comps = set t.comps c.in-Some.at c.copy_frames.new.component in
+    let put = put-words (λ w. run_by w n) (λ w y. refl) id c.in-Some.at t.comps comps c.copy_frames.new.component x c.self.invariant.kept.named.comps place refl (moved.component ∙ ap (run_by (kept_words c.copy_frames.new.component) n) c.index_mut.ensures.value) in
+    now-staged t id x it c.self.invariant.kept looked fed n (all-by (IsOutlet t.buffers x.channels n) (λ b. has_id t.buffers b ≡ true) (λ b outlet. outlet.there) fed can.outlets) c.copy_frames.new.component comps c.copy_frames.new.buffers.items put.0 put.1 moved ∙ ap (λ (t : Tables). staged_in t.comps id) c.self.view_is

@@ -37,32 +37,32 @@ pub bounds-fed-0 : goal.bounds-fed-0
 bounds-fed-0 c = omega (arith, c.requires.one.1)
 
 -- both buffers are there
-pub find_passage-way-requires-clause-inlet : goal.find_passage-way-requires-clause-inlet
-find_passage-way-requires-clause-inlet c =
+pub plan_copy-way-requires-clause-inlet : goal.plan_copy-way-requires-clause-inlet
+plan_copy-way-requires-clause-inlet c =
     let t = tables_of c.self.inside in let id = c.args.id in let looked = c.args.looked.now in
     let shaped = subst (λ (t : Tables). AllByRecursion (IsShaped t.buffers (channels_moved t id)) looked) (sym c.self.view_is) c.requires.looked in
     ap (λ (cs : List Component). has_id cs (get_or looked 0 0)) c.as_slice-buffers.ensures.value ∙ (all-at (IsShaped t.buffers (channels_moved t id)) looked 0 0 (omega (arith, c.requires.one.0)) shaped).there
 
-pub find_passage-way-requires-clause-outlet : goal.find_passage-way-requires-clause-outlet
-find_passage-way-requires-clause-outlet c =
+pub plan_copy-way-requires-clause-outlet : goal.plan_copy-way-requires-clause-outlet
+plan_copy-way-requires-clause-outlet c =
     let t = tables_of c.self.inside in let id = c.args.id in let fed = c.args.fed.now in
     let shaped = subst (λ (t : Tables). AllByRecursion (IsShaped t.buffers (channels_moved t id)) fed) (sym c.self.view_is) c.requires.fed in
     ap (λ (cs : List Component). has_id cs (get_or fed 0 0)) c.as_slice-buffers.ensures.value ∙ (all-at (IsShaped t.buffers (channels_moved t id)) fed 0 0 (omega (arith, c.requires.one.1)) shaped).there
 
-pub carry_one-requires-clause-can : goal.carry_one-requires-clause-can
-carry_one-requires-clause-can c =
+pub copy_between-requires-clause-can : goal.copy_between-requires-clause-can
+copy_between-requires-clause-can c =
     let t = tables_of c.self.inside in
     let id = c.args.id in
     let looked = c.args.looked.now in
     let fed = c.args.fed.now in
-    let way = c.find_passage-way.result in
+    let way = c.plan_copy-way.result in
     let n = way.count in
     let lent = c.as_slice-buffers.ensures.value in
     let x = c.index_mut.result.now in
     let place : Some c.in-Some.at ≡ position (λ (y : Component). y.id == id) t.comps = c.in-Some.ensures ∙ ap (position (λ (y : Component). y.id == id)) c.as_slice.ensures.value in
     let it : Some x ≡ find (λ (y : Component). y.id == id) t.comps = ap (λ (y : Component). Some y) c.index_mut.ensures.value ∙ taken-found id t.comps c.in-Some.at _ place in
-    let held : n ≤ length (buffer_frames t.buffers (get_or looked 0 0)) = subst (λ (cs : List Component). n ≤ length (buffer_frames cs (get_or looked 0 0))) lent c.find_passage-way.ensures.held in
-    let room : length (buffer_frames t.buffers (get_or fed 0 0)) + n ≤ capacity_in t.buffers (get_or fed 0 0) = subst (λ (cs : List Component). length (buffer_frames cs (get_or fed 0 0)) + n ≤ capacity_in cs (get_or fed 0 0)) lent c.find_passage-way.ensures.room in
+    let held : n ≤ length (buffer_frames t.buffers (get_or looked 0 0)) = subst (λ (cs : List Component). n ≤ length (buffer_frames cs (get_or looked 0 0))) lent c.plan_copy-way.ensures.held in
+    let room : length (buffer_frames t.buffers (get_or fed 0 0)) + n ≤ capacity_in t.buffers (get_or fed 0 0) = subst (λ (cs : List Component). length (buffer_frames cs (get_or fed 0 0)) + n ≤ capacity_in cs (get_or fed 0 0)) lent c.plan_copy-way.ensures.room in
     can-process t id x it c.self.invariant.kept looked fed n
     (ap (λ (t : Tables). moves_at t id (length looked)) c.self.view_is ∙ c.requires.unit)
     (ap (λ (t : Tables). feeds_at t id (length fed)) c.self.view_is ∙ c.requires.feeds)
@@ -70,16 +70,16 @@ carry_one-requires-clause-can c =
     (one-inlet t (channels_moved t id) n looked c.requires.one.0 (subst (λ (t : Tables). AllByRecursion (IsShaped t.buffers (channels_moved t id)) looked) (sym c.self.view_is) c.requires.looked) held)
     (one-outlet t (channels_moved t id) n fed c.requires.one.1 (subst (λ (t : Tables). AllByRecursion (IsShaped t.buffers (channels_moved t id)) fed) (sym c.self.view_is) c.requires.fed) room)
 
-pub carry_one-requires-clause-from : goal.carry_one-requires-clause-from
-carry_one-requires-clause-from c = c.find_passage-way.ensures.from ∙ ap (position (λ (y : Component). y.id == get_or c.args.looked.now 0 0)) c.as_slice-buffers.ensures.value
+pub copy_between-requires-clause-from : goal.copy_between-requires-clause-from
+copy_between-requires-clause-from c = c.plan_copy-way.ensures.from ∙ ap (position (λ (y : Component). y.id == get_or c.args.looked.now 0 0)) c.as_slice-buffers.ensures.value
 
-pub carry_one-requires-clause-to : goal.carry_one-requires-clause-to
-carry_one-requires-clause-to c = c.find_passage-way.ensures.to ∙ ap (position (λ (y : Component). y.id == get_or c.args.fed.now 0 0)) c.as_slice-buffers.ensures.value
+pub copy_between-requires-clause-to : goal.copy_between-requires-clause-to
+copy_between-requires-clause-to c = c.plan_copy-way.ensures.to ∙ ap (position (λ (y : Component). y.id == get_or c.args.fed.now 0 0)) c.as_slice-buffers.ensures.value
 
-pub carry_one-requires-clause-within : goal.carry_one-requires-clause-within
-carry_one-requires-clause-within c =
+pub copy_between-requires-clause-within : goal.copy_between-requires-clause-within
+copy_between-requires-clause-within c =
     let lent = c.as_slice-buffers.ensures.value in
-    (omega (arith, c.find_passage-way.ensures.within.0, ap length lent), omega (arith, c.find_passage-way.ensures.within.1, ap length lent))
+    (omega (arith, c.plan_copy-way.ensures.within.0, ap length lent), omega (arith, c.plan_copy-way.ensures.within.1, ap length lent))
 
 pub invariant_of-self : goal.invariant_of-self
 invariant_of-self c =
@@ -87,21 +87,21 @@ invariant_of-self c =
     let id = c.args.id in
     let looked = c.args.looked.now in
     let fed = c.args.fed.now in
-    let n = c.find_passage-way.result.count in
+    let n = c.plan_copy-way.result.count in
     let x = c.index_mut.result.now in
     let place : Some c.in-Some.at ≡ position (λ (y : Component). y.id == id) t.comps = c.in-Some.ensures ∙ ap (position (λ (y : Component). y.id == id)) c.as_slice.ensures.value in
     let it : Some x ≡ find (λ (y : Component). y.id == id) t.comps = ap (λ (y : Component). Some y) c.index_mut.ensures.value ∙ taken-found id t.comps c.in-Some.at _ place in
-    let moved : IsMoved (chosen_by x.unit x.id t.joins) (output_number t.joins x.id) looked fed n t.buffers x c.carry_one.new.buffers.items c.carry_one.new.component =
-    subst (λ (js : List Join). IsMoved (chosen_by x.unit x.id js) (output_number js x.id) looked fed n t.buffers x c.carry_one.new.buffers.items c.carry_one.new.component) c.as_slice-joins.ensures.value c.carry_one.ensures.moved in
-    let comps = set t.comps c.in-Some.at c.carry_one.new.component in
-    let put = put-words (λ w. run_by w n) (λ w y. refl) id c.in-Some.at t.comps comps c.carry_one.new.component x c.self.invariant.kept.named.comps place refl (moved.component ∙ ap (run_by (kept_words c.carry_one.new.component) n) c.index_mut.ensures.value) in
+    let moved : IsMoved (chosen_by x.unit x.id t.joins) (output_number t.joins x.id) looked fed n t.buffers x c.copy_between.new.buffers.items c.copy_between.new.component =
+    subst (λ (js : List Join). IsMoved (chosen_by x.unit x.id js) (output_number js x.id) looked fed n t.buffers x c.copy_between.new.buffers.items c.copy_between.new.component) c.as_slice-joins.ensures.value c.copy_between.ensures.moved in
+    let comps = set t.comps c.in-Some.at c.copy_between.new.component in
+    let put = put-words (λ w. run_by w n) (λ w y. refl) id c.in-Some.at t.comps comps c.copy_between.new.component x c.self.invariant.kept.named.comps place refl (moved.component ∙ ap (run_by (kept_words c.copy_between.new.component) n) c.index_mut.ensures.value) in
     record {
       comps = c.self.invariant.comps;
-      buffers = subst (λ k. 128 ≤ k) (sym c.carry_one.ensures.capacity) c.self.invariant.buffers;
+      buffers = subst (λ k. 128 ≤ k) (sym c.copy_between.ensures.capacity) c.self.invariant.buffers;
       pipes = c.self.invariant.pipes;
       joins = c.self.invariant.joins;
-      kept = now-kept t id x it c.self.invariant.kept looked fed n c.carry_one.new.component comps c.carry_one.new.buffers.items _ put.1 moved;
-      tallied = processed-tallied t c.self.inside.tallies c.self.invariant.tallied id n looked fed _ _ _ comps c.carry_one.new.buffers.items put.1 moved.table;
+      kept = now-kept t id x it c.self.invariant.kept looked fed n c.copy_between.new.component comps c.copy_between.new.buffers.items _ put.1 moved;
+      tallied = processed-tallied t c.self.inside.tallies c.self.invariant.tallied id n looked fed _ _ _ comps c.copy_between.new.buffers.items put.1 moved.table;
     }
 
 pub returns-clause-tables : goal.returns-clause-tables
@@ -113,22 +113,22 @@ returns-clause-tables c =
     let fed = c.args.fed.now in
     let a = get_or looked 0 0 in
     let b = get_or fed 0 0 in
-    let n = c.find_passage-way.result.count in
+    let n = c.plan_copy-way.result.count in
     let x = c.index_mut.result.now in
     let place : Some c.in-Some.at ≡ position (λ (y : Component). y.id == id) t.comps = c.in-Some.ensures ∙ ap (position (λ (y : Component). y.id == id)) c.as_slice.ensures.value in
     let it : Some x ≡ find (λ (y : Component). y.id == id) t.comps = ap (λ (y : Component). Some y) c.index_mut.ensures.value ∙ taken-found id t.comps c.in-Some.at _ place in
     let there = all-by (IsShaped t.buffers (channels_moved t id)) (λ b. has_id t.buffers b ≡ true) (λ b shaped. shaped.there) fed (subst (λ (t : Tables). AllByRecursion (IsShaped t.buffers (channels_moved t id)) fed) (sym c.self.view_is) c.requires.fed) in
     let count : n ≡ most_moved u looked fed c.args.most =
-    c.find_passage-way.ensures.count
+    c.plan_copy-way.ensures.count
     ∙ ap (λ (cs : List Component). min (length (buffer_frames cs a)) (min (capacity_in cs b - length (buffer_frames cs b)) c.args.most)) c.as_slice-buffers.ensures.value
     ∙ one-moved t looked fed c.args.most c.requires.one.0 c.requires.one.1
     ∙ ap (λ (t : Tables). most_moved t looked fed c.args.most) c.self.view_is in
-    let moved : IsMoved (chosen_by x.unit x.id t.joins) (output_number t.joins x.id) looked fed n t.buffers x c.carry_one.new.buffers.items c.carry_one.new.component =
-    subst (λ (js : List Join). IsMoved (chosen_by x.unit x.id js) (output_number js x.id) looked fed n t.buffers x c.carry_one.new.buffers.items c.carry_one.new.component) c.as_slice-joins.ensures.value c.carry_one.ensures.moved in
-    let comps = set t.comps c.in-Some.at c.carry_one.new.component in
-    let put = put-words (λ w. run_by w n) (λ w y. refl) id c.in-Some.at t.comps comps c.carry_one.new.component x c.self.invariant.kept.named.comps place refl (moved.component ∙ ap (run_by (kept_words c.carry_one.new.component) n) c.index_mut.ensures.value) in
-    let now : Tables = record { comps = comps; buffers = c.carry_one.new.buffers.items; pipes = t.pipes; joins = t.joins } in
-    now-processed t id x it c.self.invariant.kept looked fed n there c.carry_one.new.component comps c.carry_one.new.buffers.items put.0 put.1 moved
+    let moved : IsMoved (chosen_by x.unit x.id t.joins) (output_number t.joins x.id) looked fed n t.buffers x c.copy_between.new.buffers.items c.copy_between.new.component =
+    subst (λ (js : List Join). IsMoved (chosen_by x.unit x.id js) (output_number js x.id) looked fed n t.buffers x c.copy_between.new.buffers.items c.copy_between.new.component) c.as_slice-joins.ensures.value c.copy_between.ensures.moved in
+    let comps = set t.comps c.in-Some.at c.copy_between.new.component in
+    let put = put-words (λ w. run_by w n) (λ w y. refl) id c.in-Some.at t.comps comps c.copy_between.new.component x c.self.invariant.kept.named.comps place refl (moved.component ∙ ap (run_by (kept_words c.copy_between.new.component) n) c.index_mut.ensures.value) in
+    let now : Tables = record { comps = comps; buffers = c.copy_between.new.buffers.items; pipes = t.pipes; joins = t.joins } in
+    now-processed t id x it c.self.invariant.kept looked fed n there c.copy_between.new.component comps c.copy_between.new.buffers.items put.0 put.1 moved
     ∙ ap (λ (t : Tables). processed id looked n fed (λ b. output_at t id b (made_at t id looked n)) (words_at now) (words_at now id) t) c.self.view_is
     ∙ ap (λ n. processed id looked n fed (λ b. output_at u id b (made_at u id looked n)) (words_at now) (words_at now id) u) count
 
@@ -141,21 +141,21 @@ returns-clause-numbers c =
     let fed = c.args.fed.now in
     let a = get_or looked 0 0 in
     let b = get_or fed 0 0 in
-    let n = c.find_passage-way.result.count in
+    let n = c.plan_copy-way.result.count in
     let x = c.index_mut.result.now in
     let place : Some c.in-Some.at ≡ position (λ (y : Component). y.id == id) t.comps = c.in-Some.ensures ∙ ap (position (λ (y : Component). y.id == id)) c.as_slice.ensures.value in
     let it : Some x ≡ find (λ (y : Component). y.id == id) t.comps = ap (λ (y : Component). Some y) c.index_mut.ensures.value ∙ taken-found id t.comps c.in-Some.at _ place in
     let there = all-by (IsShaped t.buffers (channels_moved t id)) (λ b. has_id t.buffers b ≡ true) (λ b shaped. shaped.there) fed (subst (λ (t : Tables). AllByRecursion (IsShaped t.buffers (channels_moved t id)) fed) (sym c.self.view_is) c.requires.fed) in
     let count : n ≡ most_moved u looked fed c.args.most =
-    c.find_passage-way.ensures.count
+    c.plan_copy-way.ensures.count
     ∙ ap (λ (cs : List Component). min (length (buffer_frames cs a)) (min (capacity_in cs b - length (buffer_frames cs b)) c.args.most)) c.as_slice-buffers.ensures.value
     ∙ one-moved t looked fed c.args.most c.requires.one.0 c.requires.one.1
     ∙ ap (λ (t : Tables). most_moved t looked fed c.args.most) c.self.view_is in
-    let moved : IsMoved (chosen_by x.unit x.id t.joins) (output_number t.joins x.id) looked fed n t.buffers x c.carry_one.new.buffers.items c.carry_one.new.component =
-    subst (λ (js : List Join). IsMoved (chosen_by x.unit x.id js) (output_number js x.id) looked fed n t.buffers x c.carry_one.new.buffers.items c.carry_one.new.component) c.as_slice-joins.ensures.value c.carry_one.ensures.moved in
-    let comps = set t.comps c.in-Some.at c.carry_one.new.component in
-    let put = put-words (λ w. run_by w n) (λ w y. refl) id c.in-Some.at t.comps comps c.carry_one.new.component x c.self.invariant.kept.named.comps place refl (moved.component ∙ ap (run_by (kept_words c.carry_one.new.component) n) c.index_mut.ensures.value) in
-    now-numbers t id x it c.self.invariant.kept looked fed n there c.carry_one.new.component comps c.carry_one.new.buffers.items put.0 put.1 moved
+    let moved : IsMoved (chosen_by x.unit x.id t.joins) (output_number t.joins x.id) looked fed n t.buffers x c.copy_between.new.buffers.items c.copy_between.new.component =
+    subst (λ (js : List Join). IsMoved (chosen_by x.unit x.id js) (output_number js x.id) looked fed n t.buffers x c.copy_between.new.buffers.items c.copy_between.new.component) c.as_slice-joins.ensures.value c.copy_between.ensures.moved in
+    let comps = set t.comps c.in-Some.at c.copy_between.new.component in
+    let put = put-words (λ w. run_by w n) (λ w y. refl) id c.in-Some.at t.comps comps c.copy_between.new.component x c.self.invariant.kept.named.comps place refl (moved.component ∙ ap (run_by (kept_words c.copy_between.new.component) n) c.index_mut.ensures.value) in
+    now-numbers t id x it c.self.invariant.kept looked fed n there c.copy_between.new.component comps c.copy_between.new.buffers.items put.0 put.1 moved
     ∙ ap (λ (t : Tables). numbers_made_at t id looked n) c.self.view_is
     ∙ ap (numbers_made_at u id looked) count
 
@@ -165,13 +165,13 @@ returns-clause-staged c =
     let id = c.args.id in
     let looked = c.args.looked.now in
     let fed = c.args.fed.now in
-    let n = c.find_passage-way.result.count in
+    let n = c.plan_copy-way.result.count in
     let x = c.index_mut.result.now in
     let place : Some c.in-Some.at ≡ position (λ (y : Component). y.id == id) t.comps = c.in-Some.ensures ∙ ap (position (λ (y : Component). y.id == id)) c.as_slice.ensures.value in
     let it : Some x ≡ find (λ (y : Component). y.id == id) t.comps = ap (λ (y : Component). Some y) c.index_mut.ensures.value ∙ taken-found id t.comps c.in-Some.at _ place in
     let there = all-by (IsShaped t.buffers (channels_moved t id)) (λ b. has_id t.buffers b ≡ true) (λ b shaped. shaped.there) fed (subst (λ (t : Tables). AllByRecursion (IsShaped t.buffers (channels_moved t id)) fed) (sym c.self.view_is) c.requires.fed) in
-    let moved : IsMoved (chosen_by x.unit x.id t.joins) (output_number t.joins x.id) looked fed n t.buffers x c.carry_one.new.buffers.items c.carry_one.new.component =
-    subst (λ (js : List Join). IsMoved (chosen_by x.unit x.id js) (output_number js x.id) looked fed n t.buffers x c.carry_one.new.buffers.items c.carry_one.new.component) c.as_slice-joins.ensures.value c.carry_one.ensures.moved in
-    let comps = set t.comps c.in-Some.at c.carry_one.new.component in
-    let put = put-words (λ w. run_by w n) (λ w y. refl) id c.in-Some.at t.comps comps c.carry_one.new.component x c.self.invariant.kept.named.comps place refl (moved.component ∙ ap (run_by (kept_words c.carry_one.new.component) n) c.index_mut.ensures.value) in
-    now-staged t id x it c.self.invariant.kept looked fed n there c.carry_one.new.component comps c.carry_one.new.buffers.items put.0 put.1 moved ∙ ap (λ (t : Tables). staged_in t.comps id) c.self.view_is
+    let moved : IsMoved (chosen_by x.unit x.id t.joins) (output_number t.joins x.id) looked fed n t.buffers x c.copy_between.new.buffers.items c.copy_between.new.component =
+    subst (λ (js : List Join). IsMoved (chosen_by x.unit x.id js) (output_number js x.id) looked fed n t.buffers x c.copy_between.new.buffers.items c.copy_between.new.component) c.as_slice-joins.ensures.value c.copy_between.ensures.moved in
+    let comps = set t.comps c.in-Some.at c.copy_between.new.component in
+    let put = put-words (λ w. run_by w n) (λ w y. refl) id c.in-Some.at t.comps comps c.copy_between.new.component x c.self.invariant.kept.named.comps place refl (moved.component ∙ ap (run_by (kept_words c.copy_between.new.component) n) c.index_mut.ensures.value) in
+    now-staged t id x it c.self.invariant.kept looked fed n there c.copy_between.new.component comps c.copy_between.new.buffers.items put.0 put.1 moved ∙ ap (λ (t : Tables). staged_in t.comps id) c.self.view_is

@@ -7,7 +7,7 @@ use Rattle.stream_law.specs.TickMoves.{Move}
 use Rattle.mbox_link.specs.Exchange.{ticked}
 use Rattle.mbox_link.proofs.Rooms.{HasRoom-less}
 use Rattle.fw_core.specs.Held.{state_in}
-use Rattle.fw_core.specs.Device.{Chip, with_state}
+use Rattle.fw_core.specs.Device.{FirmwareView, with_state}
 use Rattle.fw_core.proofs.Calls.{ticked-on, ticked-off}
 use Rattle.fw_core.proofs.InputMoves.{tick-moves}
 use Rattle.fw_core.proofs.Ticks.{can-tick, tick-held}
@@ -43,13 +43,13 @@ returns-then-self c =
     let after : Io = record { inputs = c.tick_by.new.io; outputs = c.tick_by.new.out } in
     let moved : Move s io (state_in u f.region (next_clock f.clock)) after = c.tick_by.ensures.moved s refl in
     ticked-on _ _ s
-    (sym (ap (λ (d : Chip). d.state) c.self.view_is) ∙ ap (λ h. cond h (Some s) None) c.if-self.true)
+    (sym (ap (λ (d : FirmwareView). d.state) c.self.view_is) ∙ ap (λ h. cond h (Some s) None) c.if-self.true)
     ((λ i. record { device = record { state = cond (c.if-self.true i) (Some (moved.state i)) None; boots = f.boots; most = f.region.size; home = f.region.home }; io = moved.endpoints i })
-    ∙ ap (λ (d : Chip). record { device = with_state (Some (ticked (s, io)).0) d; io = (ticked (s, io)).1 }) c.self.view_is)
+    ∙ ap (λ (d : FirmwareView). record { device = with_state (Some (ticked (s, io)).0) d; io = (ticked (s, io)).1 }) c.self.view_is)
     c.tick_by.ensures.room
     (let kept = (c.self.invariant.on c.if-self.true).kept f.clock in tick-moves s io kept.wired kept.played)
 
 pub returns-else-self : goal.returns-else-self
 returns-else-self c =
     let f = c.self.inside in
-    ticked-off _ _ (sym (ap (λ (d : Chip). d.state) c.self.view_is) ∙ ap (λ h. cond h (Some (state_in f.registry f.region f.clock)) None) c.if-self.false) refl (λ n room. HasRoom-less c.args.out.now (n + 61440) n (omega arith) room)
+    ticked-off _ _ (sym (ap (λ (d : FirmwareView). d.state) c.self.view_is) ∙ ap (λ h. cond h (Some (state_in f.registry f.region f.clock)) None) c.if-self.false) refl (λ n room. HasRoom-less c.args.out.now (n + 61440) n (omega arith) room)

@@ -4,9 +4,9 @@ use mbox_link::Dsp;
 use sof_io::{Inputs, Outputs};
 use tplg_plan::Plan;
 
-/// The host's side of a call: the plan, the heap in bytes and the record; and the device and the endpoints beyond it.
+/// What a call of the host works on: the plan, the heap in bytes and the record; and the device and the endpoints beyond it.
 #[derive(Drop)]
-pub struct Side<'a, P: Dsp> {
+pub struct HostCall<'a, P: Dsp> {
     pub plan: &'a Plan,
     pub heap: u32,
     pub kept: &'a mut Record,

@@ -1,6 +1,6 @@
 use Rattle.std.proofs.Common.{sym, ◌∙◌, [], ◌∷◌, not, ◌&&◌}
 use Rattle.fw_schedule.proofs.Growing.{grew-still}
-use Rattle.fw_schedule.proofs.ticking.carry.Goals as goal
+use Rattle.fw_schedule.proofs.ticking.copy_component.Goals as goal
 
 pub feed-requires-clause-step : goal.feed-requires-clause-step
 feed-requires-clause-step c = (c.args.ends.now, c.requires.step)

@@ -1,6 +1,6 @@
 use Rattle.std.proofs.Common.{sym, ◌∙◌}
 use Rattle.fw_moves.specs.Processed.{chosen_by, output_number}
-use Rattle.fw_moves.proofs.moving.carry_one.Goals as goal
+use Rattle.fw_moves.proofs.moving.copy_between.Goals as goal
 
 pub amplify-requires-clause-past : goal.amplify-requires-clause-past
 amplify-requires-clause-past c = sym c.is_past.ensures ∙ c.if-is_past.true

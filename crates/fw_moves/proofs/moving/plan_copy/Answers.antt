@@ -5,7 +5,7 @@ use Rattle.fw_units.specs.declared.component.Component.{Component}
 use Rattle.fw_units.specs.Frames.{buffer_frames, capacity_in}
 use Rattle.fw_units.proofs.Standing.{frames-is, capacity-is}
 use Rattle.fw_units.proofs.Taking.{taken-found}
-use Rattle.fw_moves.proofs.moving.find_passage.Goals as goal
+use Rattle.fw_moves.proofs.moving.plan_copy.Goals as goal
 
 -- as many as one holds and the other has room for
 held-most : (held space bound count most own : ℕ) → held ≡ own → bound ≡ min space most → count ≡ min held bound → count ≤ own

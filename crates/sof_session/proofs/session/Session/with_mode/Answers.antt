@@ -1,7 +1,7 @@
 use Rattle.std.proofs.Common.{◌≡◌, IfOk, subst}
 use Rattle.host_widgets.specs.Kept.{first_record}
 use Rattle.sof_session.proofs.Agreement.{AreAgreed-new}
-use Rattle.sof_session.proofs.session.Session.begun.Goals as goal
+use Rattle.sof_session.proofs.session.Session.with_mode.Goals as goal
 
 pub invariant_of-result : goal.invariant_of-result
 invariant_of-result g c =

@@ -3,7 +3,7 @@ use Rattle.ipc3_model.specs.Messages.{message_spelling}
 use Rattle.mbox_link.specs.Calls.{world}
 use Rattle.host_widgets.specs.Sides.{world_of}
 use Rattle.host_widgets.proofs.OneMessage.{heard, went_dead}
-use Rattle.host_widgets.proofs.passing.hear.Goals as goal
+use Rattle.host_widgets.proofs.passing.transact.Goals as goal
 
 pub returns-then-is_down-clause-replied : goal.returns-then-is_down-clause-replied
 returns-then-is_down-clause-replied g c =

@@ -197,7 +197,7 @@ fn pieces_of_a_pipeline_that_is_not_complete_are_freed(rt: HostRuntime) -> Resul
     answered(&rt, rt.alloc(), 4096, &parts(), &rows)
 }
 
-// A buffer on the way of a prepared stream is in a complete pipeline, so that is told first.
+// A buffer on the way of a prepared stream is in a complete pipeline, so that error comes first.
 #[test]
 fn pieces_of_a_prepared_stream_are_held(rt: HostRuntime) -> Result<(), Fail> {
     let rows = [

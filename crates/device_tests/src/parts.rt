@@ -1,4 +1,4 @@
-// Blobs that come in parts, and are told in parts.
+// Blobs that come in parts, and are read in parts.
 ghost use Rattle.std.specs.Prelude.{◌≤◌};
 
 use crate::messages::{HOST, S32, component};

@@ -1,4 +1,4 @@
-// Steps of a test of the device, each with what it comes to, and the functions that carry them out.
+// Steps of a test of the device, each with its result, and the functions that carry them out.
 ghost use Rattle.std.specs.Prelude.{◌≤◌};
 
 use fw_core::Firmware;
@@ -31,7 +31,7 @@ pub(crate) const NO_DEVICE: [u8; 12] = [12, 0, 0, 0, 0, 0, 0, 0x10, 0xed, 0xff, 
 
 pub(crate) const INVALID: [u8; 12] = [12, 0, 0, 0, 0, 0, 0, 0x10, 0xea, 0xff, 0xff, 0xff];
 
-/// A step of a test, and what it comes to.
+/// A step of a test, and its result.
 #[derive(Drop)]
 pub(crate) enum Step {
     /// The reply to a message begins so.
@@ -123,7 +123,7 @@ pub(crate) fn answered(
     Ok(())
 }
 
-// Which of the steps comes to something else first, on a device with a heap of so many bytes that has done the messages of a
+// Which of the steps has another result first, on a device with a heap of so many bytes that has done the messages of a
 // graph.
 fn play(
     alloc: Global,
@@ -139,7 +139,7 @@ fn play(
     made_and_played(alloc, &mut firmware, graph, io, steps)
 }
 
-/// Each of the steps comes to what it says, with these inputs.
+/// Each of the steps has the result that it names, with these inputs.
 pub(crate) fn played_with(
     rt: &impl Abort,
     alloc: Global,
@@ -190,7 +190,7 @@ fn made_and_played(
     Ok(None)
 }
 
-// Whether a step comes to what it says.
+// Whether a step has the result that it names.
 fn comes_to(
     alloc: Global,
     firmware: &mut Firmware,

@@ -1,4 +1,4 @@
--- What an epoch of an equaliser comes to.
+-- The result of an epoch of an equaliser.
 use Rattle.std.specs.Prelude.{◌≡◌, ℕ, List}
 use Rattle.sof_base.specs.Samples.{Frame}
 use Rattle.stream_law.specs.Equaliser.{passed_frames, numbers_after}

@@ -1,4 +1,4 @@
-// What an epoch of an equaliser comes to. Nothing runs here.
+// The result of an epoch of an equaliser. Nothing runs here.
 ghost use Rattle.eq_biquad.specs.EpochLaws.{EpochsAreEqualised};
 
 /// The frames of an epoch, which begins with all numbers 0, leave the equaliser as its equations by index say, and the numbers

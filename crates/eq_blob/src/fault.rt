@@ -5,7 +5,7 @@ ghost use Rattle.eq_blob.specs.Faults.{said};
 
 use thiserror::Error;
 
-/// The first fault of a blob. An assignment is told by its channel, section counts by their response, and a shift by its
+/// The first fault of a blob. An assignment is named by its channel, section counts by their response, and a shift by its
 /// response and section, each from 0.
 #[derive(Clone, Copy, Debug, PartialEq, Eq, Error)]
 pub enum EqFault {

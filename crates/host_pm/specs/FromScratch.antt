@@ -33,7 +33,7 @@ start_acts (s, r) = start_by s.host r.found
 abbrev pub from_scratch : Plan → Record → List Act
 from_scratch plan kept = bring_back plan (went_down kept) ++ flat_map start_acts (zip plan.streams kept.streams)
 
--- the firmware takes the message of each act, one after another with no tick between, and comes to this state
+-- the firmware takes the message of each act, one after another with no tick between, and is in this state then
 abbrev pub TakesActs : Plan → FwState → List Act → FwState → Type 0
 TakesActs plan f [] g = g ≡ f
 TakesActs plan f (act ∷ acts) g = (next : FwState) × (row_of f (decoded (message_spelling (act_message plan act))) ≡ Ok next) × TakesActs plan next acts g

@@ -13,7 +13,7 @@ use mbox_link::{Dsp, LinkFault};
 use sof_base::Errno;
 use sof_io::{Inputs, Outputs};
 
-// What an exchange comes to.
+// The result of an exchange.
 fn judge(answer: Result<usize, LinkFault>, reply: &[u8; 384]) -> Result<Reply, HostFault>
     requires { IfOk answer (λ n. n ≤ 384) }
     ensures { result ≡ verdict (answered answer reply.now) }

@@ -59,6 +59,6 @@ pub record Checks {D P : Type 0} (means : DeskMeaning D) (lines : Topology → L
   pub told : (name bytes : List ℕ) (t : Topology) → named ≡ Some name → means.holds old name ≡ Some bytes → length bytes ≤ 1048576 → IsRight bytes t
       → WroteText means (concat (lines t)) 0 old new status
 
--- what a topology alone comes to
+-- the result for a topology alone
 abbrev pub TopologyComesTo : List ℕ → Result Topology Halt → Type 0
 TopologyComesTo bytes r = MatchResult r (IsRight bytes) (IsWrong bytes)

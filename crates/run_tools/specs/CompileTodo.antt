@@ -19,7 +19,7 @@ pub record Sourced {D : Type 0} (means : DeskMeaning D) (words : List (List ℕ)
 abbrev pub file_todo : List ℕ → List ℕ → Todo → Todo
 file_todo out bytes rest = Do (Create 0 out) (Do (Put (Slot 0) bytes) (lines_todo (wrote_line bytes ∷ []) rest))
 
--- what is to do with the topology that a source comes to, or with its fault
+-- what is to do with the topology of a source, or with its fault
 abbrev pub compiled_todo : List ℕ → Result Topology SourceFault → Todo
 compiled_todo out (Ok t) = file_todo out (spelling t) End
 compiled_todo out (Err fault) = Stop (source_line fault) (source_status fault)

@@ -53,7 +53,7 @@ Statuses:
   4  a line of SCRIPT or an entry of SOURCE is at fault
   5  a file is longer than its limit
   6  an argument is no text in UTF-8
-  7  memory was wanting
+  7  memory ran out
   8  the ticks of SCRIPT sum to more than 60000
  10  the device failed while a trace was given to it
 ";
@@ -73,7 +73,7 @@ impl Display for ShownTrouble<'_> {
     }
 }
 
-/// Tells why on standard error; where that fails too, nothing more can be told.
+/// Says why on standard error; where that fails too, nothing is said.
 pub fn tell<D: Display + Drop>(rt: &HostRuntime, why: D) {
     let _ = eprintln!(rt; "sof: {why}");
 }

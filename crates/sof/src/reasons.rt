@@ -1,4 +1,4 @@
-// Why a run came to its status, read off its files once more.
+// The reason for a run's status, read off its files once more.
 ghost use Rattle.std.specs.Prelude.{◌≤◌, length, IfOk, IfSome};
 
 use crate::ROOM;

@@ -1,4 +1,4 @@
-// What is told of a run that was carried out, read off its files once more.
+// Warnings on a run that was carried out, read off its files once more.
 use crate::reasons::{LIMIT, is_kept, loaded};
 use crate::{ROOM, tell};
 use run_words::{Form, Request, read_request};
@@ -44,7 +44,7 @@ fn tell_all(rt: &HostRuntime, warnings: &[String]) {
     }
 }
 
-// What a topology that was checked is told.
+// The warnings on a topology that was checked.
 fn tell_check(rt: &HostRuntime, topology: &str) -> Result<(), NoMemory> {
     if let Some(bytes) = loaded(rt, topology, LIMIT)? {
         tell_all(rt, &check_warnings(rt.alloc(), topology, &bytes)?);
@@ -52,7 +52,7 @@ fn tell_check(rt: &HostRuntime, topology: &str) -> Result<(), NoMemory> {
     Ok(())
 }
 
-// What a script that was played is told, whose commands were answered so.
+// The warnings on a script that was played, whose commands were answered so.
 fn tell_play(rt: &HostRuntime, form: Form<'_>, answers: &[Answered]) -> Result<(), NoMemory> {
     let Some(lines) = loaded(rt, form.script, LIMIT)? else {
         return Ok(());
@@ -74,7 +74,7 @@ fn tell_play(rt: &HostRuntime, form: Form<'_>, answers: &[Answered]) -> Result<(
     Ok(())
 }
 
-/// Tells what the run of the words leaves to be told though it was carried out.
+/// Says the warnings that the run of the words leaves, though it was carried out.
 pub fn tell_warnings(
     rt: &HostRuntime,
     words: &[String],

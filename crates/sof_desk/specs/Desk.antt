@@ -45,7 +45,7 @@ pub record DeskMeaning (D : Type 0) : Type 1 where
 abbrev pub CountRose : ℕ → ℕ → Type 0
 CountRose before after = (before < after) ⊎ (2 ^ 64 ≤ after + 1)
 
--- what a load answers, by what the name is told to give
+-- what a load answers, by what the name is stated to give
 abbrev pub Answers : Option (List ℕ) → ℕ → Heard → (rose : Type 0) → Type 0
 Answers told limit (Ok bytes) rose = (length bytes ≤ limit) × ((all : List ℕ) → told ≡ Some all → bytes ≡ all)
 Answers told limit (Err TooLong) rose = (all : List ℕ) → told ≡ Some all → limit < length all
@@ -89,7 +89,7 @@ pub record Loaded {D : Type 0} (means : DeskMeaning D) (name : List ℕ) (limit 
   pub took : Took means ToRead old new
   pub kept : Kept means old new
 
--- some bytes more, where they are told
+-- some bytes more, where they are stated
 abbrev pub with_more : Option (List ℕ) → List ℕ → Option (List ℕ)
 with_more told more = option_map (λ bytes. bytes ++ more) told
 
@@ -109,7 +109,7 @@ abbrev pub Takes : DeskAct → Bool → List ℕ → Type 0
 Takes (Put place piece) done part = Part done part piece
 Takes _ done part = part ≡ []
 
--- nothing more, where it is told
+-- nothing more, where it is stated
 abbrev pub with_nothing : Option (List ℕ) → Option (List ℕ)
 with_nothing told = option_map (λ bytes. []) told
 
@@ -153,7 +153,7 @@ pub record FrontOf (all bytes : List ℕ) : Type 0 where
   pub ends : bytes ≡ [] → all ≡ []
   pub ended : all ≡ [] → bytes ≡ []
 
--- what a read gets, by what is told to be still to be read: no more bytes than were asked for
+-- what a read gets, by what is stated to be still to be read: no more bytes than were asked for
 abbrev pub Gets : Option (List ℕ) → (size : ℕ) → (got : Option (List ℕ)) → Type 0
 Gets told size None = Unit {0}
 Gets told size (Some bytes) = (length bytes ≤ size) × ((all : List ℕ) → told ≡ Some all → FrontOf all bytes)

@@ -19,7 +19,7 @@ use sof_base::NoMemory;
 use std::alloc::Global;
 use std::marker::Model;
 
-/// A desk in memory. It holds files by name, keeps what is said, and fails the calls that it was told to fail. The calls
+/// A desk in memory. It holds files by name, keeps what is said, and fails the calls that it was made to fail. The calls
 /// of the trait `Desk` are numbered from 1, in the order that they come.
 #[derive(Drop)]
 pub struct MemDesk {

@@ -1,4 +1,4 @@
-// Which rule a topology breaks, told by the names that stand in it.
+// Which rule a topology breaks, said by the names that stand in it.
 use crate::shown::{Quoted, Shown};
 use std::fmt;
 use std::fmt::Display;
@@ -63,7 +63,7 @@ enum RouteFault<'t> {
     Missing(Shown<'t>),
 }
 
-// What is told of a rule: the item by its number and name, and what is wrong with it.
+// The sentence of a rule: the item by its number and name, and what is wrong with it.
 #[derive(Clone, Copy, Debug, Error)]
 enum Told<'t> {
     #[error("{0}")]

@@ -15,7 +15,7 @@ use stream_law::Kind;
 use thiserror::Error;
 use tplg_graph::{Plan, plan};
 
-// The arguments of a word, as they are told.
+// The arguments of a word, as a sentence names them.
 #[derive(Clone, Copy, Debug)]
 struct Usage(&'static [Argument]);
 

@@ -108,7 +108,7 @@ fn items_of(value: &Value, item: Item) -> Option<&[Value]> {
 enum KeyFault<'a> {
     #[error("unknown key '{}'", Shown(.0.as_bytes()))]
     Unknown(&'a str),
-    #[error("the key '{0}' is wanting")]
+    #[error("the key '{0}' is missing")]
     Wanting(&'static str),
     #[error("'{key}' takes {takes}")]
     Value { key: &'static str, takes: Takes },

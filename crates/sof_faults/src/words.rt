@@ -14,7 +14,7 @@ pub enum WordsFault<'a> {
     NoForm(Quoted<'a>),
     #[error("{0} stands alone")]
     NotAlone(Quoted<'a>),
-    #[error("'{form}' takes {takes}, and {given} {words} behind it", words = words_stand(*.given))]
+    #[error("'{form}' takes {takes}, and {given} {words} after it", words = words_stand(*.given))]
     Count {
         form: &'static str,
         takes: Takes,
@@ -103,7 +103,7 @@ fn asks_usage(words: &[String]) -> bool {
     }
 }
 
-// What is told where help is asked for by a word, maybe on a form.
+// What is said where help is asked for by a word, maybe on a form.
 fn help_fault(words: &[String]) -> WordsFault<'static> {
     let [word] = words else {
         return WordsFault::Help;

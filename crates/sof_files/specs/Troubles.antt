@@ -6,7 +6,7 @@ use Rattle.sof_files.specs.declared.trouble.Subject.TheVariants.{File, SomeFile,
 use Rattle.sof_files.specs.declared.trouble.Trouble.{Trouble}
 use Rattle.sof_desk.specs.Counts.{one_more}
 
--- a call was about the file of a name, which is told unless memory for it was missing
+-- a call was about the file of a name, which is kept unless memory for it ran out
 abbrev pub about_file : List ℕ → Subject → Type 0
 about_file name (File told) = string_bytes told ≡ name
 about_file name SomeFile = Unit {0}

@@ -14,7 +14,7 @@ use Rattle.sof_run.specs.Calls.{Course, Made}
 abbrev pub FilesComeTo : List ℕ → List ℕ → Result (Topology × Read) Halt → Type 0
 FilesComeTo topology script r = MatchResult r (λ run. MakeRun topology script run.0 run.1) (IsHalt topology script)
 
--- what a source comes to
+-- the result for a source
 abbrev pub SourceComesTo : List ℕ → Result Topology SourceFault → Type 0
 SourceComesTo text r = MatchResult r (IsCompiled text) (IsCompileFault text)
 

@@ -14,7 +14,7 @@ use Rattle.run_desk.specs.DeskCalls.{heard_in}
 -- fault; a topology keeps all rules, or breaks one first, with one least item; a text is the source of one topology at most, or has one
 -- fault; bytes have one list of records, up to their end or their first fault.
 
--- What the loads brought comes to these findings: topology and script make this run, or this is why they make none; a
+-- What the loads brought has these findings: topology and script make this run, or this is why they make none; a
 -- topology's bytes are the file of this one, which keeps all rules, or this is why they are none; a text is the source of this topology,
 -- which keeps all rules, or this is its fault; a trace's bytes are these records, up to their end or to this fault.
 pub record AreFindings (heard : List Heard) (found : Findings) : Type 0 where

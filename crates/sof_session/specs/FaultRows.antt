@@ -1,4 +1,4 @@
--- What a message that is refused or lost comes to while pipelines of the mix graph are unmade.
+-- The result of a message that is refused or lost while pipelines of the mix graph are unmade.
 use Rattle.std.specs.Prelude.{◌≡◌, ◌+◌, ℕ, List, [], ◌∷◌, Some, None, true, codes, ℤ, negsuc}
 use Rattle.stream_law.specs.declared.graph.Comp.{Comp}
 use Rattle.sof_base.specs.declared.format.Format.TheVariants.{S32}
@@ -54,7 +54,7 @@ first_open = record {
 abbrev pub with_fate_ahead : ℕ → Fate → Known UpState
 with_fate_ahead n fate = record { kept = first_open; queue = record { sent = 13; entries = record { number = 13 + n; fate = fate; lag = 0 } ∷ [] } }
 
--- what a command comes to there
+-- the result of a command there
 abbrev pub comes_to : ℕ → Fate → Command → Answer × Known UpState
 comes_to n fate command = let c = next (up_rules mix_plan 2784) calm (with_fate_ahead n fate) command in (c.answer, c.known)
 

@@ -69,7 +69,7 @@ first_at b = record { known = first_known b.rules; past = start }
 
 -- ---- one command
 
--- what a command comes to where the run is
+-- the result of a command where the run is
 abbrev pub came_at : {S A : Type 0} → Basis S A → Doing → Command → At S → CommandResult S A
 came_at b doing command at = next b.rules doing at.known command
 

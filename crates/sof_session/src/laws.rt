@@ -5,7 +5,7 @@ ghost use Rattle.sof_session.specs.UpLaws.{UpIsShown, FirstIsShown, RunShowsUp};
 ghost use Rattle.sof_session.specs.UpRows.{SecondStreamIsRefused, SharedPipelineStays, RefusedShowsUp, SharedShowsUp};
 
 /// The run of a sound plan is one: the same commands, doings of the device and whole inputs lead to the same legs, from the
-/// first place, and from any place whose view has edges without a cycle. Such a place is each that a run from the first comes to. It is
+/// first place, and from any place whose view has edges without a cycle. Such a place is each that a run from the first reaches. It is
 /// also one, from the first place, where pipelines are made on use.
 pub fn one_run()
     ensures from_first { law.RunIsOne }
@@ -23,7 +23,7 @@ pub fn mix_rows()
     ensures stays_shows { SharedShowsUp }
 {}
 
-/// What a message comes to that is refused, lost or dropped while pipelines of the mix graph are made or unmade.
+/// The result of a message that is refused, lost or dropped while pipelines of the mix graph are made or unmade.
 pub fn fault_rows()
     ensures refused { RefusedUnmakingCuts }
     ensures lost { LostUnmakingIsDown }

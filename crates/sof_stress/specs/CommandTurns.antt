@@ -43,7 +43,7 @@ bytes_to slot ((other, bytes) ∷ written) = (if other == slot then length bytes
 abbrev pub no_counts : Counts
 no_counts = record { messages = 0; ticks = 0; done = 0; refused = 0; bytes = 0 }
 
--- A turn more, by what it came to: a tick of a `tick` counts as one; a command is done where the answer of its last turn is Done, and
+-- A turn more, by its result: a tick of a `tick` counts as one; a command is done where the answer of its last turn is Done, and
 -- refused where it is any other; and so many bytes came out, which are those of one slot.
 abbrev pub turn_counted : ℕ → CommandTurn → Out → Counts → Counts
 turn_counted slot turn out counts = record {
@@ -54,7 +54,7 @@ turn_counted slot turn out counts = record {
   bytes = counts.bytes + bytes_to slot out.written;
 }
 
--- turns, one after another, by what each came to
+-- turns, one after another, by the result of each
 abbrev pub all_counted : ℕ → List CommandTurn → List Out → Counts → Counts
 all_counted slot (turn ∷ turns) (out ∷ outs) counts = all_counted slot turns outs (turn_counted slot turn out counts)
 all_counted slot _ _ counts = counts

@@ -10,7 +10,7 @@ use Rattle.sof_stress.specs.GraphParts.{stress_plan}
 use Rattle.sof_stress.specs.StressRun.{stress_begins, stress_turns, sent_in, stress_counts}
 
 -- The device was handed in bare and is handed back after the turns of the stress, in their order and no others; the numbers are
--- those of what each came to. The plan is sound.
+-- those of the result of each. The plan is sound.
 pub record Stresses {P : Type 0} (means : Meaning P) (seed : ℕ) (p : P) (counts : Counts) (q : P) : Type 0 where
   pub last : Life P
   pub is : device_of last ≡ q

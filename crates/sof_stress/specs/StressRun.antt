@@ -39,6 +39,6 @@ abbrev pub sent_in : {P : Type 0} → Life P → ℕ
 sent_in (Bare dsp) = 0
 sent_in (Seated seat inputs slots) = seat.link.sent
 
--- how many messages were sent, and what is counted of the turns by what each came to
+-- how many messages were sent, and what is counted of the turns by the result of each
 abbrev pub stress_counts : ℕ → ℕ → List Out → Counts
 stress_counts seed sent outs = record (all_counted (dai_slot (stream_count seed)) (stress_turns seed) outs no_counts) { messages = sent }

@@ -1,4 +1,4 @@
-// Desks that fail by plan, and what a run over one comes to.
+// Desks that fail by plan, and the result of a run over one.
 use crate::runs::run_over;
 use crate::same::same;
 use sof_desk::MemDesk;

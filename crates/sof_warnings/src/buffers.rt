@@ -108,7 +108,7 @@ fn name_of(plan: &Plan, id: u32) -> Shown<'_> {
     }
 }
 
-/// The warnings of buffers, of which each is told once.
+/// The warnings on buffers, each said once.
 #[derive(Drop)]
 pub struct Buffers<'a> {
     plan: &'a Plan,
@@ -125,7 +125,7 @@ impl<'a> Buffers<'a> {
         }
     }
 
-    // How many bytes a buffer on the way of a stream would have to hold, where it holds fewer and was not told.
+    // How many bytes a buffer on the way of a stream would have to hold, where it holds fewer and no warning on it was said.
     fn lacking(&self, way: &Ids, edge: &Edge, shape: Shape) -> Option<u64> {
         if !way.has(edge.buffer) || self.told.has(edge.buffer) {
             return None;

@@ -1,4 +1,4 @@
-//! Says in words what a run was not told by its status: a buffer that is too small for its stream, a heap that is too small for a load,
+//! Says in words what the status of a run does not: a buffer that is too small for its stream, a heap that is too small for a load,
 //! an input that is a WAV, and also a text for a topology and a limit that was passed. A desk of its own keeps how a script's commands
 //! were answered.
 #![tactic(auto)]

@@ -29,7 +29,7 @@ fn answer_of(line: &[u8]) -> Option<Answered> {
     }
 }
 
-/// A desk over another one, whose every call it is, that keeps how the commands of a script were answered where it is told to. From where
+/// A desk over another one, whose every call it is, that keeps how the commands of a script were answered where it is asked to. From where
 /// there was no memory for an answer it keeps none.
 #[derive(Drop)]
 pub struct Listener<D: Desk + Drop> {

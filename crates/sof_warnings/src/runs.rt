@@ -1,4 +1,4 @@
-// What is told of a topology that was checked, and of a script that was played.
+// The warnings on a topology that was checked, and on a script that was played.
 ghost use Rattle.std.specs.Prelude.{◌<◌, ◌^◌, length};
 
 use crate::buffers::{Buffers, Place, has_shape, least_shape, shape_of};

@@ -20,7 +20,7 @@ abbrev pub IsRuleFault : Topology → SourceFault → Type 0
 IsRuleFault t (Rule rule item) = BreaksRule t rule item
 IsRuleFault t f = ⊥
 
--- how a planner's fault is told
+-- the fault that is answered for a planner's fault
 abbrev pub rule_told : PlanFault → SourceFault
 rule_told (plan.Rule rule item) = Rule rule item
 rule_told plan.OutOfMemory = OutOfMemory

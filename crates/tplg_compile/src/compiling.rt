@@ -40,7 +40,7 @@ fn parsed(alloc: Global, text: &[u8]) -> Result<Table, SourceFault>
     }
 }
 
-// How a planner's fault is told.
+// The fault that is answered for a planner's fault.
 fn told(fault: PlanFault) -> SourceFault
     ensures { result ≡ rule_told fault }
 {

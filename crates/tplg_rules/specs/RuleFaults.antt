@@ -19,7 +19,7 @@ abbrev pub IsFaultOf : List A_rule → PlanFault → Type 0
 IsFaultOf rs (fault.Rule rule item) = BreaksOf rs rule item
 IsFaultOf rs fault.OutOfMemory = Unit {0}
 
--- where a rule is broken, it is told, or there was no memory
+-- where a rule is broken, it is named, or there was no memory
 abbrev pub Tells : {X : Type 0} → ℕ → ℕ → Result X PlanFault → Type 0
 Tells rule item (Ok x) = ⊥
 Tells rule item (Err e) = (e ≡ fault.Rule rule item) ⊎ (e ≡ fault.OutOfMemory)

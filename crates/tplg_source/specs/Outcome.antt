@@ -1,4 +1,4 @@
--- What writing the source of a topology comes to.
+-- The result of writing the source of a topology.
 use Rattle.std.specs.Prelude.{ℕ, ◌&&◌, nat_le, Bool, false, if◌then◌else◌, List, length, Option, Some, None, Result, Ok, Err}
 use Rattle.tplg_model.specs.declared.block.Topology.{Topology}
 use Rattle.tplg_plan.specs.declared.plans.Plan.{Plan}

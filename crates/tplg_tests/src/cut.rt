@@ -30,7 +30,7 @@ fn cut_fault(starts: &[usize], length: usize) -> Option<TplgFault> {
     fault
 }
 
-// Each front of a file is told as it is cut, and the whole file is a topology's.
+// Each front of a file is refused as cut, and the whole file is a topology's.
 fn each_cut_is_told(
     rt: &impl Abort,
     alloc: Global,

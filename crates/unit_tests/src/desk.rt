@@ -65,7 +65,7 @@ fn an_output_takes_what_there_is_room_for(rt: HostRuntime) {
     same(&rt, &"the file", &desk.file("out.raw"), &want);
 }
 
-// What saying a piece comes to, and what was said then.
+// The result of saying a piece, and what was said then.
 fn says(
     rt: &impl Abort,
     desk: &mut MemDesk,

@@ -71,3 +71,7 @@ pub mod OneOrder
 pub mod ChangedPlaces
 pub mod SidesKept
 pub mod NeedLaws
+pub mod GroupLists
+pub mod Wholes
+pub mod MadeSent
+pub mod GroupsMade

@@ -27,3 +27,6 @@ pub mod AnsweredOrders
 pub mod WalkRows
 pub mod Sides
 pub mod NeedLaws
+pub mod Indices
+pub mod Groups
+pub mod MadeLists

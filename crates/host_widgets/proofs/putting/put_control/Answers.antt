@@ -12,7 +12,7 @@ use Rattle.host_widgets.specs.Bringing.{Sent}
 use Rattle.host_widgets.specs.ActCarried.{ActsSent}
 use Rattle.host_widgets.proofs.Walks.{passing, failing, sent-one, handed_on}
 use Rattle.host_widgets.proofs.FirstSettings.{put-acts, put-message, blob-acts}
-use Rattle.host_widgets.proofs.bringing_up.put_control.Goals as goal
+use Rattle.host_widgets.proofs.putting.put_control.Goals as goal
 
 pub returns-in_err-send-in_default : goal.returns-in_err-send-in_default
 returns-in_err-send-in_default g c =

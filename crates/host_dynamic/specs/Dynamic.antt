@@ -94,10 +94,6 @@ plain_job plan s o = record {
   answer = o.answer;
 }
 
--- one that sends nothing and leaves this
-abbrev pub leaves_job : UpState → Job UpState DynamicAct
-leaves_job s = record { first = []; from = s; routine = Finished s []; answer = answers.Done }
-
 -- ---- load and unload
 
 -- the device is booted, and no message is sent

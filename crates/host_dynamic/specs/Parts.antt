@@ -1,7 +1,6 @@
 -- The part of a plan that is up, as a plan of its own, and what of the whole holds of it.
-use Rattle.std.specs.Prelude.{◌≡◌, ℕ, List, map, filter, length, true, false}
-use Rattle.std.specs.List.{zip, AllByRecursion}
-use Rattle.stream_law.specs.declared.graph.Graph.{Graph}
+use Rattle.std.specs.Prelude.{◌≡◌, ℕ, List, map, filter, length, true}
+use Rattle.std.specs.List.{zip}
 use Rattle.stream_law.specs.Order.{is_among}
 use Rattle.stream_law.specs.Ways.{is_echo, on_way, touch}
 use Rattle.tplg_plan.specs.declared.plans.Plan.{Plan}
@@ -10,7 +9,6 @@ use Rattle.tplg_plan.specs.Sound.{IsSound}
 use Rattle.host_widgets.specs.declared.kept.Record.{Record}
 use Rattle.host_widgets.specs.declared.kept.StreamRec.{StreamRec}
 use Rattle.host_widgets.specs.ViewOf.{record_view}
-use Rattle.host_pcm.specs.Asks.{is_closed}
 use Rattle.host_dynamic.specs.Need.{HasBrought, IsEnough}
 use Rattle.host_dynamic.specs.Up.{is_up, is_host_up, graph_of_up, up_view}
 
@@ -23,13 +21,6 @@ up_part plan up = record plan { graph = graph_of_up plan.graph up; streams = fil
 -- and its record
 abbrev pub part_record : Plan → List ℕ → Record → Record
 part_record plan up kept = record kept { streams = map (λ (p : StreamPlan × StreamRec). p.1) (filter (is_host_up plan up) (zip plan.streams kept.streams)) }
-
--- a stream that is not closed has all that it needs
-abbrev pub IsServed : Graph → List ℕ → StreamPlan × StreamRec → Type 0
-IsServed g up (s, r) = is_closed r.found ≡ false → IsEnough g s.host (is_among up)
-
-abbrev pub AreServed : Plan → Record → List ℕ → Type 0
-AreServed plan kept up = AllByRecursion (IsServed plan.graph up) (zip plan.streams kept.streams)
 
 -- ---- what holds of it
 

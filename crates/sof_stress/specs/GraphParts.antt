@@ -32,10 +32,6 @@ up_to_equaliser = plain_widget kind.Mixer (codes "MIX") [] 100 ∷ buffer (codes
 abbrev pub behind_equaliser : List SourceWidget
 behind_equaliser = buffer (codes "D1") 768 100 ∷ dai ∷ scheduler (codes "PIPEM") (codes "DAI0") 1000 100 ∷ []
 
--- a stream has five widgets, of which the first is its host
-abbrev pub host_slot : ℕ → ℕ
-host_slot i = 5 * i
-
 -- the j-th byte of a stream's input, from 0
 abbrev pub input_byte : ℕ → ℕ → ℕ
 input_byte i j = (7 * j + i) % 256

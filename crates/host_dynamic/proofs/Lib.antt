@@ -56,6 +56,7 @@ pub mod UpAgreeing
 pub mod UpOpens
 pub mod UpCloses
 pub mod NotedOnce
+pub mod Spreading
 pub mod UpPowers
 pub mod UpOrders
 pub mod UpDone

@@ -25,7 +25,7 @@ fewer-unmarked (false ∷ marks) zero low is = refl
 fewer-unmarked (true ∷ marks) (suc k) low is = fewer-unmarked marks k (omega (arith, low)) is
 fewer-unmarked (false ∷ marks) (suc k) low is = ap suc (fewer-unmarked marks k (omega (arith, low)) is)
 
-set-get : (marks : List Bool) (k x : ℕ) → get_or (set marks k true) x false ≡ true → (k ≡ x) ⊎ (get_or marks x false ≡ true)
+pub set-get : (marks : List Bool) (k x : ℕ) → get_or (set marks k true) x false ≡ true → (k ≡ x) ⊎ (get_or marks x false ≡ true)
 set-get [] k x is = inr is
 set-get (m ∷ marks) zero zero is = inl refl
 set-get (m ∷ marks) zero (suc x) is = inr is
@@ -141,7 +141,7 @@ module _ (g : Graph) (low : AllByRecursion IsLowJoin g.joins) (back : Bool) (id 
         (subst (λ (b : Bool). get_or marks (walk_to b j) false ≡ true) is (closed j there
         (subst (λ (b : Bool). get_or marks (walk_from b j) false ≡ true) (sym is) (back-marked is n j.sink rest))))
 
-    all-marked : (x : ℕ) → led_to g back id x ≡ true → get_or marks x false ≡ true
+    pub all-marked : (x : ℕ) → led_to g back id x ≡ true → get_or marks x false ≡ true
     all-marked x led = by back refl led
       where
         by : (b : Bool) → back ≡ b → led_to g b id x ≡ true → get_or marks x false ≡ true

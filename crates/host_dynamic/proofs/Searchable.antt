@@ -1,5 +1,5 @@
 -- What is so of every plan lets what a stream needs be found.
-use Rattle.std.proofs.Common.{◌≡◌, subst, ℕ, ◌<◌, List, [], ◌∷◌, map, length, true, inl, inr, ◌⊎◌, ◌==◌, ◌&&◌, Some, arith}
+use Rattle.std.proofs.Common.{◌≡◌, subst, ℕ, ◌<◌, List, [], ◌∷◌, map, length, true, inl, inr, ◌⊎◌, ◌==◌, ◌&&◌, Some, None, refl, arith}
 use Rattle.std.specs.List.{AllByRecursion, list_any}
 use Rattle.std.proofs.lemmas.Bool.{eqb-true, and_parts}
 use Rattle.stream_law.specs.declared.graph.Comp.{Comp}
@@ -14,7 +14,8 @@ use Rattle.tplg_plan.specs.declared.plans.Plan.{Plan}
 use Rattle.tplg_plan.specs.Sound.{IsSound, IsSideOf, FillsBuffer, DrainsBuffer}
 use Rattle.host_widgets.proofs.NamedIds.{few-widgets}
 use Rattle.host_widgets.proofs.ReadyWays.{has_host, host-there}
-use Rattle.host_dynamic.specs.Need.{pipe_indices}
+use Rattle.std.specs.Prelude.{Option}
+use Rattle.host_dynamic.specs.Need.{named_index, index_at, end_index, pipe_indices}
 use Rattle.host_dynamic.specs.Noting.{IsLowJoin, IsSearchable}
 use Rattle.host_dynamic.proofs.Needs.{in-map, among-in, in-among}
 
@@ -40,6 +41,32 @@ module _ (plan : Plan) (sound : IsSound plan) where
   side-low : (j : Join) → FillsBuffer g j ⊎ DrainsBuffer g j → IsLowJoin j
   side-low j (inl (c, e, from, to, is)) = (comp-low j.source c from, edge-low j.sink e to)
   side-low j (inr (e, c, from, to, is)) = (edge-low j.source e from, comp-low j.sink c to)
+
+  pub comps-low : AllByRecursion (λ (c : Comp). c.id < 288) g.comps
+  comps-low = in-each (λ (c : Comp). c.id < 288) g.comps (λ c here. omega (arith, in-all (λ (k : Comp). k.id < length plan.widgets) g.comps c sound.comps_below here, few-widgets plan sound))
+
+  pub edges-low : AllByRecursion (λ (e : Edge). e.buffer < 288) g.edges
+  edges-low = in-each (λ (e : Edge). e.buffer < 288) g.edges (λ e here. omega (arith, in-all (λ (k : Edge). k.buffer < length plan.widgets) g.edges e sound.edges_below here, few-widgets plan sound))
+
+  pub joins-low : AllByRecursion IsLowJoin g.joins
+  joins-low = in-each IsLowJoin g.joins (λ j here. side-low j (in-all (IsSideOf g) g.joins j sound.joins here).between)
+
+  -- an index is that of a pipeline
+  pub index-among : (x j : ℕ) → index_at g x ≡ Some j → is_among (pipe_indices g) j ≡ true
+  index-among x j is = by (comp_of g x) refl (edge_of g x) refl is
+    where
+      by : (c : Option Comp) → comp_of g x ≡ c → (e : Option Edge) → edge_of g x ≡ e → named_index c e ≡ Some j → is_among (pipe_indices g) j ≡ true
+      by (Some c) at e at' is =
+          let r = find-in (λ (k : Comp). k.id == x) g.comps c at in let same : c.pipe ≡ j = cc is in
+          subst (λ i. is_among (pipe_indices g) i ≡ true) same (complete-among g.pipes c.pipe (in-all (λ (c : Comp). is_complete g c.pipe ≡ true) g.comps c sound.comps_piped r.0))
+      by None at (Some e) at' is =
+          let r = find-in (λ (k : Edge). k.buffer == x) g.edges e at' in let same : e.pipe ≡ j = cc is in
+          subst (λ i. is_among (pipe_indices g) i ≡ true) same (complete-among g.pipes e.pipe (in-all (λ (e : Edge). is_complete g e.pipe ≡ true) g.edges e sound.edges_piped r.0))
+      by None at None at' is = absurd (cc is)
+
+  pub end-among : (end : Option ℕ) (j : ℕ) → end_index g end ≡ Some j → is_among (pipe_indices g) j ≡ true
+  end-among None j is = absurd (cc is)
+  end-among (Some c) j is = index-among c j is
 
   pub searchable : (host : ℕ) → has_host plan.streams host ≡ true → IsSearchable g host
   searchable host some =

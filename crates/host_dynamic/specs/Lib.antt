@@ -9,4 +9,5 @@ pub mod JoinEnds
 pub mod ListCalls
 pub mod UpDevices
 pub mod Noting
+pub mod Spreading
 pub mod UpCalls

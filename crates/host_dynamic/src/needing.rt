@@ -1,48 +1,19 @@
 // Which pipelines a stream needs: those of all that walks lead to from its host, or to it, and what these bring.
-ghost use Rattle.std.specs.Prelude.{◌≡◌, ◌↔◌, ◌==◌, ◌<◌, ◌≤◌, ◌++◌, ℕ, None, true, false, length, map, find, is_some, slice_index_or, option_copied};
+ghost use Rattle.std.specs.Prelude.{◌≡◌, ◌↔◌, ◌==◌, ◌<◌, ◌≤◌, ℕ, Bool, None, Some, ⊤, true, false, length, map, find, slice_index_or, option_copied, option_and_then};
 ghost use Rattle.std.specs.List.{list_any, AllByRecursion};
-ghost use Rattle.stream_law.specs.Ways.{is_capture as captures, is_of, edge_of as named_edge, components, buffers, splits};
+ghost use Rattle.stream_law.specs.Ways.{is_capture as captures, is_of, splits};
 ghost use Rattle.stream_law.specs.Order.{is_among};
 ghost use Rattle.tplg_plan.specs.Sound.{IsSound};
 ghost use Rattle.host_dynamic.specs.Need as need;
 ghost use Rattle.host_dynamic.specs.Noting as law;
+ghost use Rattle.host_dynamic.specs.Spreading as spreading;
 
-use crate::ids::{comp_of, edge_of, has, keep};
+use crate::ids::{comp_of, has, keep};
 use arrayvec::ArrayVec;
 use stream_law::{Comp, Edge, Graph, Join, Kind, Pipe};
 use tplg_plan::Plan;
 
 // ---- what ids name
-
-// The index of a buffer's pipeline.
-fn edge_index(graph: &Graph, id: u32) -> Option<u32>
-    ensures { result ≡ need.named_index None (named_edge graph.now id) }
-{
-    match edge_of(graph.edges.items(), id) {
-        Some(edge) => Some(edge.pipe),
-        None => None,
-    }
-}
-
-// The index of the pipeline of a component or a buffer.
-fn index_at(graph: &Graph, id: u32) -> Option<u32>
-    ensures { result ≡ need.index_at graph.now id }
-{
-    match comp_of(graph.comps.items(), id) {
-        Some(comp) => Some(comp.pipe),
-        None => edge_index(graph, id),
-    }
-}
-
-// That of the component at an end of a buffer.
-fn end_index(graph: &Graph, end: Option<u32>) -> Option<u32>
-    ensures { result ≡ need.end_index graph.now end }
-{
-    match end {
-        Some(id) => index_at(graph, id),
-        None => None,
-    }
-}
 
 // Whether an id is that of a capture stream's host.
 fn is_capture(graph: &Graph, id: u32) -> bool
@@ -100,215 +71,307 @@ fn next_join<'a>(joins: &'a [Join], marks: &[bool; 288], back: bool) -> Option<&
     joins.iter().find(|join| leads_on(join, marks, back))
 }
 
-// Marks what walks lead to from an id, or what they lead to it from where they go back.
-fn reached(graph: &Graph, id: u32, back: bool) -> [bool; 288]
-    requires joins { AllByRecursion law.IsLowJoin graph.now.joins }
-    requires id { id < 288 }
-    ensures { (x : ℕ) → slice_index_or result x false ≡ law.led_to graph.now back id x }
+// Marks along a join.
+fn pass_join(join: &Join, marks: &mut [bool; 288], back: bool)
+    requires size { length marks.old ≡ 288 }
+    requires join { law.IsLowJoin join.now }
+    ensures { marks.new ≡ spreading.passed back join.now marks.old }
 {
-    let mut marks = [false; 288];
-    marks[id as usize] = true;
-    while let Some(join) = next_join(graph.joins.items(), &marks, back) {
+    if leads_on(join, marks, back) {
         marks[far(join, back) as usize] = true;
     }
-    marks
 }
 
-// ---- what is brought
+// Marks along all joins, in one pass.
+fn pass(graph: &Graph, marks: &mut [bool; 288], back: bool)
+    requires size { length marks.old ≡ 288 }
+    requires joins { AllByRecursion law.IsLowJoin graph.now.joins }
+    ensures size { length marks.new ≡ 288 }
+    ensures kept { spreading.AreKept marks.old marks.new }
+    ensures sound { (p : ℕ → Bool) → spreading.AllAllowed graph.now back p marks.old → spreading.AllAllowed graph.now back p marks.new }
+{
+    for join in graph.joins.items() {
+        pass_join(join, marks, back);
+    }
+}
 
-// The index, where it is not noted.
-fn lacking(needed: &[u32], index: Option<u32>) -> Option<u32>
-    ensures { result ≡ law.lacking_at needed.now index }
+// Marks all that walks lead to from what is marked, or all that they lead to it from where they go back.
+fn walk(graph: &Graph, marks: &mut [bool; 288], back: bool)
+    requires size { length marks.old ≡ 288 }
+    requires joins { AllByRecursion law.IsLowJoin graph.now.joins }
+    ensures size { length marks.new ≡ 288 }
+    ensures kept { spreading.AreKept marks.old marks.new }
+    ensures sound { (p : ℕ → Bool) → spreading.AllAllowed graph.now back p marks.old → spreading.AllAllowed graph.now back p marks.new }
+    ensures closed { find (law.is_unwalked marks.new back) graph.now.joins ≡ None }
+{
+    pass(graph, marks, back);
+    while let Some(join) = next_join(graph.joins.items(), marks, back) {
+        marks[far(join, back) as usize] = true;
+        pass(graph, marks, back);
+    }
+}
+
+// ---- the indices of ids
+
+// An id has an index, unless it has one.
+fn put_index(table: &mut [Option<u32>; 288], id: u32, index: u32)
+    requires size { length table.old ≡ 288 }
+    requires id { id < 288 }
+    ensures { table.new ≡ spreading.put_index id index table.old }
+{
+    if table[id as usize].is_none() {
+        table[id as usize] = Some(index);
+    }
+}
+
+// The index of each component and buffer, by its id.
+fn index_table(graph: &Graph) -> [Option<u32>; 288]
+    requires comps { AllByRecursion (λ c. c.id < 288) graph.now.comps }
+    requires edges { AllByRecursion (λ e. e.buffer < 288) graph.now.edges }
+    ensures { spreading.IsTable graph.now result }
+{
+    let mut table = [None; 288];
+    for comp in graph.comps.items() {
+        put_index(&mut table, comp.id, comp.pipe);
+    }
+    for edge in graph.edges.items() {
+        put_index(&mut table, edge.buffer, edge.pipe);
+    }
+    table
+}
+
+fn at(table: &[Option<u32>; 288], id: u32) -> Option<u32>
+    ensures { result ≡ slice_index_or table.now id None }
+{
+    match table.get(id as usize) {
+        Some(index) => *index,
+        None => None,
+    }
+}
+
+fn at_end(table: &[Option<u32>; 288], end: Option<u32>) -> Option<u32>
+    ensures { result ≡ option_and_then (λ id. slice_index_or table.now id None) end }
+{
+    match end {
+        Some(id) => at(table, id),
+        None => None,
+    }
+}
+
+// ---- what is noted
+
+// Notes an index, where there is one and it is not noted.
+fn note_at(needed: &mut ArrayVec<u32, 32>, index: Option<u32>)
+    requires { (i : ℕ) → index ≡ Some i → is_among needed.old.items i ≡ false → length needed.old.items < 32 }
+    ensures { needed.new.items ≡ spreading.with_at index needed.old.items }
 {
     match index {
-        Some(i) => { if has(needed, i) { None } else { Some(i) } }
-        None => None,
+        Some(i) => {
+            if !has(needed.as_slice(), i) {
+                needed.push(i);
+            }
+        }
+        None => {}
     }
 }
 
-// A pipeline brings that of the component that schedules it.
-fn pipe_brings(graph: &Graph, needed: &[u32], pipe: &Pipe) -> Option<u32>
-    ensures { result ≡ law.pipe_brings graph.now needed.now pipe.now }
-{
-    if has(needed, pipe.index) {
-        lacking(needed, index_at(graph, pipe.sched))
-    } else {
-        None
-    }
-}
-
-// A buffer brings those of its source and its sink.
-fn edge_brings(graph: &Graph, needed: &[u32], edge: &Edge) -> Option<u32>
-    ensures { result ≡ law.edge_brings graph.now needed.now edge.now }
-{
-    if !has(needed, edge.pipe) {
-        return None;
-    }
-    match lacking(needed, end_index(graph, edge.source)) {
-        Some(index) => Some(index),
-        None => lacking(needed, end_index(graph, edge.sink)),
-    }
-}
-
-// What is marked brings its index.
-fn mark_brings(graph: &Graph, needed: &[u32], marks: &[bool; 288], id: u32) -> Option<u32>
-    ensures { result ≡ law.mark_brings graph.now needed.now (λ x. slice_index_or marks.now x false) id }
+// The index of what is marked is noted.
+fn note_mark(
+    plan: &Plan,
+    table: &[Option<u32>; 288],
+    marks: &[bool; 288],
+    id: u32,
+    needed: &mut ArrayVec<u32, 32>,
+)
+    requires plan { IsSound plan.now }
+    requires table { spreading.IsTable plan.now.graph table.now }
+    requires once { spreading.AreOnceNoted plan.now.graph needed.old.items }
+    ensures { needed.new.items ≡ spreading.mark_noted plan.now.graph marks.now id needed.old.items }
 {
     if is_marked(marks, id) {
-        lacking(needed, index_at(graph, id))
-    } else {
-        None
+        let index = at(table, id);
+        note_at(needed, index);
     }
 }
 
-// The first component that is marked and brings one.
-fn marked_comp<'a>(graph: &'a Graph, needed: &[u32], marks: &[bool; 288]) -> Option<&'a Comp>
-    ensures { option_copied result ≡ find (λ c. is_some (law.mark_brings graph.now needed.now (λ x. slice_index_or marks.now x false) c.id)) graph.now.comps }
+// The indices of all that is marked are noted.
+fn note_marked(
+    plan: &Plan,
+    table: &[Option<u32>; 288],
+    marks: &[bool; 288],
+    needed: &mut ArrayVec<u32, 32>,
+)
+    requires plan { IsSound plan.now }
+    requires table { spreading.IsTable plan.now.graph table.now }
+    requires once { spreading.AreOnceNoted plan.now.graph needed.old.items }
+    requires size { length marks.now ≡ 288 }
+    ensures more { spreading.NotesMore plan.now.graph (λ p. (x : ℕ) → slice_index_or marks.now x false ≡ true → need.HasAt p (need.index_at plan.now.graph x)) needed.old.items needed.new.items }
+    ensures marked { (x : ℕ) → slice_index_or marks.now x false ≡ true → need.HasAt (is_among needed.new.items) (need.index_at plan.now.graph x) }
 {
-    graph.comps.items().iter().find(|comp| mark_brings(graph, needed, marks, comp.id).is_some())
-}
-
-// The first buffer that is.
-fn marked_edge<'a>(graph: &'a Graph, needed: &[u32], marks: &[bool; 288]) -> Option<&'a Edge>
-    ensures { option_copied result ≡ find (λ e. is_some (law.mark_brings graph.now needed.now (λ x. slice_index_or marks.now x false) e.buffer)) graph.now.edges }
-{
-    graph.edges.items().iter().find(|edge| mark_brings(graph, needed, marks, edge.buffer).is_some())
-}
-
-fn brought_by_marked_comps(graph: &Graph, needed: &[u32], marks: &[bool; 288]) -> Option<u32>
-    ensures { result ≡ law.first_brought (λ c. law.mark_brings graph.now needed.now (λ x. slice_index_or marks.now x false) c.id) graph.now.comps }
-{
-    match marked_comp(graph, needed, marks) {
-        Some(comp) => mark_brings(graph, needed, marks, comp.id),
-        None => None,
+    for id in 0..288u32 {
+        note_mark(plan, table, marks, id, needed);
     }
 }
 
-fn brought_by_marked_edges(graph: &Graph, needed: &[u32], marks: &[bool; 288]) -> Option<u32>
-    ensures { result ≡ law.first_brought (λ e. law.mark_brings graph.now needed.now (λ x. slice_index_or marks.now x false) e.buffer) graph.now.edges }
+// A pipeline that is noted brings that of the component that schedules it.
+fn note_scheduler(
+    plan: &Plan,
+    table: &[Option<u32>; 288],
+    pipe: &Pipe,
+    needed: &mut ArrayVec<u32, 32>,
+)
+    requires plan { IsSound plan.now }
+    requires table { spreading.IsTable plan.now.graph table.now }
+    requires once { spreading.AreOnceNoted plan.now.graph needed.old.items }
+    ensures { needed.new.items ≡ spreading.scheduler_noted plan.now.graph pipe.now needed.old.items }
 {
-    match marked_edge(graph, needed, marks) {
-        Some(edge) => mark_brings(graph, needed, marks, edge.buffer),
-        None => None,
+    if has(needed.as_slice(), pipe.index) {
+        let index = at(table, pipe.sched);
+        note_at(needed, index);
     }
 }
 
-// The first id that is marked and brings one.
-fn marks_bring(graph: &Graph, needed: &[u32], marks: &[bool; 288]) -> Option<u32>
-    ensures { result ≡ law.first_brought (law.mark_brings graph.now needed.now (λ x. slice_index_or marks.now x false)) (components graph.now ++ buffers graph.now) }
+// So does each.
+fn note_schedulers(plan: &Plan, table: &[Option<u32>; 288], needed: &mut ArrayVec<u32, 32>)
+    requires plan { IsSound plan.now }
+    requires table { spreading.IsTable plan.now.graph table.now }
+    requires once { spreading.AreOnceNoted plan.now.graph needed.old.items }
+    ensures more { spreading.NotesMore plan.now.graph (λ p. ⊤) needed.old.items needed.new.items }
+    ensures brought { AllByRecursion (spreading.BringsScheduler plan.now.graph needed.old.items needed.new.items) plan.now.graph.pipes }
 {
-    match brought_by_marked_comps(graph, needed, marks) {
-        Some(index) => Some(index),
-        None => brought_by_marked_edges(graph, needed, marks),
+    for pipe in plan.graph.pipes.items() {
+        note_scheduler(plan, table, pipe, needed);
     }
 }
 
-// What all that a component reaches brings, and then all that it is reached from.
-fn joined_brings(graph: &Graph, needed: &[u32], id: u32) -> Option<u32>
-    requires id { id < 288 }
-    requires joins { AllByRecursion law.IsLowJoin graph.now.joins }
-    ensures { result ≡ law.joined_brings graph.now needed.now id }
+// A buffer of one brings those of its source and its sink.
+fn note_source(plan: &Plan, table: &[Option<u32>; 288], edge: &Edge, needed: &mut ArrayVec<u32, 32>)
+    requires plan { IsSound plan.now }
+    requires table { spreading.IsTable plan.now.graph table.now }
+    requires once { spreading.AreOnceNoted plan.now.graph needed.old.items }
+    ensures { needed.new.items ≡ spreading.end_noted plan.now.graph edge.now.pipe edge.now.source needed.old.items }
 {
-    match marks_bring(graph, needed, &reached(graph, id, false)) {
-        Some(index) => Some(index),
-        None => marks_bring(graph, needed, &reached(graph, id, true)),
+    if has(needed.as_slice(), edge.pipe) {
+        let index = at_end(table, edge.source);
+        note_at(needed, index);
     }
 }
 
-// A component that splits brings those of all that it reaches or is reached from.
-fn comp_brings(graph: &Graph, needed: &[u32], comp: &Comp) -> Option<u32>
+fn note_sink(plan: &Plan, table: &[Option<u32>; 288], edge: &Edge, needed: &mut ArrayVec<u32, 32>)
+    requires plan { IsSound plan.now }
+    requires table { spreading.IsTable plan.now.graph table.now }
+    requires once { spreading.AreOnceNoted plan.now.graph needed.old.items }
+    ensures { needed.new.items ≡ spreading.end_noted plan.now.graph edge.now.pipe edge.now.sink needed.old.items }
+{
+    if has(needed.as_slice(), edge.pipe) {
+        let index = at_end(table, edge.sink);
+        note_at(needed, index);
+    }
+}
+
+// So does each.
+fn note_ends(plan: &Plan, table: &[Option<u32>; 288], needed: &mut ArrayVec<u32, 32>)
+    requires plan { IsSound plan.now }
+    requires table { spreading.IsTable plan.now.graph table.now }
+    requires once { spreading.AreOnceNoted plan.now.graph needed.old.items }
+    ensures more { spreading.NotesMore plan.now.graph (λ p. ⊤) needed.old.items needed.new.items }
+    ensures brought { AllByRecursion (spreading.BringsEnds plan.now.graph needed.old.items needed.new.items) plan.now.graph.edges }
+{
+    for edge in plan.graph.edges.items() {
+        note_source(plan, table, edge, needed);
+        note_sink(plan, table, edge, needed);
+    }
+}
+
+// A component that splits is where walks begin, where its index is noted.
+fn mark_split(comp: &Comp, needed: &[u32], marks: &mut [bool; 288])
+    requires size { length marks.old ≡ 288 }
     requires id { comp.now.id < 288 }
-    requires joins { AllByRecursion law.IsLowJoin graph.now.joins }
-    ensures { result ≡ law.comp_brings graph.now needed.now comp.now }
+    ensures { marks.new ≡ spreading.split_marked needed.now comp.now marks.old }
 {
     if splits(comp) && has(needed, comp.pipe) {
-        joined_brings(graph, needed, comp.id)
-    } else {
-        None
+        marks[comp.id as usize] = true;
     }
 }
 
-// The first pipeline that brings one, and the first buffer.
-fn bringing_pipe<'a>(graph: &'a Graph, needed: &[u32]) -> Option<&'a Pipe>
-    ensures { option_copied result ≡ find (λ p. is_some (law.pipe_brings graph.now needed.now p)) graph.now.pipes }
-{
-    graph
-        .pipes
-        .items()
-        .iter()
-        .find(|pipe| pipe_brings(graph, needed, *pipe).is_some())
-}
-
-fn bringing_edge<'a>(graph: &'a Graph, needed: &[u32]) -> Option<&'a Edge>
-    ensures { option_copied result ≡ find (λ e. is_some (law.edge_brings graph.now needed.now e)) graph.now.edges }
-{
-    graph
-        .edges
-        .items()
-        .iter()
-        .find(|edge| edge_brings(graph, needed, *edge).is_some())
-}
-
-fn brought_by_pipes(graph: &Graph, needed: &[u32]) -> Option<u32>
-    ensures { result ≡ law.first_brought (law.pipe_brings graph.now needed.now) graph.now.pipes }
-{
-    match bringing_pipe(graph, needed) {
-        Some(pipe) => pipe_brings(graph, needed, pipe),
-        None => None,
-    }
-}
-
-fn brought_by_edges(graph: &Graph, needed: &[u32]) -> Option<u32>
-    ensures { result ≡ law.first_brought (law.edge_brings graph.now needed.now) graph.now.edges }
-{
-    match bringing_edge(graph, needed) {
-        Some(edge) => edge_brings(graph, needed, edge),
-        None => None,
-    }
-}
-
-fn brought_by_comps(graph: &Graph, needed: &[u32]) -> Option<u32>
+// So is each.
+fn mark_splits(graph: &Graph, needed: &[u32], marks: &mut [bool; 288])
+    requires size { length marks.old ≡ 288 }
     requires comps { AllByRecursion (λ c. c.id < 288) graph.now.comps }
-    requires joins { AllByRecursion law.IsLowJoin graph.now.joins }
-    ensures { result ≡ law.first_brought (law.comp_brings graph.now needed.now) graph.now.comps }
+    ensures size { length marks.new ≡ 288 }
+    ensures kept { spreading.AreKept marks.old marks.new }
+    ensures marked { AllByRecursion (spreading.IsSplitMarked needed.now marks.new) graph.now.comps }
+    ensures sound { (back : Bool) (p : ℕ → Bool) → need.HasBrought graph.now p → spreading.HasAll p needed.now → spreading.AllAllowed graph.now back p marks.old → spreading.AllAllowed graph.now back p marks.new }
 {
     for comp in graph.comps.items() {
-        let index = comp_brings(graph, needed, comp);
-        if index.is_some() {
-            return index;
-        }
-    }
-    None
-}
-
-// An index that these bring, and that is not among them.
-fn brought(graph: &Graph, needed: &[u32]) -> Option<u32>
-    requires comps { AllByRecursion (λ c. c.id < 288) graph.now.comps }
-    requires joins { AllByRecursion law.IsLowJoin graph.now.joins }
-    ensures { result ≡ law.next_brought graph.now needed.now }
-{
-    if let Some(index) = brought_by_pipes(graph, needed) {
-        return Some(index);
-    }
-    match brought_by_edges(graph, needed) {
-        Some(index) => Some(index),
-        None => brought_by_comps(graph, needed),
+        mark_split(comp, needed, marks);
     }
 }
 
-// ---- all that a stream needs
-
-// The indices of all that walks lead to from a host, or to it where its stream captures.
-fn needed_by_walks(plan: &Plan, host: u32) -> ArrayVec<u32, 32>
+// All that is marked is walked from, and what that brings is noted.
+fn spread(
+    plan: &Plan,
+    table: &[Option<u32>; 288],
+    onward: &mut [bool; 288],
+    back: &mut [bool; 288],
+    needed: &mut ArrayVec<u32, 32>,
+)
     requires plan { IsSound plan.now }
-    requires host { law.IsSearchable plan.now.graph host }
-    ensures needed { law.AreNeeded plan.now.graph host result.items }
-    ensures walks { (x : ℕ) → law.led_to plan.now.graph (is_of plan.now.graph captures host) host x ≡ true → need.HasAt (is_among result.items) (need.index_at plan.now.graph x) }
+    requires table { spreading.IsTable plan.now.graph table.now }
+    requires once { spreading.AreOnceNoted plan.now.graph needed.old.items }
+    requires onward { length onward.old ≡ 288 }
+    requires back { length back.old ≡ 288 }
+    ensures onward { length onward.new ≡ 288 }
+    ensures back { length back.new ≡ 288 }
+    ensures once { spreading.AreOnceNoted plan.now.graph needed.new.items }
+    ensures step { spreading.Round plan.now.graph onward.old back.old needed.old.items onward.new back.new needed.new.items }
 {
-    let marks = reached(&plan.graph, host, is_capture(&plan.graph, host));
+    mark_splits(&plan.graph, needed.as_slice(), onward);
+    mark_splits(&plan.graph, needed.as_slice(), back);
+    walk(&plan.graph, onward, false);
+    walk(&plan.graph, back, true);
+    note_marked(plan, table, onward, needed);
+    note_marked(plan, table, back, needed);
+    note_ends(plan, table, needed);
+    note_schedulers(plan, table, needed);
+}
+
+// ---- all that streams need
+
+// Marks where the walks of a host's stream begin.
+pub fn mark_host(graph: &Graph, host: u32, onward: &mut [bool; 288], back: &mut [bool; 288])
+    requires host { host < 288 }
+    requires onward { length onward.old ≡ 288 }
+    requires back { length back.old ≡ 288 }
+    ensures onward { onward.new ≡ spreading.host_onward graph.now host onward.old }
+    ensures back { back.new ≡ spreading.host_back graph.now host back.old }
+{
+    if is_capture(graph, host) {
+        back[host as usize] = true;
+    } else {
+        onward[host as usize] = true;
+    }
+}
+
+// The indices of all that walks from these marks lead to, and of all that these bring, each once.
+pub fn needed_from(
+    plan: &Plan,
+    onward: &mut [bool; 288],
+    back: &mut [bool; 288],
+) -> ArrayVec<u32, 32>
+    requires plan { IsSound plan.now }
+    requires onward { length onward.old ≡ 288 }
+    requires back { length back.old ≡ 288 }
+    ensures least { (p : ℕ → Bool) → spreading.Holds plan.now.graph onward.old back.old p → spreading.HasAll p result.items }
+    ensures enough { spreading.Holds plan.now.graph onward.old back.old (is_among result.items) }
+{
+    let table = index_table(&plan.graph);
     let mut needed: ArrayVec<u32, 32> = ArrayVec::new();
-    while let Some(index) = marks_bring(&plan.graph, needed.as_slice(), &marks) {
-        needed.push(index);
+    let mut more = true;
+    while more {
+        let before = needed.len();
+        spread(plan, &table, onward, back, &mut needed);
+        more = before < needed.len();
     }
     needed
 }
@@ -334,10 +397,10 @@ pub fn need_of(plan: &Plan, host: u32) -> ArrayVec<u32, 32>
     ensures need { result.items ≡ need.need_in plan.now.graph host }
     ensures least { (i : ℕ) → (is_among result.items i ≡ true) ↔ need.IsNeeded plan.now.graph host i }
 {
-    let mut needed = needed_by_walks(plan, host);
-    while let Some(index) = brought(&plan.graph, needed.as_slice()) {
-        needed.push(index);
-    }
+    let mut onward = [false; 288];
+    let mut back = [false; 288];
+    mark_host(&plan.graph, host, &mut onward, &mut back);
+    let needed = needed_from(plan, &mut onward, &mut back);
     let mut list = all_indices(plan.graph.pipes.items());
     keep(&mut list, needed.as_slice());
     list

@@ -1,6 +1,6 @@
 // Streams are opened and closed: what one needs is made when it is opened, and what no stream needs any more is unmade when one is closed.
-ghost use Rattle.std.specs.Prelude.{◌≡◌, ◌==◌, ◌*◌, ◌+◌, ◌<◌, ◌≤◌, ◌++◌, ℕ, length, filter, not, is_some, true, false, unwrap_or, Err};
-ghost use Rattle.std.specs.List.{list_any, AllByRecursion, IsDistinct};
+ghost use Rattle.std.specs.Prelude.{◌≡◌, ◌==◌, ◌*◌, ◌+◌, ◌<◌, ◌≤◌, ◌++◌, ℕ, length, filter, not, is_some, true, unwrap_or, Err};
+ghost use Rattle.std.specs.List.{list_any};
 ghost use Rattle.sof_base.specs.Ports.{HasRoom};
 ghost use Rattle.stream_law.specs.Order.{is_among};
 ghost use Rattle.mbox_link.specs.Calls.{Did, Cut, world};
@@ -15,8 +15,7 @@ ghost use Rattle.host_pcm.specs.StreamCalls.{host_at};
 ghost use Rattle.host_dynamic.specs.Dynamic as law;
 ghost use Rattle.host_dynamic.specs.Dynamic.{up_act_rules, opening_job, closing_job};
 ghost use Rattle.host_dynamic.specs.DynamicActs.{widgets_of};
-ghost use Rattle.host_dynamic.specs.Need.{pipe_indices};
-ghost use Rattle.host_dynamic.specs.Noting as noting;
+ghost use Rattle.host_dynamic.specs.Spreading as spreading;
 ghost use Rattle.host_dynamic.specs.There.{shown_ids};
 ghost use Rattle.host_dynamic.specs.UpCalls.{AfterMaking, MadeOrCut, MadeWhereOn, Unmade, UnmadeWhereOn};
 ghost use Rattle.host_dynamic.specs.UpDevices.{UpAgrees, up_state_in};
@@ -25,7 +24,7 @@ ghost use Rattle.host_dynamic.specs.UpStates.{IsUpState};
 use crate::ids::{has, keep, list_ids, lose};
 use crate::lists::{make, unmake};
 use crate::making::{all_widgets, widget_index};
-use crate::needing::need_of;
+use crate::needing::{mark_host, need_of, needed_from};
 use arrayvec::ArrayVec;
 use host_pcm::{Ask, close_at, open_at, tested};
 use host_widgets::{Found, HostCall, HostFault, Power, Record, StreamRec, link_down};
@@ -47,16 +46,6 @@ fn lacking(plan: &Plan, up: &[u32], host: u32) -> ArrayVec<u32, 32>
     indices
 }
 
-// Notes an index, unless it is noted.
-fn note(indices: &mut ArrayVec<u32, 32>, index: u32)
-    requires { is_among indices.old.items index ≡ false → length indices.old.items < 32 }
-    ensures { indices.new.items ≡ noting.with_index index indices.old.items }
-{
-    if !has(indices.as_slice(), index) {
-        indices.push(index);
-    }
-}
-
 // Whether a stream that stands so is closed.
 fn is_closed(found: Found) -> bool
     ensures { result ≡ is_closed found }
@@ -67,22 +56,22 @@ fn is_closed(found: Found) -> bool
     }
 }
 
-// Notes what a stream needs, unless it is closed.
-fn note_need(plan: &Plan, stream: &StreamPlan, kept: StreamRec, indices: &mut ArrayVec<u32, 32>)
-    requires plan { IsSound plan.now }
-    requires host { list_any (λ s. s.host == stream.now.host) plan.now.streams ≡ true }
-    requires distinct { IsDistinct (λ m n. m == n) indices.old.items }
-    requires indices { AllByRecursion (λ i. is_among (pipe_indices plan.now.graph) i ≡ true) indices.old.items }
-    ensures noted { indices.new.items ≡ noting.with_indices (law.need_of_stream plan.now (stream.now, kept)) indices.old.items }
-    ensures distinct { IsDistinct (λ m n. m == n) indices.new.items }
-    ensures indices { AllByRecursion (λ i. is_among (pipe_indices plan.now.graph) i ≡ true) indices.new.items }
+// Marks where a stream's walks begin, unless it is closed.
+fn mark_stream(
+    plan: &Plan,
+    stream: &StreamPlan,
+    kept: StreamRec,
+    onward: &mut [bool; 288],
+    back: &mut [bool; 288],
+)
+    requires host { stream.now.host < 288 }
+    requires onward { length onward.old ≡ 288 }
+    requires back { length back.old ≡ 288 }
+    ensures onward { onward.new ≡ spreading.stream_onward plan.now.graph (stream.now, kept) onward.old }
+    ensures back { back.new ≡ spreading.stream_back plan.now.graph (stream.now, kept) back.old }
 {
-    if is_closed(kept.found) {
-        return;
-    }
-    let need = need_of(plan, stream.host);
-    for index in need.as_slice() {
-        note(indices, *index);
+    if !is_closed(kept.found) {
+        mark_host(&plan.graph, stream.host, onward, back);
     }
 }
 
@@ -92,13 +81,20 @@ fn needed(plan: &Plan, kept: &Record) -> ArrayVec<u32, 32>
     requires streams { length kept.now.streams ≡ length plan.now.streams }
     ensures { (i : ℕ) → is_among result.items i ≡ is_among (law.needed plan.now kept.now) i }
 {
-    let mut indices: ArrayVec<u32, 32> = ArrayVec::new();
+    let mut onward = [false; 288];
+    let mut back = [false; 288];
     let count = plan.streams.items().len();
     for place in 0..count {
         let stream = &plan.streams.items()[place];
-        note_need(plan, stream, kept.streams.items()[place], &mut indices);
+        mark_stream(
+            plan,
+            stream,
+            kept.streams.items()[place],
+            &mut onward,
+            &mut back,
+        );
     }
-    indices
+    needed_from(plan, &mut onward, &mut back)
 }
 
 // The ids of the widgets of these indices.

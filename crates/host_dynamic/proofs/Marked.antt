@@ -6,9 +6,9 @@ use Rattle.std.proofs.lemmas.Bool.{true≢false, false≢true, and_parts, and_fr
 use Rattle.stream_law.specs.declared.graph.Join.{Join}
 use Rattle.stream_law.specs.declared.graph.Graph.{Graph}
 use Rattle.stream_law.proofs.Members.{IsIn, in-all, find-in}
-use Rattle.stream_law.proofs.Walking.{Path, walk-on}
+use Rattle.stream_law.proofs.Walking.{Path}
 use Rattle.host_dynamic.specs.Noting.{IsLowJoin, walk_from, walk_to, is_unwalked, led_to}
-use Rattle.host_dynamic.proofs.Between.{same-bools, reach-walk, walk-reach}
+use Rattle.host_dynamic.proofs.Between.{reach-walk}
 
 -- ---- marks
 
@@ -48,7 +48,7 @@ set-there [] k low = absurd (omega (arith, low))
 set-there (m ∷ marks) zero low = refl
 set-there (m ∷ marks) (suc k) low = set-there marks k (omega (arith, low))
 
-unmarked-at : (n x : ℕ) → get_or (replicate n false) x false ≡ true → ⊥
+pub unmarked-at : (n x : ℕ) → get_or (replicate n false) x false ≡ true → ⊥
 unmarked-at zero x is = false≢true is
 unmarked-at (suc n) zero is = false≢true is
 unmarked-at (suc n) (suc x) is = unmarked-at n x is
@@ -56,32 +56,6 @@ unmarked-at (suc n) (suc x) is = unmarked-at n x is
 -- ---- walks
 
 module _ (g : Graph) (low : AllByRecursion IsLowJoin g.joins) (back : Bool) (id : ℕ) where
-  -- all that is marked is led to
-  abbrev pub Led : List Bool → Type 0
-  Led marks = (x : ℕ) → get_or marks x false ≡ true → led_to g back id x ≡ true
-
-  first-led : led_to g back id id ≡ true
-  first-led = by back
-    where
-      by : (b : Bool) → led_to g b id id ≡ true
-      by true = walk-reach g id id (0, refl)
-      by false = walk-reach g id id (0, refl)
-
-  pub begin-led : (n : ℕ) → Led (set (replicate n false) id true)
-  begin-led n x is = by (set-get (replicate n false) id x is)
-    where
-      by : (id ≡ x) ⊎ (get_or (replicate n false) x false ≡ true) → led_to g back id x ≡ true
-      by (inl same) = subst (λ (y : ℕ). led_to g back id y ≡ true) same first-led
-      by (inr none) = absurd (unmarked-at n x none)
-
-  -- a join leads on
-  led-on : (j : Join) → IsIn j g.joins → led_to g back id (walk_from back j) ≡ true → led_to g back id (walk_to back j) ≡ true
-  led-on j there is = by back is
-    where
-      by : (b : Bool) → led_to g b id (walk_from b j) ≡ true → led_to g b id (walk_to b j) ≡ true
-      by true is = let w = reach-walk g j.sink id is in walk-reach g j.source id (suc w.0, (j, there, refl, w.1))
-      by false is = let w = reach-walk g id j.source is in walk-reach g id j.sink (walk-on g.joins w.0 id j.source j.sink w.1 (1, (j, there, refl, refl)))
-
   module _ (marks : List Bool) (j : Join) (found : find (is_unwalked marks back) g.joins ≡ Some j) where
     here : IsIn j g.joins × (is_unwalked marks back j ≡ true)
     here = find-in (is_unwalked marks back) g.joins j found
@@ -102,13 +76,6 @@ module _ (g : Graph) (low : AllByRecursion IsLowJoin g.joins) (back : Bool) (id 
         by : (b : Bool) → not b ≡ true → b ≡ false
         by true is = absurd (false≢true is)
         by false is = refl
-
-    pub led-more : Led marks → Led (set marks (walk_to back j) true)
-    led-more led x is = by (set-get marks (walk_to back j) x is)
-      where
-        by : (walk_to back j ≡ x) ⊎ (get_or marks x false ≡ true) → led_to g back id x ≡ true
-        by (inl same) = subst (λ (y : ℕ). led_to g back id y ≡ true) same (led-on j here.0 (led (walk_from back j) parts.0))
-        by (inr there) = led x there
 
   -- where no join leads on, all is marked that is led to
   module _ (marks : List Bool) (first : get_or marks id false ≡ true) (none : find (is_unwalked marks back) g.joins ≡ None) where
@@ -147,6 +114,3 @@ module _ (g : Graph) (low : AllByRecursion IsLowJoin g.joins) (back : Bool) (id 
         by : (b : Bool) → back ≡ b → led_to g b id x ≡ true → get_or marks x false ≡ true
         by true is led = let w = reach-walk g x id led in back-marked is w.0 x w.1
         by false is led = let w = reach-walk g id x led in out-marked is w.0 id x w.1 first
-
-    pub marks-led : Led marks → (x : ℕ) → get_or marks x false ≡ led_to g back id x
-    marks-led led x = same-bools (get_or marks x false) (led_to g back id x) (led x) (all-marked x)

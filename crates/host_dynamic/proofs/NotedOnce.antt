@@ -1,5 +1,5 @@
 -- Indices that are noted each once.
-use Rattle.std.proofs.Common.{◌≡◌, refl, sym, ap, subst, ◌∙◌, ℕ, suc, ◌+◌, ◌<◌, ◌≤◌, List, [], ◌∷◌, ◌++◌, length, Bool, true, false, cond, inl, inr, ◌⊎◌, ◌==◌, ◌||◌, arith}
+use Rattle.std.proofs.Common.{◌≡◌, refl, sym, ap, subst, ◌∙◌, ℕ, suc, ◌+◌, ◌<◌, ◌≤◌, List, [], ◌∷◌, ◌++◌, length, Bool, true, false, cond, inl, inr, ◌⊎◌, ◌==◌, arith}
 use Rattle.std.specs.List.{IsDistinct, AllByRecursion}
 use Rattle.std.proofs.lemmas.Bool.{true≢false, eqb-true}
 use Rattle.std.proofs.lemmas.List.{length-append, length-map}
@@ -12,9 +12,8 @@ use Rattle.tplg_plan.specs.Sound.{IsSound}
 use Rattle.host_widgets.specs.Acts.{widget_ids}
 use Rattle.host_dynamic.specs.DynamicActs.{widgets_at, widgets_of}
 use Rattle.host_dynamic.specs.Need.{need_in, is_needed, pipe_indices}
-use Rattle.host_dynamic.specs.Noting.{with_index, with_indices}
+use Rattle.host_dynamic.specs.Noting.{with_index}
 use Rattle.host_dynamic.proofs.Needs.{among-in, in-among, in-left, in-right, in-either, flat-in}
-use Rattle.host_dynamic.proofs.Noted.{among-push}
 use Rattle.host_dynamic.proofs.Sublists.{AreOnce, in-split, once-append, once-flat, once-filter, once-distinct, distinct-once, range-once}
 use Rattle.host_dynamic.proofs.UpStages.{index_of_id}
 
@@ -61,42 +60,6 @@ with-each P has i all one = by (is_among has i)
     by : (b : Bool) → AllByRecursion P (cond b has (has ++ i ∷ []))
     by true = all
     by false = all-push P has i all one
-
--- what is noted then
-with-among : (has : List ℕ) (i x : ℕ) → is_among (with_index i has) x ≡ (is_among has x || (i == x))
-with-among has i x = by (is_among has i) refl
-  where
-    both : (b : Bool) → (i == x) ≡ b → is_among has i ≡ true → is_among has x ≡ (is_among has x || b)
-    both true e there = here (is_among has x) (ap (is_among has) (sym (eqb-true i x e)) ∙ there)
-      where
-        here : (c : Bool) → c ≡ true → c ≡ (c || true)
-        here true is = refl
-        here false is = is
-    both false e there = here (is_among has x)
-      where
-        here : (c : Bool) → c ≡ (c || false)
-        here true = refl
-        here false = refl
-
-    by : (b : Bool) → is_among has i ≡ b → is_among (cond b has (has ++ i ∷ [])) x ≡ (is_among has x || (i == x))
-    by true e = both (i == x) refl e
-    by false e = among-push has i x
-
-pub with-more : (xs : List ℕ) (x : ℕ) (has : List ℕ) → with_indices (xs ++ x ∷ []) has ≡ with_index x (with_indices xs has)
-with-more [] x has = refl
-with-more (y ∷ xs) x has = with-more xs x (with_index y has)
-
-pub among-with : (xs has : List ℕ) (x : ℕ) → is_among (with_indices xs has) x ≡ (is_among has x || is_among xs x)
-among-with [] has x = by (is_among has x)
-  where
-    by : (b : Bool) → b ≡ (b || false)
-    by true = refl
-    by false = refl
-among-with (y ∷ xs) has x = among-with xs (with_index y has) x ∙ ap (λ (b : Bool). b || is_among xs x) (with-among has y x) ∙ by (is_among has x) (y == x) (is_among xs x)
-  where
-    by : (a b c : Bool) → ((a || b) || c) ≡ (a || (b || c))
-    by true b c = refl
-    by false b c = refl
 
 -- there is room for an index that is not noted
 pub room-for : (plan : Plan) (sound : IsSound plan) (has : List ℕ) (i : ℕ) → IsDistinct (λ m n. m == n) has → AllByRecursion (λ i. is_among (pipe_indices plan.graph) i ≡ true) has → is_among (pipe_indices plan.graph) i ≡ true → is_among has i ≡ false → length has < 32

@@ -1,12 +1,12 @@
 -- Walks from marks, and what is noted of them.
-use Rattle.std.proofs.Common.{◌≡◌, refl, sym, ap, subst, ◌∙◌, ℕ, zero, suc, ◌+◌, ◌<◌, ◌≤◌, List, [], ◌∷◌, ◌++◌, length, get_or, set, take, Bool, true, false, cond, inl, inr, ◌⊎◌, ◌==◌, ◌&&◌, ◌||◌, Some, None, append-nil, arith}
+use Rattle.std.proofs.Common.{◌≡◌, refl, sym, ap, subst, ◌∙◌, ℕ, zero, suc, ◌+◌, ◌<◌, ◌≤◌, List, [], ◌∷◌, ◌++◌, length, get_or, set, take, Bool, true, false, cond, inl, inr, ◌⊎◌, ◌==◌, ◌&&◌, Some, None, append-nil, arith}
 use Rattle.std.specs.Prelude.{Option, ⊤, find, is_some, option_and_then}
 use Rattle.std.specs.Option.{option_or}
 use Rattle.stream_law.specs.declared.graph.Edge.{Edge}
 use Rattle.stream_law.specs.declared.graph.Pipe.{Pipe}
 use Rattle.host_dynamic.proofs.Searchable.{index-among, end-among}
-use Rattle.std.specs.List.{AllByRecursion, IsDistinct}
-use Rattle.std.proofs.lemmas.Bool.{true≢false, false≢true, and_parts, and_from, or_left, or_right, or_cases, eqb-true, eq-eqb}
+use Rattle.std.specs.List.{AllByRecursion}
+use Rattle.std.proofs.lemmas.Bool.{false≢true, and_parts, and_from, or_left, or_right, or_cases, eqb-true, eq-eqb}
 use Rattle.std.proofs.lemmas.List.{take_more, length-set, length-append}
 use Rattle.stream_law.specs.declared.graph.Comp.{Comp}
 use Rattle.stream_law.specs.declared.graph.Join.{Join}
@@ -18,9 +18,9 @@ use Rattle.stream_law.proofs.Walking.{walk-on}
 use Rattle.tplg_plan.specs.declared.plans.Plan.{Plan}
 use Rattle.tplg_plan.specs.Sound.{IsSound}
 use Rattle.host_dynamic.specs.Need.{named_index, index_at, end_index, HasAt, HasBrought, is_joined_to, pipe_indices}
-use Rattle.host_dynamic.specs.Noting.{IsLowJoin, walk_from, walk_to, is_unwalked, led_to, with_index}
+use Rattle.host_dynamic.specs.Noting.{IsLowJoin, walk_from, walk_to, is_unwalked, led_to}
 use Rattle.host_dynamic.specs.Spreading.{Allows, AllAllowed, AreKept, passed, split_marked, with_at, AreOnceNoted, HasAll, NotesMore, IsTable, put_index, scheduler_noted, end_noted}
-use Rattle.host_dynamic.proofs.Needs.{has-at, in-among, among-in, in-left}
+use Rattle.host_dynamic.proofs.Needs.{in-among, among-in, in-left}
 use Rattle.host_dynamic.proofs.Between.{reach-walk, walk-reach}
 use Rattle.host_dynamic.proofs.Marked.{still_unmarked, set-get, set-keeps, set-there, all-marked}
 use Rattle.host_dynamic.proofs.NotedOnce.{with-once, with-each, room-for}

@@ -1,78 +1,41 @@
 -- Messages that make and unmake, sent one after another.
-use Rattle.std.proofs.Common.{◌≡◌, refl, sym, ap, subst, ◌∙◌, ℕ, zero, suc, ◌+◌, ◌*◌, ◌<◌, List, [], ◌∷◌, ◌++◌, ◌==◌, map, filter, take, drop, length, get_or, Bool, true, false, cond, Option, None, is_some, Result, Ok, Err, MatchResult, append-nil, take-append-drop, arith}
-use Rattle.std.specs.List.{filter_map, cons_option, flat_map, AllByRecursion}
-use Rattle.std.proofs.lemmas.List.{take_more}
-use Rattle.std.proofs.lemmas.Result.{MatchResult-weaker}
-use Rattle.sof_base.specs.Ports.{HasRoom}
+use Rattle.std.proofs.Common.{◌≡◌, refl, sym, ap, subst, ◌∙◌, ℕ, ◌+◌, ◌<◌, List, [], ◌∷◌, ◌++◌, ◌==◌, map, length, Bool, false, Result, Ok, Err, MatchResult, arith}
+use Rattle.std.specs.List.{flat_map, AllByRecursion}
 use Rattle.stream_law.specs.declared.graph.Graph.{Graph}
-use Rattle.stream_law.proofs.Members.{in-each}
+use Rattle.stream_law.proofs.Members.{in-each, kept-in}
 use Rattle.stream_law.specs.declared.graph.Join.{Join as Joined}
 use Rattle.ipc3_model.specs.declared.reply.Reply.{Reply}
-use Rattle.ipc3_model.specs.Messages.{message_spelling}
-use Rattle.mbox_link.specs.Calls.{World, Meaning, Exchanged}
-use Rattle.mbox_link.proofs.Rooms.{HasRoom-now}
+use Rattle.mbox_link.specs.Calls.{World, Meaning}
 use Rattle.tplg_plan.specs.declared.plans.Plan.{Plan}
 use Rattle.host_widgets.specs.declared.answers.HostFault.{HostFault}
-use Rattle.host_widgets.specs.HostActs.{Act, Make, Join}
+use Rattle.host_widgets.specs.HostActs.{Act, Join}
 use Rattle.host_widgets.specs.Acts.{widget_ids, widget_words}
-use Rattle.host_widgets.specs.ActLists.{control_acts}
 use Rattle.host_widgets.specs.ActCalls.{came_to}
 use Rattle.host_widgets.specs.ActCarried.{ActsSent}
-use Rattle.host_widgets.specs.Bringing.{Sent}
 use Rattle.host_widgets.specs.Host.{Outcome, verdict}
-use Rattle.host_widgets.proofs.ControlLists.{Pair}
-use Rattle.host_widgets.proofs.Exchanges.{state_of, came, Came-on}
-use Rattle.host_widgets.proofs.Walks.{passing}
 use Rattle.host_widgets.specs.Walk.{goes_past}
 use Rattle.host_pm.specs.InTurn.{Behind, InTurn}
 use Rattle.host_pm.proofs.Turns.{none-past}
-use Rattle.host_dynamic.specs.DynamicActs.{DynamicAct, Ordinary, widgets_at, is_control_of, dynamic_message}
+use Rattle.host_dynamic.specs.DynamicActs.{widgets_at}
 use Rattle.host_dynamic.specs.declared.making.Ends.{Ends}
 use Rattle.host_dynamic.specs.JoinEnds.{ends_joins}
 use Rattle.host_dynamic.specs.Up.{buffer_joins}
-use Rattle.host_dynamic.specs.ListCalls.{DynamicSent, Listed, put_acts_of, widget_made}
-use Rattle.host_dynamic.proofs.Sublists.{all-filter, range-low}
+use Rattle.host_dynamic.proofs.Sublists.{range-low}
+use Rattle.host_widgets.proofs.MadeSent.{join_act}
 
-abbrev pub making : ℕ → DynamicAct
-making id = Ordinary (Make id)
-
--- what is so of all is so of the one at a place
-pub all-at : {X : Type 0} (P : X → Type 0) (xs : List X) (i : ℕ) (d : X) → i < length xs → AllByRecursion P xs → P (get_or xs i d)
-all-at P [] i d low all = absurd (omega (arith, low))
-all-at P (x ∷ xs) zero d low all = all.0
-all-at P (x ∷ xs) (suc i) d low all = all-at P xs i d (omega (arith, low)) all.1
-
--- what was made of these is these
-pub making-made : (ids : List ℕ) → filter_map widget_made (map making ids) ≡ ids
-making-made [] = refl
-making-made (id ∷ ids) = ap (λ (xs : List ℕ). id ∷ xs) (making-made ids)
-
--- a widget of an index is one of the plan
-pub widget-low : (plan : Plan) (index i : ℕ) → i < length (widgets_at plan index) → get_or (widgets_at plan index) i 0 < length plan.widgets
-widget-low plan index i low =
-    let all = all-filter (λ (id : ℕ). id < 0 + length plan.widgets) (λ (id : ℕ). (widget_words plan id).pipe == index) (widget_ids plan) (in-each (λ (id : ℕ). id < 0 + length plan.widgets) (widget_ids plan) (λ id here. range-low 0 (length plan.widgets) id here)) in
-    let one : get_or (widgets_at plan index) i 0 < 0 + length plan.widgets = all-at (λ (id : ℕ). id < 0 + length plan.widgets) (widgets_at plan index) i 0 low all in
-    omega (arith, one)
+-- the widgets of an index are of the plan
+pub widgets-low : (plan : Plan) (index : ℕ) → AllByRecursion (λ (id : ℕ). id < length plan.widgets) (widgets_at plan index)
+widgets-low plan index = in-each (λ (id : ℕ). id < length plan.widgets) (widgets_at plan index) (λ id here.
+    let low : id < 0 + length plan.widgets = range-low 0 (length plan.widgets) id (kept-in (λ (x : ℕ). (widget_words plan x).pipe == index) (widget_ids plan) id here).0 in
+    omega (arith, low))
 
 -- the joins of an index are made
 abbrev pub join_acts_at : Graph → ℕ → List Act
 join_acts_at g i = map (λ (j : Joined). Join j.source j.sink) (buffer_joins g i)
 
--- the controls of these indices are set
-pub put-acts : (plan : Plan) (n : List ℕ) (ps : List Pair) → flat_map (put_acts_of plan n) ps ≡ flat_map control_acts (filter (is_control_of plan n) ps)
-put-acts plan n [] = refl
-put-acts plan n (p ∷ ps) = ap (λ (xs : List Act). put_acts_of plan n p ++ xs) (put-acts plan n ps) ∙ by (is_control_of plan n p)
-  where
-    by : (b : Bool) → cond b (control_acts p) [] ++ flat_map control_acts (filter (is_control_of plan n) ps) ≡ flat_map control_acts (cond b (p ∷ filter (is_control_of plan n) ps) (filter (is_control_of plan n) ps))
-    by true = refl
-    by false = refl
-
 -- the same by the ends of joins
 abbrev pub ends_act : Ends → Act
 ends_act e = Join e.source e.sink
-
-abbrev pub join_act : Joined → Act
-join_act j = Join j.source j.sink
 
 pub ends-acts : (es : List Ends) (js : List Joined) → ends_joins es ≡ js → map ends_act es ≡ map join_act js
 ends-acts es js are = each es ∙ ap (map join_act) are
@@ -90,150 +53,7 @@ all-joins g (i ∷ is) = ap (λ (xs : List Act). join_acts_at g i ++ xs) (all-jo
     both [] ys = refl
     both (x ∷ xs) ys = ap (λ (zs : List Act). join_act x ∷ zs) (both xs ys)
 
--- acts that make no widget
-abbrev pub MakeNone : List Act → Type 0
-MakeNone acts = AllByRecursion (λ a. widget_made (Ordinary a) ≡ None) acts
-
 module _ {D : Type 0} (means : Meaning D) (plan : Plan) where
-  -- ---- one after another
-
-  -- what passed of one act
-  abbrev pub passed_of : {T : Type 0} → DynamicAct → Result T HostFault → List DynamicAct
-  passed_of act (Ok done) = act ∷ []
-  passed_of act (Err fault) = []
-
-  one_came : (act : DynamicAct) (m v : World D) (r : Result Reply HostFault) → v ≡ m →
-      MatchResult r (λ reply. (rest : List DynamicAct) × (passed_of act r ≡ act ∷ rest) × ((rest ≡ []) × (v ≡ m) × (came_to r ≡ Ok tt))) (λ fault. (passed_of act r ≡ []) × (v ≡ m) × (came_to r ≡ Err fault))
-  one_came act m v (Ok reply) same = ([], refl, (refl, same, refl))
-  one_came act m v (Err fault) same = (refl, same, refl)
-
-  pub listed-one : (act : DynamicAct) (r : Result Reply HostFault) (w v : World D) → Sent means (message_spelling (dynamic_message plan act)) w v r → DynamicSent means plan (act ∷ []) (passed_of act r) w v (came_to r)
-  listed-one act r w v sent =
-      let m = sent.led.0 in (
-        m,
-        sent.answer,
-        sent.led.1,
-        subst (λ (said : Result Reply HostFault). MatchResult said (λ reply. (rest : List DynamicAct) × (passed_of act r ≡ act ∷ rest) × ((rest ≡ []) × (v ≡ m) × (came_to r ≡ Ok tt))) (λ fault. (passed_of act r ≡ []) × (v ≡ m) × (came_to r ≡ Err fault)))
-            sent.said (one_came act m v r sent.led.2),
-      )
-
-  -- acts after acts that have passed
-  pub listed-then : (acts more ps qs : List DynamicAct) (w m v : World D) (result : Outcome) → DynamicSent means plan acts ps w m passing → DynamicSent means plan more qs m v result → DynamicSent means plan (acts ++ more) (ps ++ qs) w v result
-  listed-then [] more ps qs w m v result first rest =
-      subst (λ (x : World D). DynamicSent means plan more (ps ++ qs) x v result) first.1 (subst (λ (xs : List DynamicAct). DynamicSent means plan more (xs ++ qs) m v result) (sym first.0) rest)
-  listed-then (act ∷ acts) more ps qs w m v result (mid, answer, x, on) rest = (
-    mid,
-    answer,
-    x,
-    MatchResult-weaker (verdict answer) on (λ reply passed. (passed.0 ++ qs, ap (λ (xs : List DynamicAct). xs ++ qs) passed.1, listed-then acts more passed.0 qs mid m v result passed.2 rest)) (λ fault none. absurd (cc none.2)),
-  )
-
-  -- after a failure no act follows
-  pub listed-ended : (acts more ps : List DynamicAct) (w v : World D) (fault : HostFault) → DynamicSent means plan acts ps w v (Err fault) → DynamicSent means plan (acts ++ more) ps w v (Err fault)
-  listed-ended [] more ps w v fault first = absurd (cc first.2)
-  listed-ended (act ∷ acts) more ps w v fault (mid, answer, x, on) = (
-    mid,
-    answer,
-    x,
-    MatchResult-weaker (verdict answer) on (λ reply r. (r.0, r.1, listed-ended acts more r.0 mid v fault r.2)) (λ fault end. end),
-  )
-
-  -- all of them passed
-  pub listed-all : (acts ps : List DynamicAct) (w v : World D) → DynamicSent means plan acts ps w v passing → ps ≡ acts
-  listed-all [] ps w v sent = sent.0
-  listed-all (act ∷ acts) ps w v (mid, answer, x, on) = by (verdict answer) on (λ rest sent. listed-all acts rest mid v sent)
-    where
-      by : (r : Result Reply HostFault) → MatchResult r (λ reply. (rest : List DynamicAct) × (ps ≡ act ∷ rest) × DynamicSent means plan acts rest mid v passing) (λ fault. (ps ≡ []) × (v ≡ mid) × (passing ≡ Err fault)) →
-          ((rest : List DynamicAct) → DynamicSent means plan acts rest mid v passing → rest ≡ acts) → ps ≡ act ∷ acts
-      by (Ok reply) (rest, at, sent) go = at ∙ ap (λ (xs : List DynamicAct). act ∷ xs) (go rest sent)
-      by (Err fault) end go = absurd (cc end.2)
-
-  -- ---- what they keep
-
-  module _ (Kept : World D → Type 0) (each : (request : List ℕ) (answer : Option (List ℕ)) (w v : World D) → Exchanged means request answer w v → Kept w → Kept v) where
-    pub listed-keep : (acts ps : List DynamicAct) (w v : World D) (result : Outcome) → DynamicSent means plan acts ps w v result → Kept w → Kept v
-    listed-keep [] ps w v result sent kept = subst Kept (sym sent.1) kept
-    listed-keep (act ∷ acts) ps w v result (mid, answer, x, on) kept = by (verdict answer) on (each (message_spelling (dynamic_message plan act)) answer w mid x kept) (λ rest sent now. listed-keep acts rest mid v result sent now)
-      where
-        by : (r : Result Reply HostFault) → MatchResult r (λ reply. (rest : List DynamicAct) × (ps ≡ act ∷ rest) × DynamicSent means plan acts rest mid v result) (λ fault. (ps ≡ []) × (v ≡ mid) × (result ≡ Err fault)) → Kept mid →
-            ((rest : List DynamicAct) → DynamicSent means plan acts rest mid v result → Kept mid → Kept v) → Kept v
-        by (Ok reply) (rest, at, sent) now go = go rest sent now
-        by (Err fault) end now go = subst Kept (sym end.1) now
-
-  abbrev pub IsOn : World D → Type 0
-  IsOn w = is_some (means.on w.device) ≡ true
-
-  abbrev pub HasPendingRoom : World D → Type 0
-  HasPendingRoom w = HasRoom (61440 * means.pending w.device) w.io.outputs
-
-  pub on-stays : (request : List ℕ) (answer : Option (List ℕ)) (w v : World D) → Exchanged means request answer w v → IsOn w → IsOn v
-  on-stays request answer w v x on = let s = state_of (means.on w.device) on in Came-on means request answer w v _ (came means request answer w v s.0 s.1 x)
-
-  pub room-stays : (request : List ℕ) (answer : Option (List ℕ)) (w v : World D) → Exchanged means request answer w v → HasPendingRoom w → HasPendingRoom v
-  room-stays request answer w v x room = HasRoom-now (61440 * means.pending w.device) (61440 * means.pending v.device) w.io.outputs v.io.outputs x.room room
-
-  pub listed-on : (acts ps : List DynamicAct) (w v : World D) (result : Outcome) → DynamicSent means plan acts ps w v result → IsOn w → IsOn v
-  listed-on = listed-keep IsOn on-stays
-
-  pub listed-room : (acts ps : List DynamicAct) (w v : World D) (result : Outcome) → DynamicSent means plan acts ps w v result → HasPendingRoom w → HasPendingRoom v
-  listed-room = listed-keep HasPendingRoom room-stays
-
-  -- ---- the turns of a loop over items that each are an act
-
-  module _ {X : Type 0} (act_of : X → DynamicAct) (items : List X) (i : ℕ) (d : X) (within : i < length items) (w m v : World D) (answer : Result Reply HostFault) (so_far : DynamicSent means plan (map act_of (take i items)) (map act_of (take i items)) w m passing) (sent : Sent means (message_spelling (dynamic_message plan (act_of (get_or items i d)))) m v answer) where
-    abbrev turn : DynamicAct
-    turn = act_of (get_or items i d)
-
-    map-append : (xs ys : List X) → map act_of (xs ++ ys) ≡ map act_of xs ++ map act_of ys
-    map-append [] ys = refl
-    map-append (x ∷ xs) ys = ap (λ (zs : List DynamicAct). act_of x ∷ zs) (map-append xs ys)
-
-    front : map act_of (take (i + 1) items) ≡ map act_of (take i items) ++ turn ∷ []
-    front = ap (map act_of) (take_more items i d within) ∙ map-append (take i items) (get_or items i d ∷ [])
-
-    pub one-more : (reply : Reply) → answer ≡ Ok reply → DynamicSent means plan (map act_of (take (i + 1) items)) (map act_of (take (i + 1) items)) w v passing
-    one-more reply is =
-        let one = listed-one turn (Ok reply) m v (subst (λ (r : Result Reply HostFault). Sent means (message_spelling (dynamic_message plan turn)) m v r) is sent) in
-        subst (λ (xs : List DynamicAct). DynamicSent means plan xs xs w v passing) (sym front) (listed-then (map act_of (take i items)) (turn ∷ []) (map act_of (take i items)) (turn ∷ []) w m v passing so_far one)
-
-    pub one-ends : (fault : HostFault) (result : Outcome) → answer ≡ Err fault → result ≡ Err fault → DynamicSent means plan (map act_of items) (map act_of (take i items)) w v result
-    one-ends fault result is this =
-        let one = listed-one turn (Err fault) m v (subst (λ (r : Result Reply HostFault). Sent means (message_spelling (dynamic_message plan turn)) m v r) is sent) in
-        let all : map act_of (take (i + 1) items) ++ map act_of (drop (i + 1) items) ≡ map act_of items = sym (map-append (take (i + 1) items) (drop (i + 1) items)) ∙ ap (map act_of) (take-append-drop (i + 1) items) in
-        let most = listed-then (map act_of (take i items)) (turn ∷ []) (map act_of (take i items)) [] w m v (Err fault) so_far one in
-        let first = subst (λ (xs : List DynamicAct). DynamicSent means plan xs (map act_of (take i items)) w v (Err fault)) (sym front) (subst (λ (xs : List DynamicAct). DynamicSent means plan (map act_of (take i items) ++ turn ∷ []) xs w v (Err fault)) (append-nil (map act_of (take i items))) most) in
-        subst (λ (r : Outcome). DynamicSent means plan (map act_of items) (map act_of (take i items)) w v r) (sym this)
-        (subst (λ (xs : List DynamicAct). DynamicSent means plan xs (map act_of (take i items)) w v (Err fault)) all (listed-ended (map act_of (take (i + 1) items)) (map act_of (drop (i + 1) items)) (map act_of (take i items)) w v fault first))
-
-  -- ---- acts of the ordinary host
-
-  -- what passed of these
-  pub sent-listed : (acts : List Act) (w v : World D) (result : Outcome) → ActsSent means plan acts w v result → (passed : List DynamicAct) × DynamicSent means plan (map Ordinary acts) passed w v result
-  sent-listed [] w v result sent = ([], (refl, sent.0, sent.1))
-  sent-listed (act ∷ acts) w v result (mid, answer, x, on) = by (verdict answer) refl on (λ rest. sent-listed acts mid v result rest)
-    where
-      Told : List DynamicAct → Result Reply HostFault → Type 0
-      Told passed r = MatchResult r (λ reply. (rest : List DynamicAct) × (passed ≡ Ordinary act ∷ rest) × DynamicSent means plan (map Ordinary acts) rest mid v result) (λ fault. (passed ≡ []) × (v ≡ mid) × (result ≡ Err fault))
-
-      by : (r : Result Reply HostFault) → verdict answer ≡ r → MatchResult r (λ reply. ActsSent means plan acts mid v result) (λ fault. (v ≡ mid) × (result ≡ Err fault)) →
-          (ActsSent means plan acts mid v result → (passed : List DynamicAct) × DynamicSent means plan (map Ordinary acts) passed mid v result) → (passed : List DynamicAct) × DynamicSent means plan (map Ordinary (act ∷ acts)) passed w v result
-      by (Ok reply) is rest go = let l = go rest in (Ordinary act ∷ l.0, (mid, answer, x, subst (Told (Ordinary act ∷ l.0)) (sym is) (l.0, refl, l.1)))
-      by (Err fault) is end go = ([], (mid, answer, x, subst (Told []) (sym is) (refl, end.0, end.1)))
-
-  pub none-made : (acts : List Act) (ps : List DynamicAct) (w v : World D) (result : Outcome) → MakeNone acts → DynamicSent means plan (map Ordinary acts) ps w v result → filter_map widget_made ps ≡ []
-  none-made [] ps w v result none sent = ap (filter_map widget_made) sent.0
-  none-made (act ∷ acts) ps w v result none (mid, answer, x, on) = by (verdict answer) on (λ rest sent. none-made acts rest mid v result none.1 sent)
-    where
-      by : (r : Result Reply HostFault) → MatchResult r (λ reply. (rest : List DynamicAct) × (ps ≡ Ordinary act ∷ rest) × DynamicSent means plan (map Ordinary acts) rest mid v result) (λ fault. (ps ≡ []) × (v ≡ mid) × (result ≡ Err fault)) →
-          ((rest : List DynamicAct) → DynamicSent means plan (map Ordinary acts) rest mid v result → filter_map widget_made rest ≡ []) → filter_map widget_made ps ≡ []
-      by (Ok reply) (rest, at, sent) go = ap (filter_map widget_made) at ∙ ap (λ (o : Option ℕ). cons_option o (filter_map widget_made rest)) none.0 ∙ go rest sent
-      by (Err fault) end go = ap (filter_map widget_made) end.0
-
-  -- the same without what passed
-  pub listed-sent : (acts : List Act) (ps : List DynamicAct) (w v : World D) (result : Outcome) → DynamicSent means plan (map Ordinary acts) ps w v result → ActsSent means plan acts w v result
-  listed-sent [] ps w v result sent = (sent.1, sent.2)
-  listed-sent (act ∷ acts) ps w v result (mid, answer, x, on) = (mid, answer, x, MatchResult-weaker (verdict answer) on (λ reply r. listed-sent acts r.0 mid v result r.2) (λ fault end. (end.1, end.2)))
-
   -- acts in turn, up to the first that does not pass
   pub turn-sent : (acts : List Act) (w v : World D) (result : Outcome) → InTurn means plan false acts w v result → ActsSent means plan acts w v result
   turn-sent [] w v result sent = sent
@@ -243,7 +63,3 @@ module _ {D : Type 0} (means : Meaning D) (plan : Plan) where
           MatchResult r (λ reply. ActsSent means plan acts mid v result) (λ fault. (v ≡ mid) × (result ≡ Err fault))
       by (Ok reply) (rest, sent, is) go = subst (λ (o : Outcome). ActsSent means plan acts mid v o) (sym is) (go rest sent)
       by (Err fault) end go = subst (λ (b : Bool). Behind b (Err fault) (λ rest. InTurn means plan false acts mid v rest) (v ≡ mid) result) (none-past fault) end
-
-  -- these widgets were made, and are listed
-  pub listed-so : (ids so_far : List ℕ) (made made' : List ℕ) (w v : World D) (result : Outcome) → DynamicSent means plan (map making ids) (map making so_far) w v result → made' ≡ made ++ so_far → Listed means plan (map making ids) made made' w v result
-  listed-so ids so_far made made' w v result sent are = record { passed = map making so_far; sent = sent; made_are = are ∙ ap (λ (xs : List ℕ). made ++ xs) (sym (making-made so_far)) }

@@ -12,8 +12,8 @@ use Rattle.host_widgets.specs.Acts.{widget_words}
 use Rattle.host_widgets.specs.Named.{is_named}
 use Rattle.host_ctl.specs.ControlAsks.{named_control}
 use Rattle.host_dynamic.specs.Dynamic.{is_control_up}
-use Rattle.host_dynamic.specs.Up.{is_up}
 use Rattle.host_dynamic.proofs.UpContext.{comp-up-by}
+use Rattle.host_widgets.specs.Indices.{is_up}
 
 -- none before it passes, and this one does
 found-next : {X : Type 0} (p : X → Bool) (xs : List X) (i : ℕ) (d : X) → i < length xs → find p (take i xs) ≡ None → p (get_or xs i d) ≡ true → find p xs ≡ Some (get_or xs i d)

@@ -18,7 +18,7 @@ use Rattle.host_widgets.specs.declared.kept.StreamRec.{StreamRec}
 use Rattle.host_widgets.specs.declared.kept.Record.{Record}
 use Rattle.host_pcm.specs.Asks.{is_closed}
 use Rattle.host_dynamic.specs.Dynamic.{needed, need_of_stream}
-use Rattle.host_dynamic.specs.Need.{index_at, end_index, HasAt, HasBrought, IsEnough, IsPiped, is_joined_to, need_in}
+use Rattle.host_dynamic.specs.Need.{end_index, HasAt, HasBrought, IsEnough, IsPiped, is_joined_to, need_in}
 use Rattle.host_dynamic.specs.Noting.{led_to}
 use Rattle.host_dynamic.specs.Spreading.{AllAllowed, AreKept, HasAll, Holds, host_onward, host_back, stream_onward, stream_back}
 use Rattle.host_dynamic.proofs.Between.{same-bools}
@@ -30,6 +30,7 @@ use Rattle.host_dynamic.proofs.Noted.{has-more}
 use Rattle.host_dynamic.proofs.Searchable.{searchable}
 use Rattle.host_dynamic.proofs.Spreading.{set-allows, all-turn}
 use Rattle.host_dynamic.proofs.UpStages.{StreamPair}
+use Rattle.host_widgets.specs.Indices.{index_at}
 
 zip-get : (ss : List StreamPlan) (rs : List StreamRec) (k : ℕ) (s : StreamPlan) (r : StreamRec) → k < length ss → length rs ≡ length ss → get_or (zip ss rs) k (s, r) ≡ (get_or ss k s, get_or rs k r)
 zip-get [] rs k s r low same = absurd (omega (arith, low))

@@ -19,7 +19,6 @@ use Rattle.host_widgets.specs.HostActs.{Finish}
 use Rattle.host_widgets.proofs.Joined.{edge_with}
 use Rattle.host_widgets.proofs.LookedUp.{any-found, found-map, found-is, map-twice}
 use Rattle.host_widgets.proofs.PutsTaken.{comp_while}
-use Rattle.host_dynamic.specs.DynamicActs.{Ordinary}
 use Rattle.host_dynamic.specs.There.{there_after, silent_state}
 use Rattle.host_dynamic.proofs.PartsBetween.{found-left}
 use Rattle.host_dynamic.proofs.RowsTold.{told, left-told}
@@ -80,5 +79,5 @@ module _ (plan : Plan) (sound : IsSound plan) (kept : Record) (st : Stage) (whol
         streams = stage_streams plan kept st;
       }))
 
-  pub finish-is : there_after plan (Ordinary (Finish id)) (at_stage plan kept st h) ≡ at_stage plan kept (with_done id st) h
+  pub finish-is : there_after plan (Finish id) (at_stage plan kept st h) ≡ at_stage plan kept (with_done id st) h
   finish-is = left-told (at_stage plan kept st h) (row f (PipeComplete id)) (at_stage plan kept (with_done id st) h) finish-told

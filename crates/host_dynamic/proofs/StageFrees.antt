@@ -25,7 +25,6 @@ use Rattle.host_widgets.proofs.Joined.{edge_with, never-both}
 use Rattle.host_widgets.proofs.LookedUp.{any-found, found-map, found-is}
 use Rattle.host_widgets.proofs.NamedIds.{IsPipeline, component-found, buffer-found, pipeline-found, each-edge}
 use Rattle.host_widgets.proofs.PutsTaken.{comp_while}
-use Rattle.host_dynamic.specs.DynamicActs.{Unmake, unmake_by, dynamic_message}
 use Rattle.host_dynamic.specs.There.{there_after, silent_state}
 use Rattle.host_dynamic.proofs.Between.{side-of}
 use Rattle.host_dynamic.proofs.HostStreams.{pairs, no-stream}
@@ -37,6 +36,8 @@ use Rattle.host_dynamic.proofs.StageMakes.{lost-each, none-passes}
 use Rattle.host_dynamic.proofs.StageStays.{from-map}
 use Rattle.host_dynamic.proofs.Sublists.{filter-same, filter-both, filter-map, all-filter}
 use Rattle.host_dynamic.proofs.UpStages.{Stage, StreamPair, pipe_as, comps_left, edges_left, pipes_left, stage_graph, stage_streams, IsHeapAt, IsSized, at_stage}
+use Rattle.host_widgets.specs.HostActs.{Unmake}
+use Rattle.host_widgets.specs.ActMessages.{unmake_by, act_message}
 
 -- ---- lists
 
@@ -151,7 +152,7 @@ module _ (plan : Plan) (sound : IsSound plan) (kept : Record) (st : Stage) (whol
         filter-map (pipe_as st.done) (λ (q : Pipe). not (q.id == id)) (pipes_left plan st)
         ∙ ap (map (pipe_as st.done)) (filter-both (λ (q : Pipe). not (q.id == id)) (λ (q : Pipe). st.has q.id) g.pipes)
 
-    pub free-pipe-told : is_index_held k (stage_streams plan kept st) p.index ≡ false → told (row f (dynamic_message plan (Unmake id))) ≡ Ok (at_stage plan kept after (without_piece id h))
+    pub free-pipe-told : is_index_held k (stage_streams plan kept st) p.index ≡ false → told (row f (act_message plan (Unmake id))) ≡ Ok (at_stage plan kept after (without_piece id h))
     free-pipe-told held =
         ap (λ m. told (row f m)) message
         ∙ ap told taken
@@ -172,7 +173,7 @@ module _ (plan : Plan) (sound : IsSound plan) (kept : Record) (st : Stage) (whol
         kept-joins : filter (λ j. not (touches id j)) js ≡ js
         kept-joins = joins-stay never-touched
 
-        message : dynamic_message plan (Unmake id) ≡ PipeFree id
+        message : act_message plan (Unmake id) ≡ PipeFree id
         message = λ i. unmake_by (named.no_comp i) (named.no_edge i) id
 
         taken : row f (PipeFree id) ≡ Ok (without_pipe id f)
@@ -182,7 +183,7 @@ module _ (plan : Plan) (sound : IsSound plan) (kept : Record) (st : Stage) (whol
             ∙ ap (λ (b : Bool). cond b (Err invalid) (Ok (without_pipe id f))) held
 
     pub free-pipe-is : is_index_held k (stage_streams plan kept st) p.index ≡ false → there_after plan (Unmake id) (at_stage plan kept st h) ≡ at_stage plan kept after (without_piece id h)
-    free-pipe-is held = left-told (at_stage plan kept st h) (row f (dynamic_message plan (Unmake id))) (at_stage plan kept after (without_piece id h)) (free-pipe-told held)
+    free-pipe-is held = left-told (at_stage plan kept st h) (row f (act_message plan (Unmake id))) (at_stage plan kept after (without_piece id h)) (free-pipe-told held)
 
   -- ---- a buffer or a component, once its pipeline is gone
 
@@ -250,13 +251,13 @@ module _ (plan : Plan) (sound : IsSound plan) (kept : Record) (st : Stage) (whol
         joins = after.joins;
       }
 
-      pub free-buffer-told : is_held k (stage_streams plan kept st) id ≡ false → stays (view_of f) (without_edge id k) ≡ true → told (row f (dynamic_message plan (Unmake id))) ≡ Ok (at_stage plan kept after (without_piece id h))
+      pub free-buffer-told : is_held k (stage_streams plan kept st) id ≡ false → stays (view_of f) (without_edge id k) ≡ true → told (row f (act_message plan (Unmake id))) ≡ Ok (at_stage plan kept after (without_piece id h))
       free-buffer-told held stay =
           ap (λ m. told (row f m)) message
           ∙ ap told (taken (is_used k id) (has_complete_pipe k id) (has_edge k id) (is_held k (stage_streams plan kept st) id) (stays (view_of f) (without_edge id k)) (used-edge plan sound kept st whole id e found there) incomplete (has-edge plan sound kept st whole id e found there) held stay)
           ∙ (λ i. Ok (record { heap = without_piece id h; graph = buffer-gone i; streams = sym (streams-stay (buffer-found plan sound id e found).no_comp) i }))
         where
-          message : dynamic_message plan (Unmake id) ≡ BufferFree id
+          message : act_message plan (Unmake id) ≡ BufferFree id
           message = (λ i. unmake_by ((buffer-found plan sound id e found).no_comp i) (edge_of g id) id) ∙ ap (λ (o : Option Edge). unmake_by None o id) found
 
           taken : (a b c d s : Bool) → a ≡ true → b ≡ false → c ≡ true → d ≡ false → s ≡ true → cond (not a) (Err no_device) (cond b (Err busy) (cond (not c || d || not s) (Err invalid) (Ok (without_buffer id f)))) ≡ Ok (without_buffer id f)
@@ -264,7 +265,7 @@ module _ (plan : Plan) (sound : IsSound plan) (kept : Record) (st : Stage) (whol
 
       pub free-buffer-is : is_held k (stage_streams plan kept st) id ≡ false → stays (view_of f) (without_edge id k) ≡ true →
           there_after plan (Unmake id) (at_stage plan kept st h) ≡ at_stage plan kept after (without_piece id h)
-      free-buffer-is held stay = left-told (at_stage plan kept st h) (row f (dynamic_message plan (Unmake id))) (at_stage plan kept after (without_piece id h)) (free-buffer-told held stay)
+      free-buffer-is held stay = left-told (at_stage plan kept st h) (row f (act_message plan (Unmake id))) (at_stage plan kept after (without_piece id h)) (free-buffer-told held stay)
 
     -- ---- a component
 
@@ -279,7 +280,7 @@ module _ (plan : Plan) (sound : IsSound plan) (kept : Record) (st : Stage) (whol
           filter-map stream_view (λ (s : StreamView). not (s.host == id)) (filter (λ (p : StreamPair). st.has p.0.host) (zip plan.streams kept.streams))
           ∙ ap (map stream_view) (filter-both (λ (p : StreamPair). not (p.0.host == id)) (λ (p : StreamPair). st.has p.0.host) (zip plan.streams kept.streams))
 
-      pub free-comp-told : told (row f (dynamic_message plan (Unmake id))) ≡ Ok (at_stage plan kept after (without_piece id h))
+      pub free-comp-told : told (row f (act_message plan (Unmake id))) ≡ Ok (at_stage plan kept after (without_piece id h))
       free-comp-told =
           ap (λ m. told (row f m)) (ap (λ (o : Option Comp). unmake_by o (edge_of g id) id) found)
           ∙ ap told (taken (is_used k id) (has_complete_pipe k id) (has_comp k id) (list_any (touches id) js) (used-comp plan sound kept st whole id c found there) incomplete (has-comp plan sound kept st whole id c found there) (none-passes (touches id) js apart))
@@ -301,7 +302,7 @@ module _ (plan : Plan) (sound : IsSound plan) (kept : Record) (st : Stage) (whol
           taken a b d t is_a is_b is_d is_t = rw (is_a, is_b, is_d, is_t) refl
 
       pub free-comp-is : there_after plan (Unmake id) (at_stage plan kept st h) ≡ at_stage plan kept after (without_piece id h)
-      free-comp-is = left-told (at_stage plan kept st h) (row f (dynamic_message plan (Unmake id))) (at_stage plan kept after (without_piece id h)) free-comp-told
+      free-comp-is = left-told (at_stage plan kept st h) (row f (act_message plan (Unmake id))) (at_stage plan kept after (without_piece id h)) free-comp-told
 
   -- ---- the index of what an id names
 

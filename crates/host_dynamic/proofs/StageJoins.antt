@@ -26,7 +26,6 @@ use Rattle.host_widgets.proofs.JoinRows.{connects, within-outs, within-ins, list
 use Rattle.host_widgets.proofs.LookedUp.{all-found, any-found, any-lost, map-twice, filter-fewer}
 use Rattle.host_widgets.proofs.NamedIds.{component-found, buffer-found, each-edge}
 use Rattle.host_widgets.proofs.PutsTaken.{comp_while}
-use Rattle.host_dynamic.specs.DynamicActs.{Ordinary}
 use Rattle.host_dynamic.specs.There.{there_after, silent_state}
 use Rattle.host_dynamic.proofs.Between.{found-member, side-of}
 use Rattle.host_dynamic.proofs.RowsTold.{told, left-told}
@@ -327,5 +326,5 @@ module _ (plan : Plan) (sound : IsSound plan) (kept : Record) (st : Stage) (whol
           ∙ (λ i. Ok (record { heap = h; graph = graph-joined i; streams = stage_streams plan kept st }))
 
       pub join-is : (h : HeapView) → would_stay (view_of (silent_state (at_stage plan kept st h))) j.source j.sink ≡ true →
-          there_after plan (Ordinary (Joining j.source j.sink)) (at_stage plan kept st h) ≡ at_stage plan kept (with_joined j st) h
+          there_after plan (Joining j.source j.sink) (at_stage plan kept st h) ≡ at_stage plan kept (with_joined j st) h
       join-is h stay = left-told (at_stage plan kept st h) (row (silent_state (at_stage plan kept st h)) (Connect j.source j.sink)) (at_stage plan kept (with_joined j st) h) (join-told h stay)

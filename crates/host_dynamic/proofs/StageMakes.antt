@@ -39,7 +39,6 @@ use Rattle.host_widgets.proofs.MakeStates.{message-comp, message-buffer, message
 use Rattle.host_widgets.proofs.NamedIds.{named-at}
 use Rattle.host_widgets.proofs.PutsTaken.{setting_while, comp_while}
 use Rattle.host_widgets.proofs.StreamPlaces.{streams-ascend}
-use Rattle.host_dynamic.specs.DynamicActs.{Ordinary}
 use Rattle.host_dynamic.specs.There.{There, there_in, there_after, silent_state}
 use Rattle.host_dynamic.proofs.RowsTold.{told, left-told}
 use Rattle.host_dynamic.proofs.HostStreams.{IsHostKind, stream-comp, comp-stream, no-stream, no-host}
@@ -402,5 +401,5 @@ module _ (plan : Plan) (sound : IsSound plan) (kept : Record) (st : Stage) (h : 
         by (inr (inl x)) = subst IsMade (sym (message-buffer plan 0 sound id x)) (make-buffer x)
         by (inr (inr x)) = subst IsMade (sym (message-pipe plan 0 sound id x)) (make-pipe x)
 
-    pub make-is : there_after plan (Ordinary (Make id)) (at_stage plan kept st h) ≡ after
+    pub make-is : there_after plan (Make id) (at_stage plan kept st h) ≡ after
     make-is = left-told (at_stage plan kept st h) (row f (act_message plan (Make id))) after make-told

@@ -10,12 +10,11 @@ use Rattle.ipc3_model.specs.declared.message.Message.TheVariants.{CompFree, Buff
 use Rattle.tplg_plan.specs.declared.plans.Plan.{Plan}
 use Rattle.tplg_plan.specs.Sound.{IsSound, Names}
 use Rattle.host_widgets.specs.Acts.{widget_words}
-use Rattle.host_widgets.specs.ActMessages.{act_message}
-use Rattle.host_widgets.specs.HostActs.{Make}
+use Rattle.host_widgets.specs.ActMessages.{act_message, unmake_by}
+use Rattle.host_widgets.specs.HostActs.{Make, Unmake}
 use Rattle.host_widgets.proofs.MakeMessages.{is_comp_message, is_buffer_message, is_pipe_message}
 use Rattle.host_widgets.proofs.MakeStates.{message-comp, message-buffer, message-pipe}
 use Rattle.host_widgets.proofs.NamedIds.{named-at, id-fits}
-use Rattle.host_dynamic.specs.DynamicActs.{Unmake, unmake_by, dynamic_message}
 use Rattle.host_dynamic.proofs.RowsThere.{IsNoPart}
 
 module _ (plan : Plan) (sound : IsSound plan) where
@@ -59,7 +58,7 @@ module _ (plan : Plan) (sound : IsSound plan) where
   unfolding AreSlots IsSlot
   pipe-free-fits id low = ((tt, (omega arith, (id-fits plan sound id low, tt))), tt)
 
-  pub unmake-fits : (id : ℕ) → id < length plan.widgets → IsMessage (dynamic_message plan (Unmake id))
+  pub unmake-fits : (id : ℕ) → id < length plan.widgets → IsMessage (act_message plan (Unmake id))
   unmake-fits id low = by (comp_of plan.graph id) (edge_of plan.graph id)
     where
       by : (c : Option Comp) (e : Option Edge) → IsMessage (unmake_by c e id)
@@ -67,7 +66,7 @@ module _ (plan : Plan) (sound : IsSound plan) where
       by None (Some e) = buffer-free-fits id low
       by None None = pipe-free-fits id low
 
-  pub unmake-whole : (id : ℕ) → IsNoPart (dynamic_message plan (Unmake id))
+  pub unmake-whole : (id : ℕ) → IsNoPart (act_message plan (Unmake id))
   unmake-whole id = by (comp_of plan.graph id) (edge_of plan.graph id)
     where
       by : (c : Option Comp) (e : Option Edge) → IsNoPart (unmake_by c e id)

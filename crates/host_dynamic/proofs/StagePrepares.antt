@@ -31,10 +31,9 @@ use Rattle.host_widgets.proofs.LookedUp.{any-found, each-found}
 use Rattle.host_widgets.proofs.OthersAgree.{is_other, agrees-exactly}
 use Rattle.host_widgets.proofs.StreamAnswers.{rests}
 use Rattle.host_widgets.proofs.StreamPlaces.{streams-ascend}
-use Rattle.host_dynamic.specs.DynamicActs.{Ordinary}
 use Rattle.host_dynamic.specs.There.{There, there_after, row_left, silent_state}
-use Rattle.host_dynamic.specs.Need.{index_at, HasBrought, IsEnough}
-use Rattle.host_dynamic.specs.Up.{join_index, is_join_at, buffer_joins}
+use Rattle.host_dynamic.specs.Need.{HasBrought, IsEnough}
+use Rattle.host_dynamic.specs.Up.{is_join_at, buffer_joins}
 use Rattle.host_dynamic.proofs.Needs.{in-map, flat-in, in-among, has-at, host-on}
 use Rattle.host_dynamic.proofs.Between.{IsBetween, same-bools, comp-named}
 use Rattle.host_dynamic.proofs.BetweenTouches.{touch-stays}
@@ -49,6 +48,7 @@ use Rattle.host_dynamic.proofs.StageStreams.{changed_one, other-stays, streams-c
 use Rattle.host_dynamic.proofs.Sublists.{filter-all}
 use Rattle.host_dynamic.proofs.UpContext.{IsServing, join-at, ends-up}
 use Rattle.host_dynamic.proofs.UpStages.{Stage, StreamPair, stage_graph, stage_streams, at_stage, index_of_id, is_join_of, up_stage, IsAmid}
+use Rattle.host_widgets.specs.Indices.{index_at, join_index}
 
 -- ---- the stage at which all that is up is there
 
@@ -164,7 +164,7 @@ module _ (plan : Plan) (sound : IsSound plan) (kept : Record) (up n : List ℕ) 
     prepare-row-told agrees = ap told (params-row ∙ ap (λ (b : Bool). if not b then Err invalid else Ok left) agrees)
 
     pub prepare-row : agree (record { graph = stage_graph plan kept st; streams = map (set_stream host phases.Prepared (Some params)) ss }) ≡ true →
-        there_after plan (Ordinary (Prepare host params)) (record { heap = h; graph = stage_graph plan kept st; streams = ss }) ≡ record { heap = h; graph = stage_graph plan kept st; streams = map (set_stream host phases.Prepared (Some params)) ss }
+        there_after plan (Prepare host params) (record { heap = h; graph = stage_graph plan kept st; streams = ss }) ≡ record { heap = h; graph = stage_graph plan kept st; streams = map (set_stream host phases.Prepared (Some params)) ss }
     prepare-row agrees = ap (row_left t) (params-row ∙ ap (λ (b : Bool). if not b then Err invalid else Ok left) agrees)
 
   -- ---- as the record has them
@@ -242,7 +242,7 @@ module _ (plan : Plan) (sound : IsSound plan) (kept : Record) (up n : List ℕ) 
         by true = refl
         by false = λ i. Ok (record { heap = h; graph = k; streams = sym (streams-changed plan kept host (prepared_stream params) given one-shown st) i })
 
-    pub prepare-is : list_any (conflicts plan host params) (zip plan.streams kept.streams) ≡ false → there_after plan (Ordinary (Prepare host params)) (at_stage plan kept st h) ≡ at_stage plan (with_stream plan host (prepared_stream params) kept) st h
+    pub prepare-is : list_any (conflicts plan host params) (zip plan.streams kept.streams) ≡ false → there_after plan (Prepare host params) (at_stage plan kept st h) ≡ at_stage plan (with_stream plan host (prepared_stream params) kept) st h
     prepare-is free =
         left-told (at_stage plan kept st h) (pcm_params (silent_state (at_stage plan kept st h)) host (direction_of plan host) params) (at_stage plan (with_stream plan host (prepared_stream params) kept) st h)
         (prepare-told ∙ ap prepare_said free)

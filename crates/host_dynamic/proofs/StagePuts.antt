@@ -48,7 +48,6 @@ use Rattle.host_widgets.proofs.PartFacts.{few-parts, more-behind, none-behind}
 use Rattle.host_widgets.proofs.PartRows.{HasStaged, part-message, part-more, part-last, staged-then}
 use Rattle.host_widgets.proofs.PartsReady.{made-more}
 use Rattle.host_widgets.proofs.PutsTaken.{comp_while, setting_while, wanted, with_kind, volume-new, put-comp, kept-comp}
-use Rattle.host_dynamic.specs.DynamicActs.{Ordinary}
 use Rattle.host_dynamic.specs.There.{There, there_in, there_after, silent_state, by_part}
 use Rattle.host_dynamic.specs.Dynamic.{UpState}
 use Rattle.host_dynamic.proofs.RowsTold.{told, left-told}
@@ -152,7 +151,7 @@ module _ (plan : Plan) (sound : IsSound plan) (kept : Record) (st : Stage) (whol
       by b o used is = subst (λ (x : Bool × Option Setting). told (cond (not x.0) (Err no_device) (value_set f id x.1)) ≡ Ok (at_stage plan kept behind h)) (λ i. (sym used i, sym is i)) (end (is_of k is_volume id))
 
   pub value-is : (sets : List ℕ) (command : ℕ) (values : List ℕ) → put_message id sets (Some (with_kind id q)) ≡ SetValue id command values → new_setting live.comp.kind begins_with command values ≡ Some (wanted q r) →
-      there_after plan (Ordinary (Put id sets)) (at_stage plan kept before h) ≡ at_stage plan kept behind h
+      there_after plan (Put id sets) (at_stage plan kept before h) ≡ at_stage plan kept behind h
   value-is sets command values is new = left-told (at_stage plan kept before h) (row f (act_message plan (Put id sets))) (at_stage plan kept behind h) (value-told sets command values is new)
 
 -- ---- by kinds of controls
@@ -170,7 +169,7 @@ module _ (plan : Plan) (sound : IsSound plan) (s : UpState) (Mid : There → Typ
     last = at_stage plan s.kept (with_todo ks st) h
 
     -- one message that sets it
-    one-runs : (q : ControlKind) → Mid (first q) → after plan (Put id r.values) s.kept ≡ s.kept → there_after plan (Ordinary (Put id r.values)) (first q) ≡ last → Runs plan Mid (with_there plan s (first q)) (Ordinary (Put id r.values) ∷ []) (IsTodo ks)
+    one-runs : (q : ControlKind) → Mid (first q) → after plan (Put id r.values) s.kept ≡ s.kept → there_after plan (Put id r.values) (first q) ≡ last → Runs plan Mid (with_there plan s (first q)) ((Put id r.values) ∷ []) (IsTodo ks)
     one-runs q mid leaves is = (mid, leaves, λ free. is)
 
     -- a blob in its parts, of which the last puts it in force
@@ -183,7 +182,7 @@ module _ (plan : Plan) (sound : IsSound plan) (s : UpState) (Mid : There → Typ
       in-force = λ i. record { heap = h; graph = graph-set plan sound s.kept st whole h id (Blob most initial) r live there set ks apart has i; streams = stage_streams plan s.kept (with_todo ks st) }
 
       module _ (is : is_blob r.blob ≡ true) where
-        parts-run : (n k : ℕ) → k + suc n ≡ parts r.blob → Runs plan Mid (with_there plan s begun) (map Ordinary (map (Part id r.blob) (range_with_len k (suc n)))) (IsTodo ks)
+        parts-run : (n k : ℕ) → k + suc n ≡ parts r.blob → Runs plan Mid (with_there plan s begun) (map (Part id r.blob) (range_with_len k (suc n))) (IsTodo ks)
         parts-run zero k all = (mid, leaves k, λ free. by (is_last r.blob k) refl)
           where
             low : k < parts r.blob
@@ -198,33 +197,33 @@ module _ (plan : Plan) (sound : IsSound plan) (s : UpState) (Mid : There → Typ
             low = omega (arith, all)
 
             Rest : There → Type 0
-            Rest t = Runs plan Mid (with_there plan s t) (map Ordinary (map (Part id r.blob) (range_with_len (k + 1) (suc n)))) (IsTodo ks)
+            Rest t = Runs plan Mid (with_there plan s t) (map (Part id r.blob) (range_with_len (k + 1) (suc n))) (IsTodo ks)
 
             by : (b : Bool) → is_last r.blob k ≡ b → Rest begun → Rest (by_part id r.blob (is_last r.blob k) begun)
             by true e rest = absurd (let none = none-behind r.blob is k low e in omega (arith, all, none))
             by false e rest = subst Rest (sym (ap (λ (b : Bool). by_part id r.blob b begun) e)) rest
 
-        all-parts : Runs plan Mid (with_there plan s begun) (map Ordinary (part_acts id r.blob)) (IsTodo ks)
+        all-parts : Runs plan Mid (with_there plan s begun) (part_acts id r.blob) (IsTodo ks)
         all-parts = by (parts r.blob) refl (few-parts r.blob is).0
           where
-            by : (n : ℕ) → parts r.blob ≡ n → 1 ≤ n → Runs plan Mid (with_there plan s begun) (map Ordinary (map (Part id r.blob) (range_with_len 0 n))) (IsTodo ks)
+            by : (n : ℕ) → parts r.blob ≡ n → 1 ≤ n → Runs plan Mid (with_there plan s begun) (map (Part id r.blob) (range_with_len 0 n)) (IsTodo ks)
             by zero same some = absurd (omega (arith, some))
             by (suc n) same some = parts-run n 0 (let all : 0 + suc n ≡ parts r.blob = omega (arith, same) in all)
 
       -- none are sent of an empty one
-      blob-runs : is_initial r.blob ≡ true → Runs plan Mid (with_there plan s begun) (map Ordinary (part_acts id r.blob)) (IsTodo ks)
+      blob-runs : is_initial r.blob ≡ true → Runs plan Mid (with_there plan s begun) (part_acts id r.blob) (IsTodo ks)
       blob-runs ok = by r.blob refl ok
         where
           none : r.blob ≡ [] → begun ≡ last
           none bare = λ i. record { heap = h; graph = graph-kept plan sound s.kept st whole h id (Blob most initial) r live there set ks apart has (λ w kind is. ap (λ (x : Kind). first_setting (component_words x (Some (with_kind id (Blob most initial))) w)) is.0 ∙ ap settings.Blob (sym bare)) i; streams = stage_streams plan s.kept (with_todo ks st) }
 
-          by : (bytes : List ℕ) → r.blob ≡ bytes → is_initial bytes ≡ true → Runs plan Mid (with_there plan s begun) (map Ordinary (part_acts id r.blob)) (IsTodo ks)
-          by [] e is = subst (λ (bytes : List ℕ). Runs plan Mid (with_there plan s begun) (map Ordinary (part_acts id bytes)) (IsTodo ks)) (sym e) (none e)
+          by : (bytes : List ℕ) → r.blob ≡ bytes → is_initial bytes ≡ true → Runs plan Mid (with_there plan s begun) (part_acts id r.blob) (IsTodo ks)
+          by [] e is = subst (λ (bytes : List ℕ). Runs plan Mid (with_there plan s begun) (part_acts id bytes) (IsTodo ks)) (sym e) (none e)
           by (b ∷ bytes) e is = all-parts (ap is_blob e ∙ is)
 
     -- whatever its kind
     pub put-runs : (q : ControlKind) → IsLive plan.graph (with_kind id q) → control_of plan id ≡ Some (with_kind id q) → control_at plan s.kept id ≡ Some (with_kind id q, r) → Takes q r → Mid (first q) →
-        after plan (Put id r.values) s.kept ≡ s.kept → ((k : ℕ) → after plan (Part id r.blob k) s.kept ≡ s.kept) → Runs plan Mid (with_there plan s (first q)) (map Ordinary (control_acts_by id q r)) (IsTodo ks)
+        after plan (Put id r.values) s.kept ≡ s.kept → ((k : ℕ) → after plan (Part id r.blob k) s.kept ≡ s.kept) → Runs plan Mid (with_there plan s (first q)) (control_acts_by id q r) (IsTodo ks)
     put-runs (Volume min max channels lowest step mute) live there set takes mid put part =
         one-runs volume mid put (value-is plan sound s.kept st whole h id volume r live there set ks apart has r.values 0 gains refl new)
       where
@@ -267,20 +266,20 @@ module _ (plan : Plan) (sound : IsSound plan) (s : UpState) (Mid : There → Typ
 
     -- it answers a message as the rules say, and so those after it
     one-asked : (q : ControlKind) → IsMessage (act_message plan (Put id r.values)) → IsNoPart (act_message plan (Put id r.values)) → after plan (Put id r.values) s.kept ≡ s.kept → told (row (silent_state (first q)) (act_message plan (Put id r.values))) ≡ Ok last →
-        (behind : List Act) → ((f : FwState) → StagedFirst (map Ordinary behind) f) → AreAnswered plan (with_there plan s last) (map Ordinary behind) → AreAnswered plan (with_there plan s (first q)) (map Ordinary ((Put id r.values ∷ []) ++ behind))
+        (behind : List Act) → ((f : FwState) → StagedFirst behind f) → AreAnswered plan (with_there plan s last) behind → AreAnswered plan (with_there plan s (first q)) ((Put id r.values ∷ []) ++ behind)
     one-asked q fits no_part leaves said behind loose then = (
       fits,
-      λ f same staged. own-told plan (with_there plan s (first q)) (Ordinary (Put id r.values)) no_part refl f same refl last said,
+      λ f same staged. own-told plan (with_there plan s (first q)) (Put id r.values) no_part refl f same refl last said,
       λ f g staged done. loose g,
-      λ free. subst (λ (u : UpState). AreAnswered plan u (map Ordinary behind)) (λ i. record { kept = sym leaves i; up = s.up; there = sym next i }) then,
+      λ free. subst (λ (u : UpState). AreAnswered plan u behind) (λ i. record { kept = sym leaves i; up = s.up; there = sym next i }) then,
     )
       where
-        next : there_after plan (Ordinary (Put id r.values)) (first q) ≡ last
+        next : there_after plan (Put id r.values) (first q) ≡ last
         next = left-told (first q) (row (silent_state (first q)) (act_message plan (Put id r.values))) last said
 
     -- a blob in its parts
     module _ (most : ℕ) (initial : List ℕ) (live : IsLive plan.graph (with_kind id (Blob most initial))) (there : control_of plan id ≡ Some (with_kind id (Blob most initial))) (set : control_at plan s.kept id ≡ Some (with_kind id (Blob most initial), r))
-        (leaves : (k : ℕ) → after plan (Part id r.blob k) s.kept ≡ s.kept) (behind : List Act) (loose : (f : FwState) → StagedFirst (map Ordinary behind) f) (then : AreAnswered plan (with_there plan s last) (map Ordinary behind)) where
+        (leaves : (k : ℕ) → after plan (Part id r.blob k) s.kept ≡ s.kept) (behind : List Act) (loose : (f : FwState) → StagedFirst behind f) (then : AreAnswered plan (with_there plan s last) behind) where
       abbrev start : There
       start = first (Blob most initial)
 
@@ -292,7 +291,7 @@ module _ (plan : Plan) (sound : IsSound plan) (s : UpState) (Mid : There → Typ
 
       module _ (is : is_blob r.blob ≡ true) where
         -- one part, by whether it is the last
-        part-own : (k : ℕ) → k < parts r.blob → (f : FwState) → there_in f ≡ start → HasStaged id r.blob k f → IsOwn plan (with_there plan s start) (Ordinary (Part id r.blob k)) f
+        part-own : (k : ℕ) → k < parts r.blob → (f : FwState) → there_in f ≡ start → HasStaged id r.blob k f → IsOwn plan (with_there plan s start) (Part id r.blob k) f
         part-own k low f same staged = by (is_last r.blob k) refl
           where
             comp : Comp
@@ -308,12 +307,12 @@ module _ (plan : Plan) (sound : IsSound plan) (s : UpState) (Mid : There → Typ
         part-fits : (k : ℕ) → k < parts r.blob → IsMessage (act_message plan (Part id r.blob k))
         part-fits k low = part-message id r.blob is k low (id-fits plan sound id (component-found plan sound id live.comp live.there).low)
 
-        parts-asked : (n k : ℕ) → k + suc n ≡ parts r.blob → AreAnswered plan (with_there plan s start) (map Ordinary (part_acts_from k (suc n) ++ behind))
+        parts-asked : (n k : ℕ) → k + suc n ≡ parts r.blob → AreAnswered plan (with_there plan s start) (part_acts_from k (suc n) ++ behind)
         parts-asked zero k all = (
           part-fits k low,
           λ f same staged. part-own k low f same staged,
           λ f g staged done. loose g,
-          λ free. subst (λ (u : UpState). AreAnswered plan u (map Ordinary behind)) (λ i. record { kept = sym (leaves k) i; up = s.up; there = sym (next (is_last r.blob k) refl) i }) then,
+          λ free. subst (λ (u : UpState). AreAnswered plan u behind) (λ i. record { kept = sym (leaves k) i; up = s.up; there = sym (next (is_last r.blob k) refl) i }) then,
         )
           where
             low : k < parts r.blob
@@ -342,31 +341,31 @@ module _ (plan : Plan) (sound : IsSound plan) (s : UpState) (Mid : There → Typ
             stays : by_part id r.blob (is_last r.blob k) start ≡ start
             stays = ap (λ (b : Bool). by_part id r.blob b start) more-yet
 
-            on : AreAnswered plan (with_there plan s start) (map Ordinary (part_acts_from (k + 1) (suc n) ++ behind)) →
-                AreAnswered plan (record { kept = after plan (Part id r.blob k) s.kept; up = s.up; there = by_part id r.blob (is_last r.blob k) start }) (map Ordinary (part_acts_from (k + 1) (suc n) ++ behind))
-            on rest = subst (λ (u : UpState). AreAnswered plan u (map Ordinary (part_acts_from (k + 1) (suc n) ++ behind))) (λ i. record { kept = sym (leaves k) i; up = s.up; there = sym stays i }) rest
+            on : AreAnswered plan (with_there plan s start) (part_acts_from (k + 1) (suc n) ++ behind) →
+                AreAnswered plan (record { kept = after plan (Part id r.blob k) s.kept; up = s.up; there = by_part id r.blob (is_last r.blob k) start }) (part_acts_from (k + 1) (suc n) ++ behind)
+            on rest = subst (λ (u : UpState). AreAnswered plan u (part_acts_from (k + 1) (suc n) ++ behind)) (λ i. record { kept = sym (leaves k) i; up = s.up; there = sym stays i }) rest
 
-        all-asked : AreAnswered plan (with_there plan s start) (map Ordinary (part_acts id r.blob ++ behind))
+        all-asked : AreAnswered plan (with_there plan s start) (part_acts id r.blob ++ behind)
         all-asked = by (parts r.blob) refl (few-parts r.blob is).0
           where
-            by : (n : ℕ) → parts r.blob ≡ n → 1 ≤ n → AreAnswered plan (with_there plan s start) (map Ordinary (part_acts_from 0 n ++ behind))
+            by : (n : ℕ) → parts r.blob ≡ n → 1 ≤ n → AreAnswered plan (with_there plan s start) (part_acts_from 0 n ++ behind)
             by zero same some = absurd (omega (arith, some))
             by (suc n) same some = parts-asked n 0 (let all : 0 + suc n ≡ parts r.blob = omega (arith, same) in all)
 
-      blob-asked : is_initial r.blob ≡ true → AreAnswered plan (with_there plan s start) (map Ordinary (part_acts id r.blob ++ behind))
+      blob-asked : is_initial r.blob ≡ true → AreAnswered plan (with_there plan s start) (part_acts id r.blob ++ behind)
       blob-asked ok = by r.blob refl ok
         where
           none : r.blob ≡ [] → start ≡ last
           none bare = λ i. record { heap = h; graph = graph-kept plan sound s.kept st whole h id (Blob most initial) r live there set ks apart has (λ w kind is. ap (λ (x : Kind). first_setting (component_words x (Some (with_kind id (Blob most initial))) w)) is.0 ∙ ap settings.Blob (sym bare)) i; streams = stage_streams plan s.kept (with_todo ks st) }
 
-          by : (bytes : List ℕ) → r.blob ≡ bytes → is_initial bytes ≡ true → AreAnswered plan (with_there plan s start) (map Ordinary (part_acts id r.blob ++ behind))
-          by [] e is = subst (λ (bytes : List ℕ). AreAnswered plan (with_there plan s start) (map Ordinary (part_acts id bytes ++ behind))) (sym e)
-              (subst (λ (t : There). AreAnswered plan (with_there plan s t) (map Ordinary behind)) (sym (none e)) then)
+          by : (bytes : List ℕ) → r.blob ≡ bytes → is_initial bytes ≡ true → AreAnswered plan (with_there plan s start) (part_acts id r.blob ++ behind)
+          by [] e is = subst (λ (bytes : List ℕ). AreAnswered plan (with_there plan s start) (part_acts id bytes ++ behind)) (sym e)
+              (subst (λ (t : There). AreAnswered plan (with_there plan s t) behind) (sym (none e)) then)
           by (b ∷ bytes) e is = all-asked (ap is_blob e ∙ is)
 
     -- whatever its kind
     pub put-asked : (q : ControlKind) → IsLive plan.graph (with_kind id q) → control_of plan id ≡ Some (with_kind id q) → control_at plan s.kept id ≡ Some (with_kind id q, r) → Takes q r → after plan (Put id r.values) s.kept ≡ s.kept → ((k : ℕ) → after plan (Part id r.blob k) s.kept ≡ s.kept) →
-        (behind : List Act) → ((f : FwState) → StagedFirst (map Ordinary behind) f) → AreAnswered plan (with_there plan s last) (map Ordinary behind) → AreAnswered plan (with_there plan s (first q)) (map Ordinary (control_acts_by id q r ++ behind))
+        (behind : List Act) → ((f : FwState) → StagedFirst behind f) → AreAnswered plan (with_there plan s last) behind → AreAnswered plan (with_there plan s (first q)) (control_acts_by id q r ++ behind)
     put-asked (Volume min max channels lowest step mute) live there set takes put part behind loose then =
         one-asked volume (subst IsMessage (sym says) (set-message id 0 gains (id-fits plan sound id (component-found plan sound id live.comp live.there).low) (omega arith) (omega (arith, long, live.kind.3)) (omega (arith, long, live.kind.4)) (gains-are volume r.values)))
         (subst IsNoPart (sym says) tt) put (value-told plan sound s.kept st whole h id volume r live there set ks apart has r.values 0 gains refl new) behind loose then

@@ -32,7 +32,6 @@ use Rattle.host_widgets.specs.HostActs.{Trig, Free, triggered_found, triggered_s
 use Rattle.host_widgets.specs.Kept.{changed, with_stream}
 use Rattle.host_widgets.specs.StreamStands.{takes_trigger}
 use Rattle.host_widgets.proofs.LookedUp.{found-map}
-use Rattle.host_dynamic.specs.DynamicActs.{Ordinary}
 use Rattle.host_dynamic.specs.There.{there_after, silent_state}
 use Rattle.host_dynamic.proofs.RowsTold.{told, left-told}
 use Rattle.host_dynamic.proofs.HostStreams.{IsHostKind, stream-comp}
@@ -135,7 +134,7 @@ module _ (plan : Plan) (sound : IsSound plan) (kept : Record) (st : Stage) (whol
           (λ e. ap (λ (b : Bool). cond b (record { host = q.0.host; phase = phases.Idle; params = None }) (stream_view q)) (sym e))
           (λ e. ap (λ (b : Bool). cond b (record { host = q.0.host; phase = phases.Idle; params = None }) (stream_view q)) e)
 
-  pub free-is : p.1.found ≡ founds.Prepared → there_after plan (Ordinary (Free host)) (at_stage plan kept st h) ≡ at_stage plan (with_stream plan host (λ r. closed) kept) st h
+  pub free-is : p.1.found ≡ founds.Prepared → there_after plan (Free host) (at_stage plan kept st h) ≡ at_stage plan (with_stream plan host (λ r. closed) kept) st h
   free-is prepared = left-told (at_stage plan kept st h) (pcm_free g host) (at_stage plan (with_stream plan host (λ r. closed) kept) st h) (free-told prepared)
 
   -- ---- triggers
@@ -169,5 +168,5 @@ module _ (plan : Plan) (sound : IsSound plan) (kept : Record) (st : Stage) (whol
   trigger-told Pause takes = changed-row is_running_phase (set_phase host phases.Paused) (leads-from Pause p.1.found takes) ∙ (λ i. Ok (triggered-there Pause i))
   trigger-told Release takes = changed-row is_paused (set_phase host phases.Running) (leads-from Release p.1.found takes) ∙ (λ i. Ok (triggered-there Release i))
 
-  pub trigger-is : (what : Trigger) → takes_trigger what p.1.found ≡ true → there_after plan (Ordinary (Trig host what)) (at_stage plan kept st h) ≡ at_stage plan (with_stream plan host (triggered_stream what) kept) st h
+  pub trigger-is : (what : Trigger) → takes_trigger what p.1.found ≡ true → there_after plan (Trig host what) (at_stage plan kept st h) ≡ at_stage plan (with_stream plan host (triggered_stream what) kept) st h
   trigger-is what takes = left-told (at_stage plan kept st h) (row g (trigger_message host what)) (at_stage plan (with_stream plan host (triggered_stream what) kept) st h) (trigger-told what takes)

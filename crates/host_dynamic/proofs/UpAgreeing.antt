@@ -16,7 +16,6 @@ use Rattle.host_widgets.specs.ActRules.{ActRules}
 use Rattle.host_widgets.specs.Host.{Outcome, SidesBy}
 use Rattle.host_widgets.specs.Routines.{Job, JobDone, JobTested}
 use Rattle.host_widgets.specs.Walk.{walk}
-use Rattle.host_dynamic.specs.DynamicActs.{DynamicAct, Unmake}
 use Rattle.host_dynamic.specs.Dynamic.{UpState, up_act_rules}
 use Rattle.host_dynamic.specs.There.{there_in, there_view}
 use Rattle.host_dynamic.specs.Up.{up_view}
@@ -25,6 +24,7 @@ use Rattle.host_dynamic.specs.UpStates.{IsThereBy, IsUpState}
 use Rattle.host_dynamic.proofs.JobLegs.{HasGone}
 use Rattle.host_dynamic.proofs.UpSending.{StagedFirst, HasSent}
 use Rattle.host_dynamic.proofs.UpWalks.{Keeps, routine-keeps}
+use Rattle.host_widgets.specs.HostActs.{Act, Unmake}
 
 -- a device is on where the power is, and else off
 abbrev pub IsSwitched : Power → Option FwState → Type 0
@@ -71,11 +71,11 @@ module _ {D : Type 0} (means : Meaning D) (plan : Plan) where
       by powers.Unloaded off switched = switched
 
   -- a state that a job leaves is one in which what is up is there
-  pub done-state : (heap : ℕ) (job : Job UpState DynamicAct) (now : UpState) (w v : World D) (result : Outcome) → (d : JobDone means (up_act_rules plan) heap job now w v result) → Keeps plan next_of (IsUpState plan) job.from d.meetings job.routine → IsUpState plan now
+  pub done-state : (heap : ℕ) (job : Job UpState Act) (now : UpState) (w v : World D) (result : Outcome) → (d : JobDone means (up_act_rules plan) heap job now w v result) → Keeps plan next_of (IsUpState plan) job.from d.meetings job.routine → IsUpState plan now
   done-state heap job now w v result d keeps = subst (IsUpState plan) (sym d.left) (routine-keeps plan next_of (IsUpState plan) job.from d.meetings job.routine keeps)
 
   -- what was sent, as one leg of a job
-  pub gone-of : (u : UpState) (acts passed : List DynamicAct) (w v : World D) (result : Outcome) → (h : HasSent plan means u acts passed w v result) → HasGone means (up_act_rules plan) u acts false w v (walk (up_act_rules plan) false next_of u h.meetings acts).kept result
+  pub gone-of : (u : UpState) (acts passed : List Act) (w v : World D) (result : Outcome) → (h : HasSent plan means u acts passed w v result) → HasGone means (up_act_rules plan) u acts false w v (walk (up_act_rules plan) false next_of u h.meetings acts).kept result
   gone-of u acts passed w v result h = record { meetings = h.meetings; did = h.did; came = h.came; left_is = refl }
 
   -- a device that was cut is off, and nothing is there
@@ -101,20 +101,20 @@ module _ {D S A : Type 0} (means : Meaning D) (rules : ActRules S A) (heap : ℕ
   late-tested test job kept kept' w v result none done = record { early = λ fault at. absurd (cc (sym none ∙ at)); late = λ same. done }
 
 -- it did as its test and its job say, and what is up agrees with the device then
-pub record IsCalled {D : Type 0} (means : Meaning D) (plan : Plan) (heap : ℕ) (test : Option HostFault) (job : Job UpState DynamicAct) (s : UpState) (kept' : Record) (up' : List ℕ) (w v : World D) (result : Outcome) : Type 0 where
+pub record IsCalled {D : Type 0} (means : Meaning D) (plan : Plan) (heap : ℕ) (test : Option HostFault) (job : Job UpState Act) (s : UpState) (kept' : Record) (up' : List ℕ) (w v : World D) (result : Outcome) : Type 0 where
   pub tested : JobTested means (up_act_rules plan) heap test job s (up_state_in means kept' up' v.device) w v result
   pub state : IsUpState plan (up_state_in means kept' up' v.device)
   pub agree : UpAgrees means plan kept' up' v.device
 
 module _ {D : Type 0} (means : Meaning D) (plan : Plan) (heap : ℕ) (kept : Record) (up : List ℕ) (w : World D) where
   -- a fault was reported before any message
-  pub called-early : IsUpState plan (up_state_in means kept up w.device) → UpAgrees means plan kept up w.device → (test : Option HostFault) (job : Job UpState DynamicAct) (fault : HostFault) (result : Outcome) → test ≡ Some fault → result ≡ Err fault →
+  pub called-early : IsUpState plan (up_state_in means kept up w.device) → UpAgrees means plan kept up w.device → (test : Option HostFault) (job : Job UpState Act) (fault : HostFault) (result : Outcome) → test ≡ Some fault → result ≡ Err fault →
       IsCalled means plan heap test job (up_state_in means kept up w.device) kept up w w result
   called-early is agree test job fault result at told =
       record { tested = early-tested means (up_act_rules plan) heap test job (up_state_in means kept up w.device) w result fault at told; state = is; agree = agree }
 
   -- its job was done
-  pub called-late : (test : Option HostFault) (job : Job UpState DynamicAct) (kept' : Record) (up' : List ℕ) (v : World D) (result : Outcome) → test ≡ None → JobDone means (up_act_rules plan) heap job (up_state_in means kept' up' v.device) w v result →
+  pub called-late : (test : Option HostFault) (job : Job UpState Act) (kept' : Record) (up' : List ℕ) (v : World D) (result : Outcome) → test ≡ None → JobDone means (up_act_rules plan) heap job (up_state_in means kept' up' v.device) w v result →
       IsUpState plan (up_state_in means kept' up' v.device) → IsSwitched kept'.power (means.on v.device) → IsCalled means plan heap test job (up_state_in means kept up w.device) kept' up' w v result
   called-late test job kept' up' v result none done state switched = record {
     tested = late-tested means (up_act_rules plan) heap test job (up_state_in means kept up w.device) (up_state_in means kept' up' v.device) w v result none done;

@@ -1,6 +1,6 @@
 -- An order whose messages were answered is a job that is done by the rules of a host that makes pipelines on use, where the firmware answers
 -- them as these rules say.
-use Rattle.std.proofs.Common.{◌≡◌, refl, sym, ap, subst, ◌∙◌, ℕ, Bool, List, [], ◌∷◌, map, true, false, Option, Some, None, Result, Ok, Err}
+use Rattle.std.proofs.Common.{◌≡◌, refl, sym, ap, subst, ◌∙◌, ℕ, Bool, List, [], ◌∷◌, true, false, Option, Some, None, Result, Ok, Err}
 use Rattle.std.specs.Prelude.{MatchResult, is_some, if◌then◌else◌}
 use Rattle.std.proofs.lemmas.List.{append-nil}
 use Rattle.stream_law.specs.Past.{Moment}
@@ -18,7 +18,7 @@ use Rattle.host_widgets.specs.declared.kept.Record.{Record}
 use Rattle.host_widgets.specs.ActCalls.{calls_of, next_of}
 use Rattle.host_widgets.specs.AnsweredOrders.{ActsAnswered, OrderAnswered, TestedAnswered}
 use Rattle.host_widgets.specs.Host.{Outcome, verdict}
-use Rattle.host_widgets.specs.HostActs.{Act, Make, Join, Put, Part, Finish, Prepare, Trig, Free, Save, Ask, after, with_blob}
+use Rattle.host_widgets.specs.HostActs.{Act, Make, Join, Put, Part, Finish, Prepare, Trig, Free, Save, Ask, Unmake, after, with_blob}
 use Rattle.host_widgets.specs.Kept.{with_control}
 use Rattle.host_widgets.specs.Orders.{Procedure, plain_end, sends}
 use Rattle.host_widgets.specs.Routines.{JobDone, JobTested}
@@ -27,11 +27,10 @@ use Rattle.host_widgets.proofs.AnsweredActs.{Answering}
 use Rattle.host_widgets.proofs.Exchanges.{state_of}
 use Rattle.host_widgets.proofs.PlainOrders.{same-end}
 use Rattle.host_dynamic.specs.Dynamic.{UpState, plain_job, settled, there_by, up_act_rules}
-use Rattle.host_dynamic.specs.DynamicActs.{DynamicAct, Ordinary}
-use Rattle.host_dynamic.specs.ListCalls.{DynamicSent}
 use Rattle.host_dynamic.specs.There.{nowhere, there_in}
 use Rattle.host_dynamic.specs.UpDevices.{there_on, up_state_in}
 use Rattle.host_dynamic.proofs.UpSending.{AreAnswered, EndsThere, HasSent, StagedFirst, after_all, sent-did}
+use Rattle.host_widgets.specs.MadeLists.{ActsPassed}
 
 module _ (plan : Plan) where
   -- acts that passed leave the power, and what is up
@@ -50,14 +49,15 @@ module _ (plan : Plan) where
   after-power (Free host) now = refl
   after-power Save now = refl
   after-power (Ask comp k) now = refl
+  after-power (Unmake id) now = refl
 
-  pub all-power : (acts : List Act) (u : UpState) → (after_all plan u (map Ordinary acts)).kept.power ≡ u.kept.power
+  pub all-power : (acts : List Act) (u : UpState) → (after_all plan u acts).kept.power ≡ u.kept.power
   all-power [] u = refl
-  all-power (act ∷ acts) u = all-power acts ((up_act_rules plan).after (Ordinary act) u) ∙ after-power act u.kept
+  all-power (act ∷ acts) u = all-power acts ((up_act_rules plan).after act u) ∙ after-power act u.kept
 
-  pub all-up : (acts : List Act) (u : UpState) → (after_all plan u (map Ordinary acts)).up ≡ u.up
+  pub all-up : (acts : List Act) (u : UpState) → (after_all plan u acts).up ≡ u.up
   all-up [] u = refl
-  all-up (act ∷ acts) u = all-up acts ((up_act_rules plan).after (Ordinary act) u)
+  all-up (act ∷ acts) u = all-up acts ((up_act_rules plan).after act u)
 
   module _ {D : Type 0} (means : Meaning D) (heap : ℕ) (done : Record → Record) where
     -- what is left of a record, by the result of all
@@ -68,23 +68,23 @@ module _ (plan : Plan) where
     pub record Split (u : UpState) (acts : List Act) (kept' : Record) (w v : World D) (result : Outcome) : Type 0 where
       pub passed : List Act
       pub sent : World D
-      pub did : DynamicSent means plan (map Ordinary acts) (map Ordinary passed) w sent result
-      pub ends : LeftSo (after_all plan u (map Ordinary passed)).kept kept' sent v result
+      pub did : ActsPassed means plan acts passed w sent result
+      pub ends : LeftSo (after_all plan u passed).kept kept' sent v result
 
     pub split : (acts : List Act) (u : UpState) (kept' : Record) (w v : World D) (result : Outcome) → ActsAnswered means plan heap done acts u.kept kept' w v result → Split u acts kept' w v result
     split [] u kept' w v result (left, stays, is) = record { passed = []; sent = w; did = (refl, refl, is); ends = subst (LeftSo u.kept kept' w v) (sym is) (left, stays) }
-    split (act ∷ acts) u kept' w v result (mid, answer, e, more) = by (verdict answer) refl more (λ rest. split acts ((up_act_rules plan).after (Ordinary act) u) kept' mid v result rest)
+    split (act ∷ acts) u kept' w v result (mid, answer, e, more) = by (verdict answer) refl more (λ rest. split acts ((up_act_rules plan).after act u) kept' mid v result rest)
       where
-        Behind : List DynamicAct → World D → Result Reply HostFault → Type 0
+        Behind : List Act → World D → Result Reply HostFault → Type 0
         Behind passed sent r = MatchResult r
-            (λ reply. (rest : List DynamicAct) × (passed ≡ Ordinary act ∷ rest) × DynamicSent means plan (map Ordinary acts) rest mid sent result)
+            (λ reply. (rest : List Act) × (passed ≡ act ∷ rest) × ActsPassed means plan acts rest mid sent result)
             (λ fault. (passed ≡ []) × (sent ≡ mid) × (result ≡ Err fault))
 
         by : (r : Result Reply HostFault) → verdict answer ≡ r → Answering means plan heap done act acts u.kept kept' mid v result r →
-            (ActsAnswered means plan heap done acts (after plan act u.kept) kept' mid v result → Split ((up_act_rules plan).after (Ordinary act) u) acts kept' mid v result) → Split u (act ∷ acts) kept' w v result
+            (ActsAnswered means plan heap done acts (after plan act u.kept) kept' mid v result → Split ((up_act_rules plan).after act u) acts kept' mid v result) → Split u (act ∷ acts) kept' w v result
         by (Ok reply) is rest go =
             let s = go rest in
-            record { passed = act ∷ s.passed; sent = s.sent; did = (mid, answer, e, subst (Behind (Ordinary act ∷ map Ordinary s.passed) s.sent) (sym is) (map Ordinary s.passed, refl, s.did)); ends = s.ends }
+            record { passed = act ∷ s.passed; sent = s.sent; did = (mid, answer, e, subst (Behind (act ∷ s.passed) s.sent) (sym is) (s.passed, refl, s.did)); ends = s.ends }
         by (Err fault) is (failed, end) go = record {
           passed = [];
           sent = mid;
@@ -95,18 +95,18 @@ module _ (plan : Plan) where
     -- ---- where the power is on
 
     module _ (keeps : (now : Record) → (done now).power ≡ now.power) (u : UpState) (power : u.kept.power ≡ powers.On) (acts : List Act) (w : World D) (f : FwState) (on : means.on w.device ≡ Some f) (same : there_in f ≡ u.there)
-        (staged : StagedFirst (map Ordinary acts) f) (answered : AreAnswered plan u (map Ordinary acts)) (kept' : Record) (v : World D) (result : Outcome) (x : ActsAnswered means plan heap done acts u.kept kept' w v result) where
+        (staged : StagedFirst acts f) (answered : AreAnswered plan u acts) (kept' : Record) (v : World D) (result : Outcome) (x : ActsAnswered means plan heap done acts u.kept kept' w v result) where
       s : Split u acts kept' w v result
       s = split acts u kept' w v result x
 
-      h : HasSent plan means u (map Ordinary acts) (map Ordinary s.passed) w s.sent result
-      h = sent-did plan means (map Ordinary acts) (map Ordinary s.passed) u w s.sent result f on same staged answered s.did
+      h : HasSent plan means u acts s.passed w s.sent result
+      h = sent-did plan means acts s.passed u w s.sent result f on same staged answered s.did
 
       abbrev now : UpState
-      now = (walk (up_act_rules plan) false next_of u h.meetings (map Ordinary acts)).kept
+      now = (walk (up_act_rules plan) false next_of u h.meetings acts).kept
 
       abbrev came : Outcome
-      came = (walk (up_act_rules plan) false next_of u h.meetings (map Ordinary acts)).outcome
+      came = (walk (up_act_rules plan) false next_of u h.meetings acts).outcome
 
       ends : LeftSo now.kept kept' s.sent v came
       ends = subst (λ (y : UpState × Outcome). LeftSo y.0.kept kept' s.sent v y.1) (λ i. (sym h.left i, h.came i)) s.ends
@@ -178,7 +178,7 @@ module _ (plan : Plan) where
       }
 
       pub sends-job : ((now : Record) → (done now).power ≡ now.power) → (kept.power ≡ powers.On → is_some (means.on w.device) ≡ true) → ((kept.power ≡ powers.On → ⊥) → means.on w.device ≡ None) → (acts : List Act) (answer : Answer) →
-          ((f : FwState) → StagedFirst (map Ordinary acts) f) → (kept.power ≡ powers.On → AreAnswered plan at_first (map Ordinary acts)) → (kept' : Record) (v : World D) (result : Outcome) →
+          ((f : FwState) → StagedFirst acts f) → (kept.power ≡ powers.On → AreAnswered plan at_first acts) → (kept' : Record) (v : World D) (result : Outcome) →
           OrderAnswered means plan heap (sends kept.power acts done answer) kept kept' w v result → JobDone means (up_act_rules plan) heap (plain_job plan at_first (sends kept.power acts done answer)) (up_state_in means kept' up v.device) w v result
       sends-job keeps on off acts answer staged answered kept' v result x = by kept.power refl x
         where

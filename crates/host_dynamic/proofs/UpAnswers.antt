@@ -26,8 +26,8 @@ use Rattle.host_widgets.specs.declared.kept.Power.TheVariants as powers
 use Rattle.host_widgets.specs.declared.trigger.Trigger.{Trigger}
 use Rattle.host_widgets.specs.declared.trigger.Trigger.TheVariants.{Start, Stop, Pause, Release}
 use Rattle.host_widgets.specs.Acts.{trigger_message}
-use Rattle.host_widgets.specs.ActMessages.{set_message}
-use Rattle.host_widgets.specs.HostActs.{Put, Part, Trig, Free, Save, Ask, triggered_stream, with_values}
+use Rattle.host_widgets.specs.ActMessages.{set_message, act_message}
+use Rattle.host_widgets.specs.HostActs.{Put, Part, Trig, Free, Save, Ask, triggered_stream, with_values, Act}
 use Rattle.host_widgets.specs.HostRecord.{closed}
 use Rattle.host_widgets.specs.Kept.{control_at, with_control, with_stream}
 use Rattle.host_widgets.specs.StreamStands.{takes_trigger}
@@ -42,7 +42,6 @@ use Rattle.host_ctl.proofs.ControlsTaken.{puts, asks}
 use Rattle.host_ctl.proofs.ControlsThere.{live, at-here, was-here}
 use Rattle.host_ctl.proofs.PutAnswers.{used-comp, values_by, values-at, asked-answers}
 use Rattle.host_pcm.specs.Asks.{is_closed}
-use Rattle.host_dynamic.specs.DynamicActs.{DynamicAct, Ordinary, dynamic_message}
 use Rattle.host_dynamic.specs.There.{There, there_in, by_row, by_part, there_after, silent_state}
 use Rattle.host_dynamic.specs.Dynamic.{UpState, up_own}
 use Rattle.host_dynamic.specs.UpStates.{IsUpState}
@@ -78,23 +77,23 @@ module _ (plan : Plan) (sound : IsSound plan) (s : UpState) (is : IsUpState plan
   standing = (begun plan sound s.up 0 s is refl on).is
 
   -- what a firmware takes in which what is up is there, each takes in which this is there
-  own-so : (act : DynamicAct) → IsNoPart (dynamic_message plan act) → up_own plan s act ≡ None → there_after plan act s.there ≡ by_row plan act s.there → (now : There) →
-      told (row (silent_state (at_stage plan s.kept st s.there.heap)) (dynamic_message plan act)) ≡ Ok now → IsOwn plan s act f
-  own-so act no_part free rows now done = own-told plan s act no_part rows f same free now (ap (λ (t : There). told (row (silent_state t) (dynamic_message plan act))) standing ∙ done)
+  own-so : (act : Act) → IsNoPart (act_message plan act) → up_own plan s act ≡ None → there_after plan act s.there ≡ by_row plan act s.there → (now : There) →
+      told (row (silent_state (at_stage plan s.kept st s.there.heap)) (act_message plan act)) ≡ Ok now → IsOwn plan s act f
+  own-so act no_part free rows now done = own-told plan s act no_part rows f same free now (ap (λ (t : There). told (row (silent_state t) (act_message plan act))) standing ∙ done)
 
   -- ---- streams
 
   module _ (host : ℕ) (p : StreamPair) (found : find (λ (q : StreamPair). q.0.host == host) (zip plan.streams s.kept.streams) ≡ Some p) where
-    pub own-trigger : (what : Trigger) → takes_trigger what p.1.found ≡ true → IsOwn plan s (Ordinary (Trig host what)) f
-    own-trigger what moves = own-so (Ordinary (Trig host what)) (no-trigger host what) refl refl (at_stage plan (with_stream plan host (triggered_stream what) s.kept) st s.there.heap)
+    pub own-trigger : (what : Trigger) → takes_trigger what p.1.found ≡ true → IsOwn plan s (Trig host what) f
+    own-trigger what moves = own-so (Trig host what) (no-trigger host what) refl refl (at_stage plan (with_stream plan host (triggered_stream what) s.kept) st s.there.heap)
         (trigger-told plan sound s.kept st (whole plan sound s.up host s) s.there.heap host p found (has plan sound s.up host s is refl on p found (takes-open what p.1.found moves)) what moves)
 
-    pub own-free : p.1.found ≡ founds.Prepared → IsOwn plan s (Ordinary (Free host)) f
-    own-free prepared = own-so (Ordinary (Free host)) tt refl refl (at_stage plan (with_stream plan host (λ r. closed) s.kept) st s.there.heap)
+    pub own-free : p.1.found ≡ founds.Prepared → IsOwn plan s (Free host) f
+    own-free prepared = own-so (Free host) tt refl refl (at_stage plan (with_stream plan host (λ r. closed) s.kept) st s.there.heap)
         (free-told plan sound s.kept st (whole plan sound s.up host s) s.there.heap host p found (has plan sound s.up host s is refl on p found (ap is_closed prepared)) prepared)
 
   -- before the power is cut
-  pub own-save : IsOwn plan s (Ordinary Save) f
+  pub own-save : IsOwn plan s Save f
   own-save = λ i. Ok (same i)
 
   -- ---- controls
@@ -109,8 +108,8 @@ module _ (plan : Plan) (sound : IsSound plan) (s : UpState) (is : IsUpState plan
     abbrev here : IsLive plan.graph k
     here = live plan sound s.kept is.record_is i low
 
-    pub own-put : (values : List ℕ) → MaySet k.kind values → IsOwn plan s (Ordinary (Put k.comp values)) f
-    own-put values may = own-so (Ordinary (Put k.comp values)) (subst IsNoPart (sym (puts plan sound s.kept is.record_is i low values may)) (no-set k.comp values k.kind)) refl refl
+    pub own-put : (values : List ℕ) → MaySet k.kind values → IsOwn plan s (Put k.comp values) f
+    own-put values may = own-so (Put k.comp values) (subst IsNoPart (sym (puts plan sound s.kept is.record_is i low values may)) (no-set k.comp values k.kind)) refl refl
         (at_stage plan (with_control plan k.comp (with_values values) s.kept) st s.there.heap) (put-told plan sound s is i low values may up s.there.heap)
 
     -- its component, as the record sets it
@@ -122,7 +121,7 @@ module _ (plan : Plan) (sound : IsSound plan) (s : UpState) (is : IsUpState plan
         ap (λ (id : ℕ). record_setting here.comp.kind (control_at plan s.kept id)) (found-is (λ (c : Comp). c.id) plan.graph.comps k.comp here.comp here.there)
         ∙ ap (record_setting here.comp.kind) (at-here plan sound s.kept is.record_is i low)
 
-    pub own-ask : (command : ℕ) → value_command k.kind ≡ Some command → IsOwn plan s (Ordinary (Ask k.comp 0)) f
+    pub own-ask : (command : ℕ) → value_command k.kind ≡ Some command → IsOwn plan s (Ask k.comp 0) f
     own-ask command at =
         ap (λ (m : Message). told (row f m)) (asks plan sound s.kept is.record_is i low command at)
         ∙ ap told (asked-answers f k.comp (set_comp plan s.kept here.comp) shown-comp r command (values_by r k.kind)
@@ -130,7 +129,7 @@ module _ (plan : Plan) (sound : IsSound plan) (s : UpState) (is : IsUpState plan
         ∙ (λ j. Ok ((same ∙ sym (asks-stay plan k.comp 0 s.there)) j))
 
     -- a part of its blob is asked for
-    pub own-ask-part : (most : ℕ) (initial : List ℕ) → k.kind ≡ Blob most initial → (j : ℕ) → j < parts r.blob → IsOwn plan s (Ordinary (Ask k.comp j)) f
+    pub own-ask-part : (most : ℕ) (initial : List ℕ) → k.kind ≡ Blob most initial → (j : ℕ) → j < parts r.blob → IsOwn plan s (Ask k.comp j) f
     own-ask-part most initial kind j few =
         ap (λ (m : Message). told (row f m)) (part-asks plan sound s.kept is.record_is i low most initial kind j few)
         ∙ by (is_used f.graph k.comp) (is_some (part_at f.graph k.comp j)) (used-comp f.graph k.comp (set_comp plan s.kept here.comp) shown-comp) some
@@ -150,7 +149,7 @@ module _ (plan : Plan) (sound : IsSound plan) (s : UpState) (is : IsUpState plan
         by a b is_a is_b = rw (is_a, is_b) refl
 
     -- a part of a blob is sent, where those before it are staged
-    pub own-part : (blob : List ℕ) → MayInstall k.kind blob → (j : ℕ) → j < parts blob → HasStaged k.comp blob j f → IsOwn plan s (Ordinary (Part k.comp blob j)) f
+    pub own-part : (blob : List ℕ) → MayInstall k.kind blob → (j : ℕ) → j < parts blob → HasStaged k.comp blob j f → IsOwn plan s (Part k.comp blob j) f
     own-part blob may j few staged = by (is_last blob j) refl
       where
         whole-blob : is_blob blob ≡ true

@@ -36,7 +36,6 @@ use Rattle.host_ctl.proofs.BlobCalls.{a-blob}
 use Rattle.host_ctl.proofs.BlobTaken.{part-taken}
 use Rattle.host_ctl.proofs.ControlParts.{part-is}
 use Rattle.host_ctl.proofs.ControlsTaken.{put-is, ask-fits}
-use Rattle.host_dynamic.specs.DynamicActs.{Ordinary}
 use Rattle.host_dynamic.specs.There.{There, by_part}
 use Rattle.host_dynamic.specs.Dynamic.{UpState}
 use Rattle.host_dynamic.specs.UpStates.{IsUpState}
@@ -58,18 +57,18 @@ module _ (plan : Plan) (sound : IsSound plan) (s : UpState) (is : IsUpState plan
         let there = find-in (λ (q : StreamPair). q.0.host == host) (zip plan.streams s.kept.streams) p found in
         in-any (λ (x : StreamPlan). x.host == host) plan.streams p.0 (in-zip plan.streams s.kept.streams p there.0).0 there.1
 
-    pub trigger-answered : (what : Trigger) → takes_trigger what p.1.found ≡ true → AreAnswered plan s (map Ordinary (Trig host what ∷ []))
+    pub trigger-answered : (what : Trigger) → takes_trigger what p.1.found ≡ true → AreAnswered plan s (Trig host what ∷ [])
     trigger-answered what moves = (trigger-fits plan sound host some what, λ f same staged. own-trigger plan sound s is on f same host p found what moves, λ f g staged done. tt, λ free. tt)
 
-    pub params-answered : (params : Params) → are_in_range params ≡ true → takes_params p.1.found ≡ true → AreAnswered plan s (map Ordinary (Prepare host params ∷ []))
+    pub params-answered : (params : Params) → are_in_range params ≡ true → takes_params p.1.found ≡ true → AreAnswered plan s (Prepare host params ∷ [])
     params-answered params range takes = (params-fit plan sound host some params range, λ f same staged. own-prepare plan sound s is on host p found takes params range f same, λ f g staged done. tt, λ free. tt)
 
-    freed-answered : p.1.found ≡ founds.Prepared → AreAnswered plan s (map Ordinary (Free host ∷ []))
+    freed-answered : p.1.found ≡ founds.Prepared → AreAnswered plan s (Free host ∷ [])
     freed-answered prepared = (free-fits plan sound host some, λ f same staged. own-free plan sound s is on f same host p found prepared, λ f g staged done. tt, λ free. tt)
 
 -- one that is closed is stopped where it moves, and freed where it has parameters
 module _ (plan : Plan) (sound : IsSound plan) (s : UpState) (is : IsUpState plan s) (on : s.kept.power ≡ powers.On) (host : ℕ) (p : StreamPair) (found : find (λ (q : StreamPair). q.0.host == host) (zip plan.streams s.kept.streams) ≡ Some p) where
-  stopped-answered : takes_trigger Stop p.1.found ≡ true → AreAnswered plan s (map Ordinary (Trig host Stop ∷ Free host ∷ []))
+  stopped-answered : takes_trigger Stop p.1.found ≡ true → AreAnswered plan s (Trig host Stop ∷ Free host ∷ [])
   stopped-answered moves = (
     trigger-fits plan sound host (some plan sound s is on host p found) Stop,
     λ f same staged. own-trigger plan sound s is on f same host p found Stop moves,
@@ -78,7 +77,7 @@ module _ (plan : Plan) (sound : IsSound plan) (s : UpState) (is : IsUpState plan
         (triggered-pair plan sound s is host p found on Stop moves) (stands-then plan sound s is host p found on Stop moves),
   )
 
-  pub close-answered : (stands : Found) → p.1.found ≡ stands → AreAnswered plan s (map Ordinary (close_by host stands))
+  pub close-answered : (stands : Found) → p.1.found ≡ stands → AreAnswered plan s (close_by host stands)
   close-answered founds.Running e = stopped-answered (ap (takes_trigger Stop) e)
   close-answered founds.Paused e = stopped-answered (ap (takes_trigger Stop) e)
   close-answered founds.Prepared e = freed-answered plan sound s is on host p found e
@@ -95,7 +94,7 @@ module _ (plan : Plan) (sound : IsSound plan) (s : UpState) (is : IsUpState plan
   abbrev r : ControlRec
   r = record_here s.kept i
 
-  pub put-answered : (values : List ℕ) → MaySet k.kind values → AreAnswered plan s (map Ordinary (Put k.comp values ∷ []))
+  pub put-answered : (values : List ℕ) → MaySet k.kind values → AreAnswered plan s (Put k.comp values ∷ [])
   put-answered values may = ((put-is plan sound s.kept is.record_is i low values may).message, λ f same staged. own-put plan sound s is on f same i low up values may, λ f g staged done. tt, λ free. tt)
 
   -- a blob in its parts
@@ -103,7 +102,7 @@ module _ (plan : Plan) (sound : IsSound plan) (s : UpState) (is : IsUpState plan
     abbrev after_part : Bool → UpState
     after_part last = record { kept = cond last (with_control plan k.comp (with_blob blob) s.kept) s.kept; up = s.up; there = by_part k.comp blob last s.there }
 
-    parts-answered : (n j : ℕ) → j + suc n ≡ parts blob → AreAnswered plan s (map Ordinary (map (Part k.comp blob) (range_with_len j (suc n))))
+    parts-answered : (n j : ℕ) → j + suc n ≡ parts blob → AreAnswered plan s (map (Part k.comp blob) (range_with_len j (suc n)))
     parts-answered zero j all = (
       (part-taken plan sound s.kept is.record_is i low blob may j few).message,
       λ f same staged. own-part plan sound s is on f same i low up blob may j few staged,
@@ -130,39 +129,39 @@ module _ (plan : Plan) (sound : IsSound plan) (s : UpState) (is : IsUpState plan
             by true e = absurd (let none = none-behind blob (a-blob plan sound s.kept is.record_is i low blob may) j few e in omega (arith, all, none))
             by false e = e
 
-        rest : AreAnswered plan s (map Ordinary (map (Part k.comp blob) (range_with_len (j + 1) (suc n)))) → AreAnswered plan (after_part (is_last blob j)) (map Ordinary (map (Part k.comp blob) (range_with_len (j + 1) (suc n))))
-        rest answered = subst (λ (b : Bool). AreAnswered plan (after_part b) (map Ordinary (map (Part k.comp blob) (range_with_len (j + 1) (suc n))))) (sym more) answered
+        rest : AreAnswered plan s (map (Part k.comp blob) (range_with_len (j + 1) (suc n))) → AreAnswered plan (after_part (is_last blob j)) (map (Part k.comp blob) (range_with_len (j + 1) (suc n)))
+        rest answered = subst (λ (b : Bool). AreAnswered plan (after_part b) (map (Part k.comp blob) (range_with_len (j + 1) (suc n)))) (sym more) answered
 
-    pub install-answered : AreAnswered plan s (map Ordinary (part_acts k.comp blob))
+    pub install-answered : AreAnswered plan s (part_acts k.comp blob)
     install-answered = by (parts blob) refl (few-parts blob (a-blob plan sound s.kept is.record_is i low blob may)).0
       where
-        by : (n : ℕ) → parts blob ≡ n → 1 ≤ n → AreAnswered plan s (map Ordinary (map (Part k.comp blob) (range_with_len 0 n)))
+        by : (n : ℕ) → parts blob ≡ n → 1 ≤ n → AreAnswered plan s (map (Part k.comp blob) (range_with_len 0 n))
         by zero same some_parts = absurd (omega (arith, some_parts))
         by (suc n) same some_parts = parts-answered n 0 (let all : 0 + suc n ≡ parts blob = omega (arith, same) in all)
 
   -- ---- what is asked for
 
-  asks-answered : (most : ℕ) (initial : List ℕ) → k.kind ≡ Blob most initial → (n j : ℕ) → j + n ≡ parts r.blob → AreAnswered plan s (map Ordinary (map (Ask k.comp) (range_with_len j n)))
+  asks-answered : (most : ℕ) (initial : List ℕ) → k.kind ≡ Blob most initial → (n j : ℕ) → j + n ≡ parts r.blob → AreAnswered plan s (map (Ask k.comp) (range_with_len j n))
   asks-answered most initial kind zero j all = tt
   asks-answered most initial kind (suc n) j all = (
     (part-is plan sound s.kept is.record_is i low most initial kind j few).message,
     λ f same staged. own-ask-part plan sound s is on f same i low up most initial kind j few,
     λ f g staged done. loose n (j + 1) g,
-    λ free. subst (λ (t : There). AreAnswered plan (record { kept = s.kept; up = s.up; there = t }) (map Ordinary (map (Ask k.comp) (range_with_len (j + 1) n)))) (sym (asks-stay plan k.comp j s.there))
+    λ free. subst (λ (t : There). AreAnswered plan (record { kept = s.kept; up = s.up; there = t }) (map (Ask k.comp) (range_with_len (j + 1) n))) (sym (asks-stay plan k.comp j s.there))
         (asks-answered most initial kind n (j + 1) (let left : (j + 1) + n ≡ parts r.blob = omega (arith, all) in left)),
   )
     where
       few : j < parts r.blob
       few = omega (arith, all)
 
-      loose : (m l : ℕ) (g : FwState) → StagedFirst (map Ordinary (map (Ask k.comp) (range_with_len l m))) g
+      loose : (m l : ℕ) (g : FwState) → StagedFirst (map (Ask k.comp) (range_with_len l m)) g
       loose zero l g = tt
       loose (suc m) l g = tt
 
-  one-asked : (command : ℕ) → value_command k.kind ≡ Some command → AreAnswered plan s (map Ordinary (Ask k.comp 0 ∷ []))
+  one-asked : (command : ℕ) → value_command k.kind ≡ Some command → AreAnswered plan s (Ask k.comp 0 ∷ [])
   one-asked command at = (ask-fits plan sound s.kept is.record_is i low command at, λ f same staged. own-ask plan sound s is on f same i low up command at, λ f g staged done. tt, λ free. tt)
 
-  pub ask-answered : (q : ControlKind) → k.kind ≡ q → AreAnswered plan s (map Ordinary (ask_acts k.comp q r))
+  pub ask-answered : (q : ControlKind) → k.kind ≡ q → AreAnswered plan s (ask_acts k.comp q r)
   ask-answered (Volume min max channels lowest step mute) e = one-asked 0 (ap value_command e)
   ask-answered (Choice items) e = one-asked 1 (ap value_command e)
   ask-answered (Masks min max channels) e = one-asked 2 (ap value_command e)

@@ -34,7 +34,6 @@ use Rattle.host_pcm.specs.Asks.{early_fault, is_closed, stream_at, stream_place}
 use Rattle.host_pcm.specs.StreamCalls.{host_at, opened_stream, place_order, shut, with_stream_at}
 use Rattle.host_pcm.proofs.HostTests.{Found_place}
 use Rattle.host_pcm.proofs.Places.{place-changed}
-use Rattle.host_dynamic.specs.DynamicActs.{DynamicAct}
 use Rattle.host_dynamic.specs.Dynamic.{UpState, lacking, needed, up_act_rules, opening_job, opening_by, closing_job, closing_by, with_stream_open, with_stream_shut, without_stream}
 use Rattle.host_dynamic.specs.There.{shown_ids}
 use Rattle.host_dynamic.specs.UpCalls.{AfterMaking, MadeWhereOn, UnmadeWhereOn}
@@ -49,6 +48,7 @@ use Rattle.host_dynamic.proofs.UpNamed.{found-at, open-keeps, close-keeps}
 use Rattle.host_dynamic.proofs.UpOpens.{HasOpened, opens-on}
 use Rattle.host_dynamic.proofs.UpStages.{StreamPair}
 use Rattle.host_dynamic.proofs.UpTriggers.{in-pairs}
+use Rattle.host_widgets.specs.HostActs.{Act}
 
 is-open : (b : Bool) → not b ≡ true → b ≡ false
 is-open true is = absurd (false≢true is)
@@ -65,26 +65,26 @@ module _ {D : Type 0} (means : Meaning D) (plan : Plan) (sound : IsSound plan) (
   pub device-on : kept.power ≡ powers.On → is_some (means.on w.device) ≡ true
   device-on on = subst (λ (power : Power). IsSwitched power (means.on w.device)) on switched
 
-  abbrev pub Called : Option HostFault → Job UpState DynamicAct → Record → List ℕ → World D → Outcome → Type 0
+  abbrev pub Called : Option HostFault → Job UpState Act → Record → List ℕ → World D → Outcome → Type 0
   Called test job kept' up' v result = IsCalled means plan heap test job s kept' up' w v result
 
   -- its test reported a fault
-  pub early-called : (test : Option HostFault) (job : Job UpState DynamicAct) (r : Result ℕ HostFault) (fault : HostFault) (result : Outcome) → IfErr r (λ f. test ≡ Some f) → r ≡ Err fault → result ≡ Err fault → Called test job kept up w result
+  pub early-called : (test : Option HostFault) (job : Job UpState Act) (r : Result ℕ HostFault) (fault : HostFault) (result : Outcome) → IfErr r (λ f. test ≡ Some f) → r ≡ Err fault → result ≡ Err fault → Called test job kept up w result
   early-called test job r fault result told failed this =
       called-early means plan heap kept up w is agree test job fault result (subst (λ (x : Result ℕ HostFault). IfErr x (λ f. test ≡ Some f)) failed told) this
 
   -- ---- opening
 
-  abbrev pub opened_at : ℕ → Job UpState DynamicAct
+  abbrev pub opened_at : ℕ → Job UpState Act
   opened_at k = opening_job plan s (host_at plan k)
 
-  abbrev pub opened_named : Job UpState DynamicAct
+  abbrev pub opened_named : Job UpState Act
   opened_named = opened_at (unwrap_or (stream_place plan name) 0)
 
-  abbrev pub closed_at : ℕ → Job UpState DynamicAct
+  abbrev pub closed_at : ℕ → Job UpState Act
   closed_at k = closing_job plan s (host_at plan k) (stream_at kept k).found
 
-  abbrev pub closed_named : Job UpState DynamicAct
+  abbrev pub closed_named : Job UpState Act
   closed_named = closed_at (unwrap_or (stream_place plan name) 0)
 
   open-called : (k : ℕ) → stream_place plan name ≡ Some k → early_fault plan kept name Opening ≡ None → (kept' : Record) (up' : List ℕ) (v : World D) (result : Outcome) → JobDone means (up_act_rules plan) heap (opened_at k) (up_state_in means kept' up' v.device) w v result →

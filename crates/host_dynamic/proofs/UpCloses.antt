@@ -1,5 +1,5 @@
 -- Closing a stream over any device: the results of its messages, and of those that unmake, are what the rules say.
-use Rattle.std.proofs.Common.{◌≡◌, refl, sym, ap, subst, ◌∙◌, ℕ, List, [], ◌∷◌, map, filter, Bool, true, false, not, ◌==◌, ◌&&◌, Some, None, Ok, Err}
+use Rattle.std.proofs.Common.{◌≡◌, refl, sym, ap, subst, ◌∙◌, ℕ, List, [], ◌∷◌, filter, Bool, true, false, not, ◌==◌, ◌&&◌, Some, None, Ok, Err}
 use Rattle.std.specs.Prelude.{Option, find, is_some}
 use Rattle.std.specs.List.{zip, IsDistinct}
 use Rattle.std.proofs.lemmas.Bool.{and_parts}
@@ -34,9 +34,8 @@ use Rattle.host_widgets.specs.Routines.{Finished, Sending, JobDone}
 use Rattle.host_widgets.specs.Walk.{Walked, walk, followed_by, goes_past}
 use Rattle.host_pcm.specs.Asks.{is_closed}
 use Rattle.host_pcm.specs.StreamCalls.{shut}
-use Rattle.host_dynamic.specs.DynamicActs.{DynamicAct, Ordinary, unmaking_acts}
+use Rattle.host_dynamic.specs.DynamicActs.{unmaking_acts}
 use Rattle.host_dynamic.specs.Dynamic.{UpState, needed, cut_off, up_act_rules, without_stream, parting, staying, with_stream_shut, after_unmaking, after_closing, closing_by, closing_job}
-use Rattle.host_dynamic.specs.ListCalls.{DynamicSent}
 use Rattle.host_dynamic.specs.Need.{HasBrought}
 use Rattle.host_dynamic.specs.There.{There, there_in, ids_there_of, shown_ids}
 use Rattle.host_dynamic.specs.UpCalls.{WasCut, Unmade}
@@ -56,6 +55,8 @@ use Rattle.host_dynamic.proofs.UpStages.{StreamPair, IsAmid, IsStage, index_of_i
 use Rattle.host_dynamic.proofs.UpStreams.{HasFreed}
 use Rattle.host_dynamic.proofs.UpUnmaking.{unmakes, unmakes-answered}
 use Rattle.host_dynamic.proofs.UpWalks.{HasEnded, Came, walk-runs, walk-steps}
+use Rattle.host_widgets.specs.HostActs.{Act}
+use Rattle.host_widgets.specs.MadeLists.{ActsPassed}
 
 -- ---- what a walk may come to
 
@@ -92,7 +93,7 @@ plain-walk {S} {A} {Q} rules next (act ∷ acts) kept q = by (outcome_by (next q
     by (Err (faults.Blob k)) plain rest = absurd plain
 
 -- a stream's acts ask for nothing that is staged
-close-loose : (host : ℕ) (stands : Found) (f : FwState) → StagedFirst (map Ordinary (close_by host stands)) f
+close-loose : (host : ℕ) (stands : Found) (f : FwState) → StagedFirst (close_by host stands) f
 close-loose host founds.Running f = tt
 close-loose host founds.Paused f = tt
 close-loose host founds.Prepared f = tt
@@ -102,8 +103,8 @@ close-loose host founds.On f = tt
 
 module _ {D : Type 0} (means : Meaning D) (plan : Plan) (sound : IsSound plan) (heap : ℕ) (s : UpState) (is : IsUpState plan s) (on : s.kept.power ≡ powers.On) (host : ℕ) (p : StreamPair)
     (found : find (λ (q : StreamPair). q.0.host == host) (zip plan.streams s.kept.streams) ≡ Some p) (open_yet : is_closed p.1.found ≡ false) where
-  abbrev acts : List DynamicAct
-  acts = map Ordinary (close_by host p.1.found)
+  abbrev acts : List Act
+  acts = (close_by host p.1.found)
 
   -- what is kept after a call with this result at its first part
   pub record HasClosed (up' : List ℕ) (kept' : Record) (w v : World D) (result : Outcome) : Type 0 where
@@ -115,10 +116,10 @@ module _ {D : Type 0} (means : Meaning D) (plan : Plan) (sound : IsSound plan) (
     sends = ap (λ (power : Power). closing_by power plan host p.1.found s) on
 
     module _ (kept1 : Record) (m1 : World D) (result1 : Outcome) (a : Split plan means heap (with_stream plan host shut) s (close_by host p.1.found) kept1 w m1 result1) where
-      h : HasSent plan means s acts (map Ordinary a.passed) w a.sent result1
-      h = sent-did plan means acts (map Ordinary a.passed) s w a.sent result1 f on_w same (close-loose host p.1.found f) (close-answered plan sound s is on host p found p.1.found refl) a.did
+      h : HasSent plan means s acts a.passed w a.sent result1
+      h = sent-did plan means acts a.passed s w a.sent result1 f on_w same (close-loose host p.1.found f) (close-answered plan sound s is on host p found p.1.found refl) a.did
 
-      abbrev x : Walked UpState DynamicAct (List Meeting)
+      abbrev x : Walked UpState Act (List Meeting)
       x = walk (up_act_rules plan) false next_of s h.meetings acts
 
       abbrev u : UpState
@@ -128,7 +129,7 @@ module _ {D : Type 0} (means : Meaning D) (plan : Plan) (sound : IsSound plan) (
       came = walk-steps plan next_of (IsUpState plan) (Ended plan sound s is on host p found open_yet) acts s h.meetings (steps plan sound s is on host p found open_yet p.1.found refl)
 
       gone : HasGone means (up_act_rules plan) s acts false w a.sent u result1
-      gone = gone-of means plan s acts (map Ordinary a.passed) w a.sent result1 h
+      gone = gone-of means plan s acts a.passed w a.sent result1 h
 
       there-at : EndsThere plan means result1 u a.sent
       there-at = subst (λ (o : Outcome). EndsThere plan means o u a.sent) (sym h.came) h.there
@@ -225,7 +226,7 @@ module _ {D : Type 0} (means : Meaning D) (plan : Plan) (sound : IsSound plan) (
         abbrev parts : List ℕ
         parts = parting plan host u
 
-        abbrev more : List DynamicAct
+        abbrev more : List Act
         more = unmaking_acts plan (ids_there_of plan parts u.there)
 
         parts-up : (i : ℕ) → is_among parts i ≡ true → is_among s.up i ≡ true
@@ -270,13 +271,13 @@ module _ {D : Type 0} (means : Meaning D) (plan : Plan) (sound : IsSound plan) (
         stage-now : IsStage plan u.kept (up_stage plan u.up) u.there
         stage-now = subst (λ (l : List ℕ). IsStage plan u.kept (up_stage plan l) u.there) (sym up-now) freed.stage
 
-        module _ (passed' : List DynamicAct) (at : World D) (outcome' : Outcome) (sent' : DynamicSent means plan (unmaking_acts plan (shown_ids plan part)) passed' m1 at outcome') where
+        module _ (passed' : List Act) (at : World D) (outcome' : Outcome) (sent' : ActsPassed means plan (unmaking_acts plan (shown_ids plan part)) passed' m1 at outcome') where
           h' : HasSent plan means u more passed' a.sent at outcome'
           h' = sent-did plan means more passed' u a.sent at outcome' at-now.0 at-now.1 at-now.2 (unmakes-loose _ at-now.0)
               (unmakes-answered plan sound u (staying plan host u) parts serving-left apart-left (up_stage plan u.up) u.there amid-left stage-now)
-              (subst (λ (y : List ℕ × World D). DynamicSent means plan (unmaking_acts plan y.0) passed' y.1 at outcome') (λ i. (gone-ids i, stays-now i)) sent')
+              (subst (λ (y : List ℕ × World D). ActsPassed means plan (unmaking_acts plan y.0) passed' y.1 at outcome') (λ i. (gone-ids i, stays-now i)) sent')
 
-          abbrev x' : Walked UpState DynamicAct (List Meeting)
+          abbrev x' : Walked UpState Act (List Meeting)
           x' = walk (up_act_rules plan) false next_of u h'.meetings more
 
           abbrev Any : There → Type 0

@@ -61,10 +61,8 @@ use Rattle.host_ctl.proofs.ControlsThere.{Was, lost-here, live, at-here, was-her
 use Rattle.host_ctl.proofs.PutAnswers.{control, gains-new}
 use Rattle.host_ctl.proofs.PutShows.{AreKind, there-at, elsewhere-at, all-set}
 use Rattle.host_ctl.proofs.PutStands.{put-record}
-use Rattle.host_dynamic.specs.DynamicActs.{Ordinary}
 use Rattle.host_dynamic.specs.There.{There, there_after, row_left, silent_state, by_part}
 use Rattle.host_dynamic.specs.Dynamic.{UpState, settled, plain_job, unsent, control_order}
-use Rattle.host_dynamic.specs.Up.{is_up}
 use Rattle.host_dynamic.specs.UpStates.{IsThereBy, IsUpState}
 use Rattle.host_dynamic.proofs.RowsTold.{told, left-told}
 use Rattle.host_dynamic.proofs.StageBetween.{comp-at}
@@ -75,6 +73,7 @@ use Rattle.host_dynamic.proofs.UpStages.{Stage, pipe_as, comps_left, edges_left,
 use Rattle.host_dynamic.proofs.UpStanding.{there-stage, stage-there}
 use Rattle.host_dynamic.proofs.UpStreams.{begun, whole}
 use Rattle.host_dynamic.proofs.UpWalks.{Keeps, Steps}
+use Rattle.host_widgets.specs.Indices.{is_up}
 
 -- ---- a control is changed
 
@@ -270,7 +269,7 @@ module _ (plan : Plan) (sound : IsSound plan) (s : UpState) (is : IsUpState plan
           ap (λ (m : Message). told (row (silent_state t) m)) (puts plan sound s.kept is.record_is i low values may)
           ∙ by-kind k.kind here.kind (at-here plan sound s.kept is.record_is i low) put-at (was-here plan sound s.kept is.record_is i low) may
 
-      put-there : there_after plan (Ordinary (Put k.comp values)) t ≡ at_stage plan (put s.kept) (up_stage plan s.up) h
+      put-there : there_after plan (Put k.comp values) t ≡ at_stage plan (put s.kept) (up_stage plan s.up) h
       put-there = left-told t (row (silent_state t) (act_message plan (Put k.comp values))) (at_stage plan (put s.kept) (up_stage plan s.up) h) put-told
 
     pub put-keeps : {Q : Type 0} (next : Q → Meeting × Q) (q : Q) → (s.kept.power ≡ powers.Unloaded → ⊥) →
@@ -282,8 +281,8 @@ module _ (plan : Plan) (sound : IsSound plan) (s : UpState) (is : IsUpState plan
             (λ on. (
               is,
               λ free.
-                  sent-done plan sound s is k.comp (with_values values) (λ c. refl) put-record-is on (there_after plan (Ordinary (Put k.comp values)) s.there)
-                  (ap (there_after plan (Ordinary (Put k.comp values))) (begun plan sound s.up k.comp s is refl on).is ∙ put-there (sym up-is ∙ e) s.there.heap),
+                  sent-done plan sound s is k.comp (with_values values) (λ c. refl) put-record-is on (there_after plan (Put k.comp values) s.there)
+                  (ap (there_after plan (Put k.comp values)) (begun plan sound s.up k.comp s is refl on).is ∙ put-there (sym up-is ∙ e) s.there.heap),
             ))
             (λ off. unsent-done plan sound s is k.comp (with_values values) put-record-is (λ on. absurd (off on)) some)
         by false e = unsent-keeps plan sound next put s q s.kept.power (Put k.comp values ∷ []) answers.Done (unsent-done plan sound s is k.comp (with_values values) put-record-is (λ on. sym up-is ∙ e) some)
@@ -318,7 +317,7 @@ module _ (plan : Plan) (sound : IsSound plan) (s : UpState) (is : IsUpState plan
       last-done = sent-done plan sound s is k.comp (with_blob blob) (λ c. refl) install-record on (by_part k.comp blob true s.there)
           (ap (by_part k.comp blob true) (begun plan sound s.up k.comp s is refl on).is ∙ blob-set plan sound s is k.comp (with_blob blob) here.comp here.there has s.there.heap blob blob-at)
 
-      parts-steps : (n j : ℕ) → j + suc n ≡ parts blob → Steps plan (IsUpState plan) s (map Ordinary (map (Part k.comp blob) (range_with_len j (suc n)))) IsInstalled
+      parts-steps : (n j : ℕ) → j + suc n ≡ parts blob → Steps plan (IsUpState plan) s (map (Part k.comp blob) (range_with_len j (suc n))) IsInstalled
       parts-steps zero j all = (is, λ free. by (is_last blob j) refl)
         where
           few : j < parts blob
@@ -333,16 +332,16 @@ module _ (plan : Plan) (sound : IsSound plan) (s : UpState) (is : IsUpState plan
           few = omega (arith, all)
 
           Rest : Bool → Type 0
-          Rest last = Steps plan (IsUpState plan) (part_then last) (map Ordinary (map (Part k.comp blob) (range_with_len (j + 1) (suc n)))) IsInstalled
+          Rest last = Steps plan (IsUpState plan) (part_then last) (map (Part k.comp blob) (range_with_len (j + 1) (suc n))) IsInstalled
 
           by : (b : Bool) → is_last blob j ≡ b → Rest false → Rest (is_last blob j)
           by true e rest = absurd (let none = none-behind blob whole-blob j few e in omega (arith, all, none))
           by false e rest = subst Rest (sym e) rest
 
-      all-steps : Steps plan (IsUpState plan) s (map Ordinary (part_acts k.comp blob)) IsInstalled
+      all-steps : Steps plan (IsUpState plan) s (part_acts k.comp blob) IsInstalled
       all-steps = by (parts blob) refl (few-parts blob whole-blob).0
         where
-          by : (n : ℕ) → parts blob ≡ n → 1 ≤ n → Steps plan (IsUpState plan) s (map Ordinary (map (Part k.comp blob) (range_with_len 0 n))) IsInstalled
+          by : (n : ℕ) → parts blob ≡ n → 1 ≤ n → Steps plan (IsUpState plan) s (map (Part k.comp blob) (range_with_len 0 n)) IsInstalled
           by zero same some = absurd (omega (arith, some))
           by (suc n) same some = parts-steps n 0 (let all : 0 + suc n ≡ parts blob = omega (arith, same) in all)
 
@@ -358,7 +357,7 @@ module _ (plan : Plan) (sound : IsSound plan) (s : UpState) (is : IsUpState plan
 -- ---- what is asked for
 
 -- an act that asks leaves what is there
-pub asks-stay : (plan : Plan) (comp j : ℕ) (t : There) → there_after plan (Ordinary (Ask comp j)) t ≡ t
+pub asks-stay : (plan : Plan) (comp j : ℕ) (t : There) → there_after plan (Ask comp j) t ≡ t
 asks-stay plan comp j t = by (control_of plan comp)
   where
     asked : (used some : Bool) → row_left t (cond (not used) (Err no_device) (cond (not some) (Err invalid) (Ok (silent_state t)))) ≡ t
@@ -424,15 +423,15 @@ module _ (plan : Plan) (sound : IsSound plan) (s : UpState) (is : IsUpState plan
           (install-keeps plan sound s is i low blob may next q passes.0)
 
   -- it is asked for
-  asks-steps : (comp : ℕ) (js : List ℕ) → Steps plan (IsUpState plan) s (map Ordinary (map (Ask comp) js)) (λ u. IsUpState plan (settled u.kept u))
+  asks-steps : (comp : ℕ) (js : List ℕ) → Steps plan (IsUpState plan) s (map (Ask comp) js) (λ u. IsUpState plan (settled u.kept u))
   asks-steps comp [] = settled-state plan sound s is
   asks-steps comp (j ∷ js) = (
     is,
     λ free.
-        subst (λ (t : There). Steps plan (IsUpState plan) (record { kept = s.kept; up = s.up; there = t }) (map Ordinary (map (Ask comp) js)) (λ u. IsUpState plan (settled u.kept u))) (sym (asks-stay plan comp j s.there)) (asks-steps comp js),
+        subst (λ (t : There). Steps plan (IsUpState plan) (record { kept = s.kept; up = s.up; there = t }) (map (Ask comp) js) (λ u. IsUpState plan (settled u.kept u))) (sym (asks-stay plan comp j s.there)) (asks-steps comp js),
   )
 
-  asked-steps : (comp : ℕ) (kind : ControlKind) (c : ControlRec) → Steps plan (IsUpState plan) s (map Ordinary (ask_acts comp kind c)) (λ u. IsUpState plan (settled u.kept u))
+  asked-steps : (comp : ℕ) (kind : ControlKind) (c : ControlRec) → Steps plan (IsUpState plan) s (ask_acts comp kind c) (λ u. IsUpState plan (settled u.kept u))
   asked-steps comp (Volume min max channels lowest step mute) c = asks-steps comp (0 ∷ [])
   asked-steps comp (Choice items) c = asks-steps comp (0 ∷ [])
   asked-steps comp (Masks min max channels) c = asks-steps comp (0 ∷ [])

@@ -42,9 +42,7 @@ use Rattle.host_ctl.proofs.BlobTests.{bytes-pass, installable}
 use Rattle.host_ctl.proofs.ControlTests.{loaded, place-low, settable, set-passes}
 use Rattle.host_ctl.proofs.ControlsThere.{lost-here, live, at-here, named-here}
 use Rattle.host_widgets.specs.Named.{is_named, off_fault}
-use Rattle.host_dynamic.specs.DynamicActs.{Ordinary}
 use Rattle.host_dynamic.specs.Dynamic.{UpState, up_act_rules, plain_job, unsent, is_control_up, control_order, read_up_fault}
-use Rattle.host_dynamic.specs.Up.{is_up}
 use Rattle.host_dynamic.specs.UpDevices.{up_state_in}
 use Rattle.host_dynamic.specs.UpStates.{IsUpState}
 use Rattle.host_dynamic.proofs.UpAgreeing.{IsSwitched}
@@ -54,6 +52,7 @@ use Rattle.host_dynamic.proofs.UpNamed.{found-at}
 use Rattle.host_dynamic.proofs.UpOrders.{IsDoneSo, order-done, unsent-done}
 use Rattle.host_dynamic.proofs.UpSending.{StagedFirst}
 use Rattle.host_dynamic.proofs.UpStages.{index_of_id}
+use Rattle.host_widgets.specs.Indices.{is_up}
 
 module _ {D : Type 0} (means : Meaning D) (plan : Plan) (sound : IsSound plan) (heap : ℕ) (kept : Record) (up : List ℕ) (w : World D) (is : IsUpState plan (up_state_in means kept up w.device)) (switched : IsSwitched kept.power (means.on w.device)) where
   abbrev s : UpState
@@ -82,10 +81,10 @@ module _ {D : Type 0} (means : Meaning D) (plan : Plan) (sound : IsSound plan) (
       }
 
   -- the first part of a blob asks for nothing that is staged
-  loose-parts : (comp : ℕ) (blob : List ℕ) (f : FwState) → StagedFirst (map Ordinary (part_acts comp blob)) f
+  loose-parts : (comp : ℕ) (blob : List ℕ) (f : FwState) → StagedFirst (part_acts comp blob) f
   loose-parts comp blob f = by (parts blob)
     where
-      by : (n : ℕ) → StagedFirst (map Ordinary (map (Part comp blob) (range_with_len 0 n))) f
+      by : (n : ℕ) → StagedFirst (map (Part comp blob) (range_with_len 0 n)) f
       by zero = tt
       by (suc n) = λ some. absurd (true≢false some)
 
@@ -258,13 +257,13 @@ module _ {D : Type 0} (means : Meaning D) (plan : Plan) (sound : IsSound plan) (
         by None = refl
         by (Some x) = refl
 
-    loose-asks : (comp : ℕ) (kind : ControlKind) (c : ControlRec) (f : FwState) → StagedFirst (map Ordinary (ask_acts comp kind c)) f
+    loose-asks : (comp : ℕ) (kind : ControlKind) (c : ControlRec) (f : FwState) → StagedFirst (ask_acts comp kind c) f
     loose-asks comp (Volume min max channels lowest step mute) c f = tt
     loose-asks comp (Choice items) c f = tt
     loose-asks comp (Masks min max channels) c f = tt
     loose-asks comp (Blob most initial) c f = by (parts c.blob)
       where
-        by : (n : ℕ) → StagedFirst (map Ordinary (map (Ask comp) (range_with_len 0 n))) f
+        by : (n : ℕ) → StagedFirst (map (Ask comp) (range_with_len 0 n)) f
         by zero = tt
         by (suc n) = tt
 

@@ -35,10 +35,9 @@ use Rattle.host_widgets.specs.ActMessages.{act_message, set_message, put_message
 use Rattle.host_widgets.specs.Acts.{widget_ids, widget_words, pipe_by_id, component_words, comp_message, buffer_message, pipe_message}
 use Rattle.host_widgets.specs.Controls.{control_of}
 use Rattle.host_widgets.specs.Host.{Outcome, verdict}
-use Rattle.host_widgets.specs.HostActs.{Act, Make, Join, Put, Part, Finish, Prepare, Trig, Free, Save, Ask}
+use Rattle.host_widgets.specs.HostActs.{Act, Make, Join, Put, Part, Finish, Prepare, Trig, Free, Save, Ask, Unmake}
 use Rattle.host_widgets.specs.Kept.{controls_of}
-use Rattle.host_dynamic.specs.DynamicActs.{DynamicAct, Ordinary, Unmake, widgets_at, widgets_of, is_control_of, finish_ids, making_acts, pipe_ids, unmaking_acts}
-use Rattle.host_dynamic.specs.ListCalls.{DynamicSent, widget_made}
+use Rattle.host_dynamic.specs.DynamicActs.{widgets_at, widgets_of, making_acts, pipe_ids, unmaking_acts}
 use Rattle.host_dynamic.specs.There.{There, there_in, silent_state, by_part, there_after, ids_there, ids_there_of, shown_ids}
 use Rattle.host_dynamic.specs.Dynamic.{UpState, up_own, up_act_rules}
 use Rattle.host_dynamic.specs.Up.{buffer_joins}
@@ -50,6 +49,8 @@ use Rattle.host_dynamic.proofs.UpExchanges.{SaysSo, IsOwn}
 use Rattle.host_dynamic.proofs.UpOpening.{mapped-in}
 use Rattle.host_dynamic.proofs.UpSending.{Staged, AreAnswered, after_all, AreFree}
 use Rattle.host_dynamic.proofs.UpStages.{index_of_id}
+use Rattle.host_widgets.specs.Groups.{is_control_of, finish_ids}
+use Rattle.host_widgets.specs.MadeLists.{ActsPassed, widget_made}
 
 -- ---- rows that leave the heap
 
@@ -182,54 +183,55 @@ module _ (plan : Plan) where
 
   -- what an act makes is there after it
   abbrev IsAdded : UpState → Act → There → Type 0
-  IsAdded u act t = (x : ℕ) → is_among (ids_there t) x ≡ (is_among (filter_map widget_made (Ordinary act ∷ [])) x || is_among (ids_there u.there) x)
+  IsAdded u act t = (x : ℕ) → is_among (ids_there t) x ≡ (is_among (filter_map widget_made (act ∷ [])) x || is_among (ids_there u.there) x)
 
   one-kept : (u : UpState) (act : Act) (t : There) → KeepsHeap u.there.heap (row (silent_state u.there) (act_message plan act)) → told (row (silent_state u.there) (act_message plan act)) ≡ Ok t → (x : ℕ) → is_among (ids_there t) x ≡ is_among (ids_there u.there) x
   one-kept u act t keeps is x = ap (λ (h : HeapView). is_among (map (λ (p : PieceView). p.id) h.pieces) x) (keeps-told u.there.heap (row (silent_state u.there) (act_message plan act)) t keeps is)
 
-  told-of : (u : UpState) (act : Act) → up_own plan u (Ordinary act) ≡ None → IsOwn plan u (Ordinary act) (silent_state u.there) → told (row (silent_state u.there) (act_message plan act)) ≡ Ok (there_after plan (Ordinary act) u.there)
-  told-of u act free own = subst (λ (o : Option Errno). SaysSo plan u (Ordinary act) o (told (row (silent_state u.there) (act_message plan act)))) free own
+  told-of : (u : UpState) (act : Act) → up_own plan u act ≡ None → IsOwn plan u act (silent_state u.there) → told (row (silent_state u.there) (act_message plan act)) ≡ Ok (there_after plan act u.there)
+  told-of u act free own = subst (λ (o : Option Errno). SaysSo plan u act o (told (row (silent_state u.there) (act_message plan act)))) free own
 
-  one-there : (n : List ℕ) (u : UpState) (act : Act) → MakesOf n act → up_own plan u (Ordinary act) ≡ None → ((f : FwState) → there_in f ≡ u.there → Staged (Ordinary act) f → IsOwn plan u (Ordinary act) f) → IsAdded u act (there_after plan (Ordinary act) u.there)
+  one-there : (n : List ℕ) (u : UpState) (act : Act) → MakesOf n act → up_own plan u act ≡ None → ((f : FwState) → there_in f ≡ u.there → Staged act f → IsOwn plan u act f) → IsAdded u act (there_after plan act u.there)
   one-there n u (Make id) of free own x =
-      adds-told id u.there.heap (row (silent_state u.there) (act_message plan (Make id))) (there_after plan (Ordinary (Make id)) u.there) (make-adds (silent_state u.there) id) (told-of u (Make id) free (own (silent_state u.there) refl tt)) x ∙ by (id == x)
+      adds-told id u.there.heap (row (silent_state u.there) (act_message plan (Make id))) (there_after plan (Make id) u.there) (make-adds (silent_state u.there) id) (told-of u (Make id) free (own (silent_state u.there) refl tt)) x ∙ by (id == x)
     where
       by : (b : Bool) → (b || is_among (ids_there u.there) x) ≡ ((b || false) || is_among (ids_there u.there) x)
       by true = refl
       by false = refl
-  one-there n u (Join source sink) of free own x = one-kept u (Join source sink) (there_after plan (Ordinary (Join source sink)) u.there) (connect-keeps (silent_state u.there) source sink) (told-of u (Join source sink) free (own (silent_state u.there) refl tt)) x
-  one-there n u (Put comp values) of free own x = one-kept u (Put comp values) (there_after plan (Ordinary (Put comp values)) u.there) (put-keeps (silent_state u.there) comp values (control_of plan comp)) (told-of u (Put comp values) free (own (silent_state u.there) refl tt)) x
+  one-there n u (Join source sink) of free own x = one-kept u (Join source sink) (there_after plan (Join source sink) u.there) (connect-keeps (silent_state u.there) source sink) (told-of u (Join source sink) free (own (silent_state u.there) refl tt)) x
+  one-there n u (Put comp values) of free own x = one-kept u (Put comp values) (there_after plan (Put comp values) u.there) (put-keeps (silent_state u.there) comp values (control_of plan comp)) (told-of u (Put comp values) free (own (silent_state u.there) refl tt)) x
   one-there n u (Part comp blob k) of free own x = by (is_last blob k)
     where
       by : (b : Bool) → is_among (ids_there (by_part comp blob b u.there)) x ≡ is_among (ids_there u.there) x
       by true = refl
       by false = refl
-  one-there n u (Finish id) of free own x = one-kept u (Finish id) (there_after plan (Ordinary (Finish id)) u.there) (complete-keeps (silent_state u.there) id) (told-of u (Finish id) free (own (silent_state u.there) refl tt)) x
+  one-there n u (Finish id) of free own x = one-kept u (Finish id) (there_after plan (Finish id) u.there) (complete-keeps (silent_state u.there) id) (told-of u (Finish id) free (own (silent_state u.there) refl tt)) x
   one-there n u (Prepare host params) of free own x = absurd of
   one-there n u (Trig host what) of free own x = absurd of
   one-there n u (Free host) of free own x = absurd of
   one-there n u Save of free own x = absurd of
   one-there n u (Ask comp k) of free own x = absurd of
+  one-there n u (Unmake id) of free own x = absurd of
 
   -- ---- acts one after another
 
   -- these are the first of those
-  abbrev pub Begins : List DynamicAct → List Act → Type 0
+  abbrev pub Begins : List Act → List Act → Type 0
   Begins [] acts = Unit {0}
   Begins (p ∷ ps) [] = ⊥
-  Begins (p ∷ ps) (act ∷ acts) = (p ≡ Ordinary act) × Begins ps acts
+  Begins (p ∷ ps) (act ∷ acts) = (p ≡ act) × Begins ps acts
 
-  pub passed-begins : {D : Type 0} (means : Meaning D) (acts : List Act) (ps : List DynamicAct) (w v : World D) (result : Outcome) → DynamicSent means plan (map Ordinary acts) ps w v result → Begins ps acts
-  passed-begins means [] ps w v result sent = subst (λ (xs : List DynamicAct). Begins xs []) (sym sent.0) tt
+  pub passed-begins : {D : Type 0} (means : Meaning D) (acts : List Act) (ps : List Act) (w v : World D) (result : Outcome) → ActsPassed means plan acts ps w v result → Begins ps acts
+  passed-begins means [] ps w v result sent = subst (λ (xs : List Act). Begins xs []) (sym sent.0) tt
   passed-begins {D} means (act ∷ acts) ps w v result (mid, answer, x, on) = by (verdict answer) on (λ rest sent. passed-begins means acts rest mid v result sent)
     where
-      by : (r : Result Reply HostFault) → MatchResult r (λ reply. (rest : List DynamicAct) × (ps ≡ Ordinary act ∷ rest) × DynamicSent means plan (map Ordinary acts) rest mid v result) (λ fault. (ps ≡ []) × (v ≡ mid) × (result ≡ Err fault)) →
-          ((rest : List DynamicAct) → DynamicSent means plan (map Ordinary acts) rest mid v result → Begins rest acts) → Begins ps (act ∷ acts)
-      by (Ok reply) (rest, at, sent) go = subst (λ (xs : List DynamicAct). Begins xs (act ∷ acts)) (sym at) (refl, go rest sent)
-      by (Err fault) end go = subst (λ (xs : List DynamicAct). Begins xs (act ∷ acts)) (sym end.0) tt
+      by : (r : Result Reply HostFault) → MatchResult r (λ reply. (rest : List Act) × (ps ≡ act ∷ rest) × ActsPassed means plan acts rest mid v result) (λ fault. (ps ≡ []) × (v ≡ mid) × (result ≡ Err fault)) →
+          ((rest : List Act) → ActsPassed means plan acts rest mid v result → Begins rest acts) → Begins ps (act ∷ acts)
+      by (Ok reply) (rest, at, sent) go = subst (λ (xs : List Act). Begins xs (act ∷ acts)) (sym at) (refl, go rest sent)
+      by (Err fault) end go = subst (λ (xs : List Act). Begins xs (act ∷ acts)) (sym end.0) tt
 
-  made-more : (act : Act) (ps : List DynamicAct) (x : ℕ) (b : Bool) → (is_among (filter_map widget_made ps) x || (is_among (filter_map widget_made (Ordinary act ∷ [])) x || b)) ≡ (is_among (filter_map widget_made (Ordinary act ∷ ps)) x || b)
-  made-more act ps x b = by (widget_made (Ordinary act))
+  made-more : (act : Act) (ps : List Act) (x : ℕ) (b : Bool) → (is_among (filter_map widget_made ps) x || (is_among (filter_map widget_made (act ∷ [])) x || b)) ≡ (is_among (filter_map widget_made (act ∷ ps)) x || b)
+  made-more act ps x b = by (widget_made act)
     where
       swap : (a c d : Bool) → (a || ((c || false) || d)) ≡ ((c || a) || d)
       swap true true d = refl
@@ -241,26 +243,26 @@ module _ (plan : Plan) where
       by None = refl
       by (Some id) = swap (is_among (filter_map widget_made ps) x) (id == x) b
 
-  pub made-there : (n : List ℕ) (acts : List Act) (ps : List DynamicAct) (u : UpState) → ((a : Act) → IsIn a acts → MakesOf n a) → Begins ps acts → AreFree plan u ps → AreAnswered plan u (map Ordinary acts) →
+  pub made-there : (n : List ℕ) (acts : List Act) (ps : List Act) (u : UpState) → ((a : Act) → IsIn a acts → MakesOf n a) → Begins ps acts → AreFree plan u ps → AreAnswered plan u acts →
       (x : ℕ) → is_among (ids_there (after_all plan u ps).there) x ≡ (is_among (filter_map widget_made ps) x || is_among (ids_there u.there) x)
   made-there n acts [] u of begins free answered x = refl
   made-there n [] (p ∷ ps) u of begins free answered x = absurd begins
   made-there n (act ∷ acts) (p ∷ ps) u of (is, begins) free answered x =
-      subst (λ (q : DynamicAct). AreFree plan u (q ∷ ps) → is_among (ids_there (after_all plan u (q ∷ ps)).there) x ≡ (is_among (filter_map widget_made (q ∷ ps)) x || is_among (ids_there u.there) x)) (sym is)
+      subst (λ (q : Act). AreFree plan u (q ∷ ps) → is_among (ids_there (after_all plan u (q ∷ ps)).there) x ≡ (is_among (filter_map widget_made (q ∷ ps)) x || is_among (ids_there u.there) x)) (sym is)
       (λ free.
-      made-there n acts ps ((up_act_rules plan).after (Ordinary act) u) (λ a there. of a (inr there)) begins free.1 (answered.3 free.0) x
+      made-there n acts ps ((up_act_rules plan).after act u) (λ a there. of a (inr there)) begins free.1 (answered.3 free.0) x
       ∙ ap (λ (b : Bool). is_among (filter_map widget_made ps) x || b) (one-there n u act (of act (inl refl)) free.0 answered.1 x)
       ∙ made-more act ps x (is_among (ids_there u.there) x))
       free
 
   -- what was made is of these indices
-  pub made-of : (n : List ℕ) (acts : List Act) (ps : List DynamicAct) → ((a : Act) → IsIn a acts → MakesOf n a) → Begins ps acts → (x : ℕ) → IsIn x (filter_map widget_made ps) → is_among n (index_of_id plan x) ≡ true
+  pub made-of : (n : List ℕ) (acts : List Act) (ps : List Act) → ((a : Act) → IsIn a acts → MakesOf n a) → Begins ps acts → (x : ℕ) → IsIn x (filter_map widget_made ps) → is_among n (index_of_id plan x) ≡ true
   made-of n acts [] of begins x none = absurd none
   made-of n [] (p ∷ ps) of begins x there = absurd begins
   made-of n (act ∷ acts) (p ∷ ps) of (is, begins) x there =
-      by act (of act (inl refl)) (made-of n acts ps (λ a there. of a (inr there)) begins x) (subst (λ (q : DynamicAct). IsIn x (filter_map widget_made (q ∷ ps))) is there)
+      by act (of act (inl refl)) (made-of n acts ps (λ a there. of a (inr there)) begins x) (subst (λ (q : Act). IsIn x (filter_map widget_made (q ∷ ps))) is there)
     where
-      by : (a : Act) → MakesOf n a → (IsIn x (filter_map widget_made ps) → is_among n (index_of_id plan x) ≡ true) → IsIn x (filter_map widget_made (Ordinary a ∷ ps)) → is_among n (index_of_id plan x) ≡ true
+      by : (a : Act) → MakesOf n a → (IsIn x (filter_map widget_made ps) → is_among n (index_of_id plan x) ≡ true) → IsIn x (filter_map widget_made (a ∷ ps)) → is_among n (index_of_id plan x) ≡ true
       by (Make id) of rest (inl same) = ap (λ (y : ℕ). is_among n (index_of_id plan y)) same ∙ of
       by (Make id) of rest (inr more) = rest more
       by (Join source sink) of rest more = rest more
@@ -272,6 +274,7 @@ module _ (plan : Plan) where
       by (Free host) of rest more = absurd of
       by Save of rest more = absurd of
       by (Ask comp k) of rest more = absurd of
+      by (Unmake id) of rest more = absurd of
 
   -- ---- the acts that make
 
@@ -315,7 +318,7 @@ module _ (plan : Plan) where
   -- ---- what is unmade again
 
   -- what of these indices is there is what was made of them, where none of them was up
-  module _ (up n : List ℕ) (apart : AreApart up n) (u : UpState) (was : ids_there u.there ≡ shown_ids plan up) (ps : List DynamicAct) (begins : Begins ps (making_acts plan u.kept n)) (free : AreFree plan u ps) (answered : AreAnswered plan u (map Ordinary (making_acts plan u.kept n))) where
+  module _ (up n : List ℕ) (apart : AreApart up n) (u : UpState) (was : ids_there u.there ≡ shown_ids plan up) (ps : List Act) (begins : Begins ps (making_acts plan u.kept n)) (free : AreFree plan u ps) (answered : AreAnswered plan u (making_acts plan u.kept n)) where
     abbrev made : List ℕ
     made = filter_map widget_made ps
 

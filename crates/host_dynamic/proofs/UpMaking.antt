@@ -43,11 +43,11 @@ use Rattle.host_widgets.proofs.PutsTaken.{bare-setting, setting_while, comp_whil
 use Rattle.ipc3_model.specs.declared.message.Message.TheVariants.{Connect, PipeComplete}
 use Rattle.mbox_link.specs.BlobParts.{parts}
 use Rattle.mbox_link.specs.Step.{row, first_setting, heap_with_piece, no_memory}
-use Rattle.host_dynamic.specs.DynamicActs.{Ordinary, widgets_at, widgets_of, is_control_of, finish_ids, making_acts}
+use Rattle.host_dynamic.specs.DynamicActs.{widgets_at, widgets_of, making_acts}
 use Rattle.host_dynamic.specs.There.{There, there_in, there_after, silent_state}
 use Rattle.host_dynamic.specs.Dynamic.{UpState}
-use Rattle.host_dynamic.specs.Need.{index_at, HasAt, HasBrought}
-use Rattle.host_dynamic.specs.Up.{is_up, join_index, is_join_at, buffer_joins}
+use Rattle.host_dynamic.specs.Need.{HasAt, HasBrought}
+use Rattle.host_dynamic.specs.Up.{is_join_at, buffer_joins}
 use Rattle.host_dynamic.proofs.Needs.{flat-in, in-flat, among-in, in-among, in-left, in-right, in-either, in-map, has-at}
 use Rattle.host_dynamic.proofs.Between.{same-bools, comp-named}
 use Rattle.host_dynamic.proofs.HostStreams.{stream-comp}
@@ -66,6 +66,8 @@ use Rattle.host_dynamic.proofs.UpStages.{Stage, StreamPair, stage_graph, IsHeapA
 use Rattle.host_dynamic.proofs.UpExchanges.{IsOwn, own-told, own-refused}
 use Rattle.host_dynamic.proofs.UpSending.{StagedFirst, AreAnswered}
 use Rattle.host_dynamic.proofs.UpWalks.{Runs, runs-on, with_there}
+use Rattle.host_widgets.specs.Groups.{is_control_of, finish_ids}
+use Rattle.host_widgets.specs.Indices.{index_at, is_up, join_index}
 
 -- the firmware itself refuses no widget that some hole holds
 hole-of : (b : Bool) (e : Errno) → ◌≡◌ {A = Option Errno} (cond b None (Some e)) None → b ≡ true
@@ -73,16 +75,16 @@ hole-of true e is = refl
 hole-of false e is = absurd (cc is)
 
 -- the first part of a blob asks for nothing that is staged
-puts-loose : (behind : List Act) → ((f : FwState) → StagedFirst (map Ordinary behind) f) → (ps : List Pair) (f : FwState) → StagedFirst (map Ordinary (flat_map control_acts ps ++ behind)) f
+puts-loose : (behind : List Act) → ((f : FwState) → StagedFirst behind f) → (ps : List Pair) (f : FwState) → StagedFirst (flat_map control_acts ps ++ behind) f
 puts-loose behind loose [] f = loose f
 puts-loose behind loose (p ∷ ps) f =
-    subst (λ (now : List Act). StagedFirst (map Ordinary now) f) (sym (append_assoc (control_acts p) (flat_map control_acts ps) behind)) (by p.0.kind (puts-loose behind loose ps f))
+    subst (λ (now : List Act). StagedFirst now f) (sym (append_assoc (control_acts p) (flat_map control_acts ps) behind)) (by p.0.kind (puts-loose behind loose ps f))
   where
-    parts-first : (m : ℕ) → StagedFirst (map Ordinary (flat_map control_acts ps ++ behind)) f → StagedFirst (map Ordinary (map (Part p.0.comp p.1.blob) (range_with_len 0 m) ++ (flat_map control_acts ps ++ behind))) f
+    parts-first : (m : ℕ) → StagedFirst (flat_map control_acts ps ++ behind) f → StagedFirst (map (Part p.0.comp p.1.blob) (range_with_len 0 m) ++ (flat_map control_acts ps ++ behind)) f
     parts-first zero rest = rest
     parts-first (suc m) rest = λ some. absurd (true≢false some)
 
-    by : (kind : ControlKind) → StagedFirst (map Ordinary (flat_map control_acts ps ++ behind)) f → StagedFirst (map Ordinary (control_acts_by p.0.comp kind p.1 ++ (flat_map control_acts ps ++ behind))) f
+    by : (kind : ControlKind) → StagedFirst (flat_map control_acts ps ++ behind) f → StagedFirst (control_acts_by p.0.comp kind p.1 ++ (flat_map control_acts ps ++ behind)) f
     by (Volume min max channels lowest step mute) rest = tt
     by (Choice items) rest = tt
     by (Masks min max channels) rest = tt
@@ -224,18 +226,18 @@ module _ (plan : Plan) (sound : IsSound plan) (s : UpState) (up n : List ℕ) (s
       let r = new x (inr there) in
       (r.0, r.1, or_from (x == id) (st.has x) (false_from_ne_true (x == id) (λ e. single.0 (subst (λ (y : ℕ). IsIn y ids) (eqb-true x id e) there))) r.2)
 
-  makes-run : (ids : List ℕ) (st : Stage) (t : There) → AreOnce ids → AreNew ids st → TakesWidget st → IsStage plan kept st t → Runs plan IsMaking (with_there plan s t) (map Ordinary (map Make ids)) (λ t. IsStage plan kept (after_ids ids st) t)
+  makes-run : (ids : List ℕ) (st : Stage) (t : There) → AreOnce ids → AreNew ids st → TakesWidget st → IsStage plan kept st t → Runs plan IsMaking (with_there plan s t) (map Make ids) (λ t. IsStage plan kept (after_ids ids st) t)
   makes-run [] st t single new takes is = is
   makes-run (id ∷ ids) st t single new takes is =
-      ((st, takes.amid, is), refl, λ free. makes-run ids (with_id id st) (there_after plan (Ordinary (Make id)) t) single.1 (new-rest id ids st single new) (with-id st id takes (new id (inl refl)).1) (now (hole-of (fits (rounded (stated_bytes plan id)) t.heap.holes) _ free)))
+      ((st, takes.amid, is), refl, λ free. makes-run ids (with_id id st) (there_after plan (Make id) t) single.1 (new-rest id ids st single new) (with-id st id takes (new id (inl refl)).1) (now (hole-of (fits (rounded (stated_bytes plan id)) t.heap.holes) _ free)))
     where
       r : (id < length plan.widgets) × (is_among n (index_of_id plan id) ≡ true) × (st.has id ≡ false)
       r = new id (inl refl)
 
-      now : fits (rounded (stated_bytes plan id)) t.heap.holes ≡ true → IsStage plan kept (with_id id st) (there_after plan (Ordinary (Make id)) t)
+      now : fits (rounded (stated_bytes plan id)) t.heap.holes ≡ true → IsStage plan kept (with_id id st) (there_after plan (Make id) t)
       now hole =
-          let made : there_after plan (Ordinary (Make id)) t ≡ at_stage plan kept (with_id id st) (heap_with_piece id (stated_bytes plan id) t.heap) =
-          ap (there_after plan (Ordinary (Make id))) is.is
+          let made : there_after plan (Make id) t ≡ at_stage plan kept (with_id id st) (heap_with_piece id (stated_bytes plan id) t.heap) =
+          ap (there_after plan (Make id)) is.is
           ∙ make-is plan sound kept st t.heap id r.0 r.2 hole
           (λ p there same here. none-done st takes (index_of_id plan id) r.1 p there same)
           (λ c found. let own = (component-found plan sound id c found).same in new-setting st takes c (ap (comp_of g) own ∙ found) (ap (λ (x : ℕ). is_among n (index_of_id plan x)) own ∙ r.1))
@@ -261,34 +263,34 @@ module _ (plan : Plan) (sound : IsSound plan) (s : UpState) (up n : List ℕ) (s
       ap (λ (x : There). told (row (silent_state x) (act_message plan (Make id)))) is.is
       ∙ make-refused plan sound kept st t.heap id r.0 r.2 (λ p there same here. none-done st takes (index_of_id plan id) r.1 p there same) none
 
-  own-widget : (id : ℕ) (st : Stage) (t : There) → (id < length plan.widgets) × (is_among n (index_of_id plan id) ≡ true) × (st.has id ≡ false) → TakesWidget st → IsStage plan kept st t → (f : FwState) → there_in f ≡ t → IsOwn plan (with_there plan s t) (Ordinary (Make id)) f
+  own-widget : (id : ℕ) (st : Stage) (t : There) → (id < length plan.widgets) × (is_among n (index_of_id plan id) ≡ true) × (st.has id ≡ false) → TakesWidget st → IsStage plan kept st t → (f : FwState) → there_in f ≡ t → IsOwn plan (with_there plan s t) (Make id) f
   own-widget id st t r takes is f same = by (fits (rounded (stated_bytes plan id)) t.heap.holes) refl
     where
-      by : (b : Bool) → fits (rounded (stated_bytes plan id)) t.heap.holes ≡ b → IsOwn plan (with_there plan s t) (Ordinary (Make id)) f
-      by true e = own-told plan (with_there plan s t) (Ordinary (Make id)) (make-whole plan sound id r.0) refl f same (ap (λ (b : Bool). cond b None (Some (errno no_memory))) e)
+      by : (b : Bool) → fits (rounded (stated_bytes plan id)) t.heap.holes ≡ b → IsOwn plan (with_there plan s t) (Make id) f
+      by true e = own-told plan (with_there plan s t) (Make id) (make-whole plan sound id r.0) refl f same (ap (λ (b : Bool). cond b None (Some (errno no_memory))) e)
           (at_stage plan kept (with_id id st) (heap_with_piece id (stated_bytes plan id) t.heap)) (widget-told id st t r takes is e)
-      by false e = own-refused plan (with_there plan s t) (Ordinary (Make id)) (make-whole plan sound id r.0) refl f same no_memory (ap (λ (b : Bool). cond b None (Some (errno no_memory))) e) (widget-refused id st t r takes is e)
+      by false e = own-refused plan (with_there plan s t) (Make id) (make-whole plan sound id r.0) refl f same no_memory (ap (λ (b : Bool). cond b None (Some (errno no_memory))) e) (widget-refused id st t r takes is e)
 
   -- the firmware answers each of these as the rules say, and so those after them
-  makes-asked : (ids : List ℕ) (st : Stage) (t : There) (behind : List Act) → AreOnce ids → AreNew ids st → TakesWidget st → IsStage plan kept st t → ((f : FwState) → StagedFirst (map Ordinary behind) f) →
-      ((x : There) → IsStage plan kept (after_ids ids st) x → AreAnswered plan (with_there plan s x) (map Ordinary behind)) → AreAnswered plan (with_there plan s t) (map Ordinary (map Make ids ++ behind))
+  makes-asked : (ids : List ℕ) (st : Stage) (t : There) (behind : List Act) → AreOnce ids → AreNew ids st → TakesWidget st → IsStage plan kept st t → ((f : FwState) → StagedFirst behind f) →
+      ((x : There) → IsStage plan kept (after_ids ids st) x → AreAnswered plan (with_there plan s x) behind) → AreAnswered plan (with_there plan s t) (map Make ids ++ behind)
   makes-asked [] st t behind single new takes is loose then = then t is
   makes-asked (id ∷ ids) st t behind single new takes is loose then = (
     make-fits plan sound id r.0,
     λ f same staged. own-widget id st t r takes is f same,
     λ f after staged done. first ids after,
     λ free.
-        makes-asked ids (with_id id st) (there_after plan (Ordinary (Make id)) t) behind single.1 (new-rest id ids st single new) (with-id st id takes r.1) (next (hole-of (fits (rounded (stated_bytes plan id)) t.heap.holes) _ free)) loose then,
+        makes-asked ids (with_id id st) (there_after plan (Make id) t) behind single.1 (new-rest id ids st single new) (with-id st id takes r.1) (next (hole-of (fits (rounded (stated_bytes plan id)) t.heap.holes) _ free)) loose then,
   )
     where
       r : (id < length plan.widgets) × (is_among n (index_of_id plan id) ≡ true) × (st.has id ≡ false)
       r = new id (inl refl)
 
-      first : (ids : List ℕ) (f : FwState) → StagedFirst (map Ordinary (map Make ids ++ behind)) f
+      first : (ids : List ℕ) (f : FwState) → StagedFirst (map Make ids ++ behind) f
       first [] f = loose f
       first (x ∷ xs) f = tt
 
-      next : fits (rounded (stated_bytes plan id)) t.heap.holes ≡ true → IsStage plan kept (with_id id st) (there_after plan (Ordinary (Make id)) t)
+      next : fits (rounded (stated_bytes plan id)) t.heap.holes ≡ true → IsStage plan kept (with_id id st) (there_after plan (Make id) t)
       next hole =
           let made = left-told t (row (silent_state t) (act_message plan (Make id))) (at_stage plan kept (with_id id st) (heap_with_piece id (stated_bytes plan id) t.heap)) (widget-told id st t r takes is hole) in
           let piece = piece-more plan sound kept st t.heap id r.0 r.2 is.heap in
@@ -488,32 +490,32 @@ module _ (plan : Plan) (sound : IsSound plan) (s : UpState) (up n : List ℕ) (s
             amid-next : IsAmid plan up n (with_joined j now)
             amid-next = subst (IsAmid plan up n) (λ i. record { has = now.has; joins = sym (append_assoc (flat_map (buffer_joins g) up) done (j ∷ [])) i; todo = now.todo; done = now.done }) (joined-amid (done ++ j ∷ []) in-next)
 
-    joins-run : (done rest : List Join) (t : There) → joins_of ≡ done ++ rest → Arrives (joined_stage done) t → Runs plan IsMaking (with_there plan s t) (map Ordinary (join_acts rest)) (Arrives (joined_stage joins_of))
+    joins-run : (done rest : List Join) (t : There) → joins_of ≡ done ++ rest → Arrives (joined_stage done) t → Runs plan IsMaking (with_there plan s t) (join_acts rest) (Arrives (joined_stage joins_of))
     joins-run done [] t cut is = is ∙ (λ i. at_stage plan kept (joined_stage ((sym (append-nil done) ∙ sym cut) i)) h)
     joins-run done (j ∷ rest) t cut is = (
       arrived (joined_stage done) t (joined-amid done (λ i there. subst (IsIn i) (sym cut) (in-left done (j ∷ rest) i there))) refl is,
       refl,
       λ free.
-          joins-run (done ++ j ∷ []) rest (there_after plan (Ordinary (acts.Join j.source j.sink)) t) (cut ∙ sym (append_assoc done (j ∷ []) rest))
+          joins-run (done ++ j ∷ []) rest (there_after plan (acts.Join j.source j.sink) t) (cut ∙ sym (append_assoc done (j ∷ []) rest))
           (left-told t (row (silent_state t) (Connect j.source j.sink)) (at_stage plan kept (joined_stage (done ++ j ∷ [])) h) (join-said done rest j t cut is)),
     )
 
-    joins-asked : (done rest : List Join) (t : There) (behind : List Act) → joins_of ≡ done ++ rest → Arrives (joined_stage done) t → ((f : FwState) → StagedFirst (map Ordinary behind) f) →
-        ((x : There) → Arrives (joined_stage joins_of) x → AreAnswered plan (with_there plan s x) (map Ordinary behind)) → AreAnswered plan (with_there plan s t) (map Ordinary (join_acts rest ++ behind))
+    joins-asked : (done rest : List Join) (t : There) (behind : List Act) → joins_of ≡ done ++ rest → Arrives (joined_stage done) t → ((f : FwState) → StagedFirst behind f) →
+        ((x : There) → Arrives (joined_stage joins_of) x → AreAnswered plan (with_there plan s x) behind) → AreAnswered plan (with_there plan s t) (join_acts rest ++ behind)
     joins-asked done [] t behind cut is loose then = then t (is ∙ (λ i. at_stage plan kept (joined_stage ((sym (append-nil done) ∙ sym cut) i)) h))
     joins-asked done (j ∷ rest) t behind cut is loose then = (
       join-fits plan sound j.source j.sink low.0 low.1,
-      λ f same staged. own-told plan (with_there plan s t) (Ordinary (acts.Join j.source j.sink)) tt refl f same refl (at_stage plan kept (joined_stage (done ++ j ∷ [])) h) (join-said done rest j t cut is),
+      λ f same staged. own-told plan (with_there plan s t) (acts.Join j.source j.sink) tt refl f same refl (at_stage plan kept (joined_stage (done ++ j ∷ [])) h) (join-said done rest j t cut is),
       λ f after staged passed. first rest after,
       λ free.
-          joins-asked (done ++ j ∷ []) rest (there_after plan (Ordinary (acts.Join j.source j.sink)) t) behind (cut ∙ sym (append_assoc done (j ∷ []) rest))
+          joins-asked (done ++ j ∷ []) rest (there_after plan (acts.Join j.source j.sink) t) behind (cut ∙ sym (append_assoc done (j ∷ []) rest))
           (left-told t (row (silent_state t) (Connect j.source j.sink)) (at_stage plan kept (joined_stage (done ++ j ∷ [])) h) (join-said done rest j t cut is)) loose then,
     )
       where
         low : (j.source < length plan.widgets) × (j.sink < length plan.widgets)
         low = join-low plan sound j (join-of j (subst (IsIn j) (sym cut) (in-right done (j ∷ rest) j (inl refl)))).whole
 
-        first : (js : List Join) (f : FwState) → StagedFirst (map Ordinary (join_acts js ++ behind)) f
+        first : (js : List Join) (f : FwState) → StagedFirst (join_acts js ++ behind) f
         first [] f = loose f
         first (x ∷ xs) f = tt
 
@@ -527,11 +529,11 @@ module _ (plan : Plan) (sound : IsSound plan) (s : UpState) (up n : List ℕ) (s
     control-facts : AllByRecursion (λ (p : Pair). control_at plan kept p.0.comp ≡ Some p) (controls_of plan kept)
     control-facts = each-found comp_at (controls_of plan kept) (zip-ascends plan.controls kept.controls sound.controls_ascend)
 
-    puts-run : (todo : List Pair) (t : There) → ((p : Pair) → IsIn p todo → IsIn p todo_of) → Ascends comp_at todo → Arrives (put_stage todo) t → Runs plan IsMaking (with_there plan s t) (map Ordinary (flat_map control_acts todo)) (Arrives (put_stage []))
+    puts-run : (todo : List Pair) (t : There) → ((p : Pair) → IsIn p todo → IsIn p todo_of) → Ascends comp_at todo → Arrives (put_stage todo) t → Runs plan IsMaking (with_there plan s t) (flat_map control_acts todo) (Arrives (put_stage []))
     puts-run [] t within rising is = is
     puts-run (p ∷ todo) t within rising is =
         runs-on plan IsMaking (Arrives (put_stage todo)) (Arrives (put_stage [])) (with_there plan s t) (control_acts p) (flat_map control_acts todo)
-        (subst (λ (x : There). Runs plan IsMaking (with_there plan s x) (map Ordinary (control_acts p)) (Arrives (put_stage todo))) (sym is)
+        (subst (λ (x : There). Runs plan IsMaking (with_there plan s x) (control_acts p) (Arrives (put_stage todo))) (sym is)
         (put-runs plan sound s IsMaking (joined_stage joins_of) (λ j there. ((joined-amid joins_of (λ i here. here)).joins j there).0) h p.0.comp p.1 todo (first-apart comp_at p todo rising) has p.0.kind live found set takes-it
         (arrived (put_stage (p ∷ todo)) (at_stage plan kept (put_stage (p ∷ todo)) h) (put-amid (p ∷ todo) within) refl refl)
         (put-leaves plan kept control-facts p set) (part-leaves plan kept control-facts p set)))
@@ -556,12 +558,12 @@ module _ (plan : Plan) (sound : IsSound plan) (s : UpState) (up n : List ℕ) (s
         has = has-all p.0.comp (component-found plan sound p.0.comp live.comp live.there).low
             (among-both up n (index_of_id plan p.0.comp) ∙ or_right (is_among up (index_of_id plan p.0.comp)) (is_among n (index_of_id plan p.0.comp)) (sym (comp-up-by plan sound n p.0.comp live.comp live.there) ∙ mine.1))
 
-    puts-asked : (todo : List Pair) (t : There) (behind : List Act) → ((p : Pair) → IsIn p todo → IsIn p todo_of) → Ascends comp_at todo → Arrives (put_stage todo) t → ((f : FwState) → StagedFirst (map Ordinary behind) f) →
-        ((x : There) → Arrives (put_stage []) x → AreAnswered plan (with_there plan s x) (map Ordinary behind)) → AreAnswered plan (with_there plan s t) (map Ordinary (flat_map control_acts todo ++ behind))
+    puts-asked : (todo : List Pair) (t : There) (behind : List Act) → ((p : Pair) → IsIn p todo → IsIn p todo_of) → Ascends comp_at todo → Arrives (put_stage todo) t → ((f : FwState) → StagedFirst behind f) →
+        ((x : There) → Arrives (put_stage []) x → AreAnswered plan (with_there plan s x) behind) → AreAnswered plan (with_there plan s t) (flat_map control_acts todo ++ behind)
     puts-asked [] t behind within rising is loose then = then t is
     puts-asked (p ∷ todo) t behind within rising is loose then =
-        subst (λ (acts_now : List Act). AreAnswered plan (with_there plan s t) (map Ordinary acts_now)) (sym (append_assoc (control_acts p) (flat_map control_acts todo) behind))
-        (subst (λ (x : There). AreAnswered plan (with_there plan s x) (map Ordinary (control_acts p ++ (flat_map control_acts todo ++ behind)))) (sym is)
+        subst (λ (acts_now : List Act). AreAnswered plan (with_there plan s t) acts_now) (sym (append_assoc (control_acts p) (flat_map control_acts todo) behind))
+        (subst (λ (x : There). AreAnswered plan (with_there plan s x) (control_acts p ++ (flat_map control_acts todo ++ behind))) (sym is)
         (put-asked plan sound s IsMaking (joined_stage joins_of) (λ j there. ((joined-amid joins_of (λ i here. here)).joins j there).0) h p.0.comp p.1 todo (first-apart comp_at p todo rising) has p.0.kind live found set takes-it
         (put-leaves plan kept control-facts p set) (part-leaves plan kept control-facts p set)
         (flat_map control_acts todo ++ behind) (puts-loose behind loose todo)
@@ -621,13 +623,13 @@ module _ (plan : Plan) (sound : IsSound plan) (s : UpState) (up n : List ℕ) (s
             (in-all (λ (x : Pipe). is_among (up ++ n) x.index ≡ true → HasAt (is_among (up ++ n)) (index_at g x.sched)) g.pipes p more.schedulers mine.0 (both p.index mine.1))
 
     finishes-run : (ps : List Pipe) (done : ℕ → Bool) (t : There) → ((p : Pipe) → IsIn p ps → IsIn p pipes_of) → Ascends (λ (p : Pipe). p.id) ps → ((id : ℕ) → is_among up (index_of_id plan id) ≡ true → done id ≡ true) →
-        ((p : Pipe) → IsIn p ps → done p.id ≡ false) → Arrives (finish_stage done) t → Runs plan IsMaking (with_there plan s t) (map Ordinary (map Finish (map (λ (p : Pipe). p.id) ps))) (Arrives (finish_stage (done_with (map (λ (p : Pipe). p.id) ps) done)))
+        ((p : Pipe) → IsIn p ps → done p.id ≡ false) → Arrives (finish_stage done) t → Runs plan IsMaking (with_there plan s t) (map Finish (map (λ (p : Pipe). p.id) ps)) (Arrives (finish_stage (done_with (map (λ (p : Pipe). p.id) ps) done)))
     finishes-run [] done t within rising keeps undone is = is
     finishes-run (p ∷ ps) done t within rising keeps undone is = (
       arrived (finish_stage done) t (finish-amid done keeps) refl is,
       refl,
       λ free.
-          finishes-run ps (λ x. (x == p.id) || done x) (there_after plan (Ordinary (Finish p.id)) t) (λ q there. within q (inr there)) (rest-ascends (λ (q : Pipe). q.id) p ps rising) (λ id in_up. or_right (id == p.id) (done id) (keeps id in_up)) still-open
+          finishes-run ps (λ x. (x == p.id) || done x) (there_after plan (Finish p.id) t) (λ q there. within q (inr there)) (rest-ascends (λ (q : Pipe). q.id) p ps rising) (λ id in_up. or_right (id == p.id) (done id) (keeps id in_up)) still-open
           (left-told t (row (silent_state t) (PipeComplete p.id)) (at_stage plan kept (finish_stage (λ x. (x == p.id) || done x)) h) (finish-said p done t (within p (inl refl)) keeps (undone p (inl refl)) is)),
     )
       where
@@ -636,14 +638,14 @@ module _ (plan : Plan) (sound : IsSound plan) (s : UpState) (up n : List ℕ) (s
             or_from (q.id == p.id) (done q.id) (false_from_ne_true (q.id == p.id) (λ e. true≢false (sym (in-any (λ (x : Pipe). x.id == p.id) ps q there e) ∙ first-apart (λ (x : Pipe). x.id) p ps rising))) (undone q (inr there))
 
     finishes-asked : (ps : List Pipe) (done : ℕ → Bool) (t : There) → ((p : Pipe) → IsIn p ps → IsIn p pipes_of) → Ascends (λ (p : Pipe). p.id) ps → ((id : ℕ) → is_among up (index_of_id plan id) ≡ true → done id ≡ true) →
-        ((p : Pipe) → IsIn p ps → done p.id ≡ false) → Arrives (finish_stage done) t → AreAnswered plan (with_there plan s t) (map Ordinary (map Finish (map (λ (p : Pipe). p.id) ps)))
+        ((p : Pipe) → IsIn p ps → done p.id ≡ false) → Arrives (finish_stage done) t → AreAnswered plan (with_there plan s t) (map Finish (map (λ (p : Pipe). p.id) ps))
     finishes-asked [] done t within rising keeps undone is = tt
     finishes-asked (p ∷ ps) done t within rising keeps undone is = (
       finish-fits plan sound p.id (pipeline-found plan sound p.id p found).low,
-      λ f same staged. own-told plan (with_there plan s t) (Ordinary (Finish p.id)) tt refl f same refl (at_stage plan kept (finish_stage (λ x. (x == p.id) || done x)) h) said,
+      λ f same staged. own-told plan (with_there plan s t) (Finish p.id) tt refl f same refl (at_stage plan kept (finish_stage (λ x. (x == p.id) || done x)) h) said,
       λ f after staged passed. first ps after,
       λ free.
-          finishes-asked ps (λ x. (x == p.id) || done x) (there_after plan (Ordinary (Finish p.id)) t) (λ q there. within q (inr there)) (rest-ascends (λ (q : Pipe). q.id) p ps rising) (λ id in_up. or_right (id == p.id) (done id) (keeps id in_up)) still-open
+          finishes-asked ps (λ x. (x == p.id) || done x) (there_after plan (Finish p.id) t) (λ q there. within q (inr there)) (rest-ascends (λ (q : Pipe). q.id) p ps rising) (λ id in_up. or_right (id == p.id) (done id) (keeps id in_up)) still-open
           (left-told t (row (silent_state t) (PipeComplete p.id)) (at_stage plan kept (finish_stage (λ x. (x == p.id) || done x)) h) said),
     )
       where
@@ -657,7 +659,7 @@ module _ (plan : Plan) (sound : IsSound plan) (s : UpState) (up n : List ℕ) (s
         still-open q there =
             or_from (q.id == p.id) (done q.id) (false_from_ne_true (q.id == p.id) (λ e. true≢false (sym (in-any (λ (x : Pipe). x.id == p.id) ps q there e) ∙ first-apart (λ (x : Pipe). x.id) p ps rising))) (undone q (inr there))
 
-        first : (qs : List Pipe) (f : FwState) → StagedFirst (map Ordinary (map Finish (map (λ (q : Pipe). q.id) qs))) f
+        first : (qs : List Pipe) (f : FwState) → StagedFirst (map Finish (map (λ (q : Pipe). q.id) qs)) f
         first [] f = tt
         first (x ∷ xs) f = tt
 
@@ -707,7 +709,7 @@ module _ (plan : Plan) (sound : IsSound plan) (s : UpState) (up n : List ℕ) (s
   -- ---- all of it
 
   making-ends : (t : There) → IsStage plan kept made_stage t → Runs plan IsMaking (with_there plan s t)
-      (map Ordinary (join_acts joins_of ++ (flat_map control_acts todo_of ++ map Finish (finish_ids g n)))) (λ x. IsStage plan kept (up_stage plan (up ++ n)) x)
+      (join_acts joins_of ++ (flat_map control_acts todo_of ++ map Finish (finish_ids g n))) (λ x. IsStage plan kept (up_stage plan (up ++ n)) x)
   making-ends t is =
       runs-on plan IsMaking (Arrives h heap (joined_stage joins_of)) Last (with_there plan s t) (join_acts joins_of) (flat_map control_acts todo_of ++ map Finish (finish_ids g n))
       (joins-run h heap [] joins_of t refl (joins-begin t is))
@@ -736,18 +738,18 @@ module _ (plan : Plan) (sound : IsSound plan) (s : UpState) (up n : List ℕ) (s
       arrives-last x is = subst Last (sym (is ∙ end-same h)) (record { is = refl; heap = heap-same plan sound kept last_stage (up_stage plan (up ++ n)) end-has h (record { pieces = heap.pieces; sizes = heap.sizes }) })
 
       -- what it ends in is what is up
-      weaken : (xs : List Act) (u : UpState) → Runs plan IsMaking u (map Ordinary xs) (Arrives h heap last_stage) → Runs plan IsMaking u (map Ordinary xs) Last
+      weaken : (xs : List Act) (u : UpState) → Runs plan IsMaking u xs (Arrives h heap last_stage) → Runs plan IsMaking u xs Last
       weaken [] u runs = arrives-last u.there runs
-      weaken (x ∷ xs) u runs = (runs.0, runs.1, λ free. weaken xs (with_there plan u (there_after plan (Ordinary x) u.there)) (runs.2 free))
+      weaken (x ∷ xs) u runs = (runs.0, runs.1, λ free. weaken xs (with_there plan u (there_after plan x u.there)) (runs.2 free))
 
-  pub makes-up : IsStage plan kept (up_stage plan up) s.there → Runs plan IsMaking s (map Ordinary (making_acts plan kept n)) (λ t. IsStage plan kept (up_stage plan (up ++ n)) t)
+  pub makes-up : IsStage plan kept (up_stage plan up) s.there → Runs plan IsMaking s (making_acts plan kept n) (λ t. IsStage plan kept (up_stage plan (up ++ n)) t)
   makes-up is =
       runs-on plan IsMaking (λ t. IsStage plan kept made_stage t) (λ t. IsStage plan kept (up_stage plan (up ++ n)) t) s (map Make ids_of) (join_acts joins_of ++ (flat_map control_acts todo_of ++ map Finish (finish_ids g n)))
       (makes-run ids_of first_stage s.there ids-once first-new first-takes (record { is = is.is ∙ begin-same s.there.heap; heap = record { pieces = is.heap.pieces; sizes = is.heap.sizes } }))
       making-ends
 
   -- the firmware answers all of it as the rules say
-  ends-asked : (t : There) → IsStage plan kept made_stage t → AreAnswered plan (with_there plan s t) (map Ordinary (join_acts joins_of ++ (flat_map control_acts todo_of ++ map Finish (finish_ids g n))))
+  ends-asked : (t : There) → IsStage plan kept made_stage t → AreAnswered plan (with_there plan s t) (join_acts joins_of ++ (flat_map control_acts todo_of ++ map Finish (finish_ids g n)))
   ends-asked t is =
       joins-asked h heap [] joins_of t (flat_map control_acts todo_of ++ map Finish (finish_ids g n)) refl (joins-begin t is) (λ f. loose-puts f)
       (λ x arrives. puts-asked h heap todo_of x (map Finish (finish_ids g n)) (λ p there. there) todo-ascends arrives (loose-finishes pipes_of)
@@ -767,42 +769,42 @@ module _ (plan : Plan) (sound : IsSound plan) (s : UpState) (up n : List ℕ) (s
           let r = kept-in (λ (q : Pipe). is_among n q.index) g.pipes p there in
           ap (is_among up) (own-index plan sound p r.0) ∙ apart p.index r.1
 
-      loose-finishes : (ps : List Pipe) (f : FwState) → StagedFirst (map Ordinary (map Finish (map (λ (p : Pipe). p.id) ps))) f
+      loose-finishes : (ps : List Pipe) (f : FwState) → StagedFirst (map Finish (map (λ (p : Pipe). p.id) ps)) f
       loose-finishes [] f = tt
       loose-finishes (p ∷ ps) f = tt
 
-      loose-puts : (f : FwState) → StagedFirst (map Ordinary (flat_map control_acts todo_of ++ map Finish (finish_ids g n))) f
+      loose-puts : (f : FwState) → StagedFirst (flat_map control_acts todo_of ++ map Finish (finish_ids g n)) f
       loose-puts f = puts-loose (map Finish (finish_ids g n)) (loose-finishes pipes_of) todo_of f
 
-  pub makes-answered : IsStage plan kept (up_stage plan up) s.there → AreAnswered plan s (map Ordinary (making_acts plan kept n))
+  pub makes-answered : IsStage plan kept (up_stage plan up) s.there → AreAnswered plan s (making_acts plan kept n)
   makes-answered is =
       makes-asked ids_of first_stage s.there (join_acts joins_of ++ (flat_map control_acts todo_of ++ map Finish (finish_ids g n))) ids-once first-new first-takes (record { is = is.is ∙ begin-same s.there.heap; heap = record { pieces = is.heap.pieces; sizes = is.heap.sizes } })
       loose-joins ends-asked
     where
-      loose-finishes : (ps : List Pipe) (f : FwState) → StagedFirst (map Ordinary (map Finish (map (λ (p : Pipe). p.id) ps))) f
+      loose-finishes : (ps : List Pipe) (f : FwState) → StagedFirst (map Finish (map (λ (p : Pipe). p.id) ps)) f
       loose-finishes [] f = tt
       loose-finishes (p ∷ ps) f = tt
 
-      loose-joins : (f : FwState) → StagedFirst (map Ordinary (join_acts joins_of ++ (flat_map control_acts todo_of ++ map Finish (finish_ids g n)))) f
+      loose-joins : (f : FwState) → StagedFirst (join_acts joins_of ++ (flat_map control_acts todo_of ++ map Finish (finish_ids g n))) f
       loose-joins f = by joins_of (puts-loose (map Finish (finish_ids g n)) (loose-finishes pipes_of) todo_of f)
         where
-          by : (js : List Join) → StagedFirst (map Ordinary (flat_map control_acts todo_of ++ map Finish (finish_ids g n))) f → StagedFirst (map Ordinary (join_acts js ++ (flat_map control_acts todo_of ++ map Finish (finish_ids g n)))) f
+          by : (js : List Join) → StagedFirst (flat_map control_acts todo_of ++ map Finish (finish_ids g n)) f → StagedFirst (join_acts js ++ (flat_map control_acts todo_of ++ map Finish (finish_ids g n))) f
           by [] rest = rest
           by (j ∷ js) rest = tt
 
   -- the first of them asks for nothing that is staged
-  pub making-loose : (f : FwState) → StagedFirst (map Ordinary (making_acts plan kept n)) f
+  pub making-loose : (f : FwState) → StagedFirst (making_acts plan kept n) f
   making-loose f = by ids_of (joined joins_of (puts-loose (map Finish (finish_ids g n)) (finished pipes_of) todo_of f))
     where
-      finished : (ps : List Pipe) (f : FwState) → StagedFirst (map Ordinary (map Finish (map (λ (p : Pipe). p.id) ps))) f
+      finished : (ps : List Pipe) (f : FwState) → StagedFirst (map Finish (map (λ (p : Pipe). p.id) ps)) f
       finished [] f = tt
       finished (p ∷ ps) f = tt
 
-      joined : (js : List Join) → StagedFirst (map Ordinary (flat_map control_acts todo_of ++ map Finish (finish_ids g n))) f → StagedFirst (map Ordinary (join_acts js ++ (flat_map control_acts todo_of ++ map Finish (finish_ids g n)))) f
+      joined : (js : List Join) → StagedFirst (flat_map control_acts todo_of ++ map Finish (finish_ids g n)) f → StagedFirst (join_acts js ++ (flat_map control_acts todo_of ++ map Finish (finish_ids g n))) f
       joined [] rest = rest
       joined (j ∷ js) rest = tt
 
-      by : (ids : List ℕ) → StagedFirst (map Ordinary (join_acts joins_of ++ (flat_map control_acts todo_of ++ map Finish (finish_ids g n)))) f →
-          StagedFirst (map Ordinary (map Make ids ++ (join_acts joins_of ++ (flat_map control_acts todo_of ++ map Finish (finish_ids g n))))) f
+      by : (ids : List ℕ) → StagedFirst (join_acts joins_of ++ (flat_map control_acts todo_of ++ map Finish (finish_ids g n))) f →
+          StagedFirst (map Make ids ++ (join_acts joins_of ++ (flat_map control_acts todo_of ++ map Finish (finish_ids g n)))) f
       by [] rest = rest
       by (id ∷ ids) rest = tt

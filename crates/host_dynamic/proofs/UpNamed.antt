@@ -31,7 +31,6 @@ use Rattle.host_pcm.specs.StreamOrders.{asking_order, stream_order}
 use Rattle.host_pcm.proofs.HostTests.{Found_place, found_place}
 use Rattle.host_pcm.proofs.StreamCalls.{ranges}
 use Rattle.host_ctl.proofs.ControlTests.{loaded}
-use Rattle.host_dynamic.specs.DynamicActs.{Ordinary}
 use Rattle.host_dynamic.specs.Dynamic.{UpState, up_act_rules, plain_job, lacking, opening_by, opening_job, closing_by, closing_job}
 use Rattle.host_dynamic.specs.UpStates.{IsUpState}
 use Rattle.host_dynamic.proofs.HostStreams.{IsHostKind, stream-comp}
@@ -124,7 +123,7 @@ module _ (plan : Plan) (sound : IsSound plan) (s : UpState) (is : IsUpState plan
     -- it has parameters
     params-at : s.kept.power ≡ powers.On → (params : Params) → are_in_range params ≡ true → takes_params p.1.found ≡ true → Keeps plan next (IsUpState plan) s q (plain_job plan s (asking_order plan s.kept host p.1.found (Preparing params))).routine
     params-at on params range takes = sends-keeps plan sound next (λ now. now) s q (Prepare host params ∷ []) answers.Done
-        (λ e. (is, λ free. settled-state plan sound ((up_act_rules plan).after (Ordinary (Prepare host params)) s) (prepared-state plan sound s is on host p found takes params range free)))
+        (λ e. (is, λ free. settled-state plan sound ((up_act_rules plan).after (Prepare host params) s) (prepared-state plan sound s is on host p found takes params range free)))
         (λ off. absurd (off on))
 
   -- ---- the stream of a name

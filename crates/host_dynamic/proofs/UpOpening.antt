@@ -29,10 +29,10 @@ use Rattle.host_widgets.proofs.Records.{down-record, down-rests}
 use Rattle.host_widgets.proofs.RecordsStay.{AllAt, record-less}
 use Rattle.host_pcm.specs.Asks.{is_closed}
 use Rattle.host_pcm.specs.StreamCalls.{opened_stream}
-use Rattle.host_dynamic.specs.DynamicActs.{DynamicAct, Ordinary, making_acts, unmaking_acts}
+use Rattle.host_dynamic.specs.DynamicActs.{making_acts, unmaking_acts}
 use Rattle.host_dynamic.specs.There.{There, ids_there_of}
 use Rattle.host_dynamic.specs.Dynamic.{UpState, needed, lacking, cut_off, up_act_rules, with_stream_open, after_unmaking, unmade, after_making, opening_by}
-use Rattle.host_dynamic.specs.Need.{need_in, pipe_indices, is_needed}
+use Rattle.host_dynamic.specs.Need.{need_in, is_needed}
 use Rattle.host_dynamic.specs.UpStates.{IsThere, IsThereBy, IsUpState}
 use Rattle.host_dynamic.proofs.Needs.{in-map, in-among}
 use Rattle.host_dynamic.proofs.Sublists.{AreOnce, once-filter, once-append, distinct-once, once-distinct}
@@ -44,6 +44,8 @@ use Rattle.host_dynamic.proofs.StageStreams.{changed_one, zip-changed}
 use Rattle.host_dynamic.proofs.UpStanding.{there-stage, stage-there}
 use Rattle.host_dynamic.proofs.UpUnmaking.{unmakes}
 use Rattle.host_dynamic.proofs.UpWalks.{with_there, Runs, Met, HasEnded, walk-runs, Keeps}
+use Rattle.host_widgets.specs.HostActs.{Act}
+use Rattle.host_widgets.specs.Indices.{pipe_indices}
 
 -- a member of a map
 pub mapped-in : {X Y : Type 0} (f : X → Y) (xs : List X) (y : Y) → IsIn y (map f xs) → (x : X) × IsIn x xs × (y ≡ f x)
@@ -137,7 +139,7 @@ module _ (plan : Plan) (sound : IsSound plan) where
         u_is : with_there plan (record { kept = kept; up = u.up; there = u.there }) u.there ≡ u
         u_is = λ i. record { kept = sym same i; up = u.up; there = u.there }
 
-        w : Walked UpState DynamicAct Q
+        w : Walked UpState Act Q
         w = walk (up_act_rules plan) false next u q (unmaking_acts plan (ids_there_of plan n u.there))
 
         runs : Runs plan (λ t. Unit {0}) u (unmaking_acts plan (ids_there_of plan n u.there)) (λ t. IsStage plan kept (up_stage plan up) t)
@@ -268,7 +270,7 @@ module _ (plan : Plan) (sound : IsSound plan) where
       abbrev End : There → Type 0
       End t = IsStage plan s.kept (up_stage plan (s.up ++ n)) t
 
-      runs : Runs plan Mid s (map Ordinary (making_acts plan s.kept n)) End
+      runs : Runs plan Mid s (making_acts plan s.kept n) End
       runs = makes-up plan sound s s.up n serves apart (both-brought plan sound s.kept s.up is.record_is is.up host c found) n-once (there-stage plan sound s begun)
 
       kept-so : (u : UpState) → u.kept ≡ s.kept → u.up ≡ s.up → IsKept u.kept u.up
@@ -314,8 +316,8 @@ module _ (plan : Plan) (sound : IsSound plan) where
 
       pub opening-keeps : (q : Q) → Keeps plan next (IsUpState plan) s q (opening_by powers.On plan host n s)
       opening-keeps q =
-          let w = walk (up_act_rules plan) false next s q (map Ordinary (making_acts plan s.kept n)) in
-          let ended = walk-runs plan next Mid End (map Ordinary (making_acts plan s.kept n)) s q runs in
+          let w = walk (up_act_rules plan) false next s q (making_acts plan s.kept n) in
+          let ended = walk-runs plan next Mid End (making_acts plan s.kept n) s q runs in
           come w.kept ended.kept ended.up w.queue w.outcome ended.met
 
     -- while the power is off nothing is sent

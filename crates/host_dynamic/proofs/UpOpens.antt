@@ -1,5 +1,5 @@
 -- Opening a stream over any device: the results of the messages that make and unmake are what the rules say.
-use Rattle.std.proofs.Common.{◌≡◌, refl, sym, ap, subst, ◌∙◌, ℕ, List, [], ◌∷◌, ◌++◌, map, false, not, Some, None, Ok, Err}
+use Rattle.std.proofs.Common.{◌≡◌, refl, sym, ap, subst, ◌∙◌, ℕ, List, [], ◌∷◌, ◌++◌, false, not, Some, None, Ok, Err}
 use Rattle.std.specs.Prelude.{is_some}
 use Rattle.std.specs.List.{filter_map}
 use Rattle.sof_base.specs.declared.errno.Errno.{Errno}
@@ -22,10 +22,9 @@ use Rattle.host_widgets.specs.Host.{Outcome}
 use Rattle.host_widgets.specs.Kept.{went_down}
 use Rattle.host_widgets.specs.Routines.{Finished, Sending, JobDone}
 use Rattle.host_widgets.specs.Walk.{Walked, walk, first_of}
-use Rattle.host_dynamic.specs.DynamicActs.{DynamicAct, Ordinary, making_acts, unmaking_acts}
+use Rattle.host_dynamic.specs.DynamicActs.{making_acts, unmaking_acts}
 use Rattle.host_dynamic.specs.Dynamic.{UpState, lacking, cut_off, up_act_rules, with_stream_open, after_unmaking, after_making, opening_by, opening_job}
-use Rattle.host_dynamic.specs.ListCalls.{DynamicSent, widget_made}
-use Rattle.host_dynamic.specs.Need.{need_in, pipe_indices, is_needed}
+use Rattle.host_dynamic.specs.Need.{need_in, is_needed}
 use Rattle.host_dynamic.specs.There.{There, there_in, ids_there_of}
 use Rattle.host_dynamic.specs.UpCalls.{WasCut, Unmade, AfterMaking, MadeOrCut}
 use Rattle.host_dynamic.specs.UpDevices.{there_on}
@@ -42,6 +41,9 @@ use Rattle.host_dynamic.proofs.UpStages.{IsStage, up_stage}
 use Rattle.host_dynamic.proofs.UpStanding.{there-stage}
 use Rattle.host_dynamic.proofs.UpUnmaking.{unmakes, unmakes-answered}
 use Rattle.host_dynamic.proofs.UpWalks.{with_there, Runs, HasEnded, Met, walk-runs}
+use Rattle.host_widgets.specs.HostActs.{Act}
+use Rattle.host_widgets.specs.MadeLists.{ActsPassed, widget_made}
+use Rattle.host_widgets.specs.Indices.{pipe_indices}
 
 module _ {D : Type 0} (means : Meaning D) (plan : Plan) (sound : IsSound plan) (heap : ℕ) where
   -- ---- opening
@@ -50,8 +52,8 @@ module _ {D : Type 0} (means : Meaning D) (plan : Plan) (sound : IsSound plan) (
     abbrev n : List ℕ
     n = lacking plan s.up host
 
-    abbrev acts : List DynamicAct
-    acts = map Ordinary (making_acts plan s.kept n)
+    abbrev acts : List Act
+    acts = (making_acts plan s.kept n)
 
     serves : IsServing plan s.kept s.up
     serves = serving plan sound s.kept s.up is.record_is is.up
@@ -87,12 +89,12 @@ module _ {D : Type 0} (means : Meaning D) (plan : Plan) (sound : IsSound plan) (
       sends : (opening_job plan s host).routine ≡ Sending acts false (after_making plan host n)
       sends = ap (λ (power : Power). opening_by power plan host n s) on
 
-      module _ (passed : List DynamicAct) (mid : World D) (outcome : Outcome) (sent : DynamicSent means plan acts passed w mid outcome) where
+      module _ (passed : List Act) (mid : World D) (outcome : Outcome) (sent : ActsPassed means plan acts passed w mid outcome) where
         h : HasSent plan means s acts passed w mid outcome
         h = sent-did plan means acts passed s w mid outcome f on_w same (making-loose plan sound s s.up n serves apart (both-brought plan sound s.kept s.up is.record_is is.up host c found) n-once f)
             (makes-answered plan sound s s.up n serves apart (both-brought plan sound s.kept s.up is.record_is is.up host c found) n-once (there-stage plan sound s begun)) sent
 
-        abbrev x : Walked UpState DynamicAct (List Meeting)
+        abbrev x : Walked UpState Act (List Meeting)
         x = walk (up_act_rules plan) false next_of s h.meetings acts
 
         abbrev u : UpState
@@ -132,7 +134,7 @@ module _ {D : Type 0} (means : Meaning D) (plan : Plan) (sound : IsSound plan) (
 
         -- a refusal unmakes what was made
         module _ (e : Errno) (refused : outcome ≡ Err (faults.Refused e)) (made : List ℕ) (made_are : made ≡ filter_map widget_made passed) where
-          abbrev more : List DynamicAct
+          abbrev more : List Act
           more = unmaking_acts plan (ids_there_of plan n u.there)
 
           now-at : (g : FwState) × (means.on mid.device ≡ Some g) × (there_in g ≡ u.there)
@@ -154,13 +156,13 @@ module _ {D : Type 0} (means : Meaning D) (plan : Plan) (sound : IsSound plan) (
               (makes-answered plan sound s s.up n serves apart (both-brought plan sound s.kept s.up is.record_is is.up host c found) n-once (there-stage plan sound s begun))
               ∙ ap (λ (y : UpState). unmaking_acts plan (ids_there_of plan n y.there)) (sym h.left)
 
-          module _ (passed' : List DynamicAct) (at : World D) (outcome' : Outcome) (sent' : DynamicSent means plan (unmaking_acts plan made) passed' mid at outcome') where
+          module _ (passed' : List Act) (at : World D) (outcome' : Outcome) (sent' : ActsPassed means plan (unmaking_acts plan made) passed' mid at outcome') where
             h' : HasSent plan means u more passed' mid at outcome'
             h' = sent-did plan means more passed' u mid at outcome' now-at.0 now-at.1 now-at.2 (unmakes-loose _ now-at.0)
                 (subst (λ (y : UpState). AreAnswered plan y more) again-is (unmakes-answered plan sound s s.up n serves apart amid.0 u.there amid.1 amid.2))
-                (subst (λ (l : List DynamicAct). DynamicSent means plan l passed' mid at outcome') same-list sent')
+                (subst (λ (l : List Act). ActsPassed means plan l passed' mid at outcome') same-list sent')
 
-            abbrev x' : Walked UpState DynamicAct (List Meeting)
+            abbrev x' : Walked UpState Act (List Meeting)
             x' = walk (up_act_rules plan) false next_of u h'.meetings more
 
             ended' : HasEnded plan Any (λ t. IsStage plan s.kept (up_stage plan s.up) t) u x'

@@ -1,5 +1,5 @@
 -- Plain orders that are done by the rules of a host that makes pipelines on use leave the device on where the power is.
-use Rattle.std.proofs.Common.{◌≡◌, refl, sym, ap, subst, ◌∙◌, ℕ, true, false, List, [], map, Option, Some, None, Ok, Err}
+use Rattle.std.proofs.Common.{◌≡◌, refl, sym, ap, subst, ◌∙◌, ℕ, true, false, List, [], Option, Some, None, Ok, Err}
 use Rattle.std.specs.Prelude.{is_some}
 use Rattle.stream_law.specs.State.{FwState}
 use Rattle.mbox_link.specs.Calls.{World, Meaning, Led}
@@ -15,7 +15,6 @@ use Rattle.host_widgets.specs.Host.{Outcome}
 use Rattle.host_widgets.specs.HostActs.{Act}
 use Rattle.host_widgets.specs.Orders.{Procedure, Plain, plain_end, sends}
 use Rattle.host_widgets.specs.Routines.{Routine, Finished, JobDone}
-use Rattle.host_dynamic.specs.DynamicActs.{DynamicAct, Ordinary}
 use Rattle.host_dynamic.specs.Dynamic.{UpState, there_by, settled, up_act_rules, plain_job, unsent}
 use Rattle.host_dynamic.specs.There.{there_in}
 use Rattle.host_dynamic.specs.UpDevices.{there_on, up_state_in}
@@ -65,7 +64,7 @@ module _ (plan : Plan) {D : Type 0} (means : Meaning D) (heap : ℕ) (done : Rec
     abbrev order : List Act → Procedure
     order xs = record { first = []; acts = xs; ending = Plain; done = done; answer = answer }
 
-    abbrev then_by : UpState → Outcome → Routine UpState DynamicAct
+    abbrev then_by : UpState → Outcome → Routine UpState Act
     then_by now outcome = let e = plain_end done now.kept outcome in Finished (settled e.0 now) e.1
 
     rest-switched : (kept' : Record) (v : World D) → kept' ≡ done kept → v ≡ w → IsSwitched kept'.power (means.on v.device)
@@ -95,7 +94,7 @@ module _ (plan : Plan) {D : Type 0} (means : Meaning D) (heap : ℕ) (done : Rec
             (once-done means (up_act_rules plan) heap (plain_job plan s (order [])) [] false then_by refl w w w w refl s (Ok tt) gone (settled (done kept) s) [] refl refl)
 
     -- these are sent, and answered as the rules say
-    acts-switched : (xs : List Act) (kept' : Record) (v : World D) (result : Outcome) → kept.power ≡ powers.On → AreAnswered plan s (map Ordinary xs) → ((f : FwState) → StagedFirst (map Ordinary xs) f) → ActsAnswered means plan heap done xs kept kept' w v result →
+    acts-switched : (xs : List Act) (kept' : Record) (v : World D) (result : Outcome) → kept.power ≡ powers.On → AreAnswered plan s xs → ((f : FwState) → StagedFirst xs f) → ActsAnswered means plan heap done xs kept kept' w v result →
         (f : FwState) → means.on w.device ≡ Some f → IsSwitched kept'.power (means.on v.device)
     acts-switched xs kept' v result on answered loose all f at =
         subst (λ (k : Record). IsSwitched k.power (means.on v.device)) (sym l.ends.0) (ended-switched result left l.sent v (all-power plan l.passed s ∙ on) left-there l.ends.1)
@@ -104,16 +103,16 @@ module _ (plan : Plan) {D : Type 0} (means : Meaning D) (heap : ℕ) (done : Rec
         l = split plan means heap done xs s kept' w v result all
 
         left : UpState
-        left = after_all plan s (map Ordinary l.passed)
+        left = after_all plan s l.passed
 
-        h : HasSent plan means s (map Ordinary xs) (map Ordinary l.passed) w l.sent result
-        h = sent-did plan means (map Ordinary xs) (map Ordinary l.passed) s w l.sent result f at (ap there_on (sym at)) (loose f) answered l.did
+        h : HasSent plan means s xs l.passed w l.sent result
+        h = sent-did plan means xs l.passed s w l.sent result f at (ap there_on (sym at)) (loose f) answered l.did
 
         left-there : EndsThere plan means result left l.sent
         left-there = subst (λ (x : Outcome × UpState). EndsThere plan means x.0 x.1 l.sent) (λ i. (sym h.came i, h.left i)) h.there
 
     -- an order that sends where the power is on
-    pub order-done : (xs : List Act) (kept' : Record) (v : World D) (result : Outcome) → (kept.power ≡ powers.On → AreAnswered plan s (map Ordinary xs)) → ((f : FwState) → StagedFirst (map Ordinary xs) f) →
+    pub order-done : (xs : List Act) (kept' : Record) (v : World D) (result : Outcome) → (kept.power ≡ powers.On → AreAnswered plan s xs) → ((f : FwState) → StagedFirst xs f) →
         OrderAnswered means plan heap (sends kept.power xs done answer) kept kept' w v result → IsDoneSo means plan heap up (sends kept.power xs done answer) kept kept' w v result
     order-done xs kept' v result answered loose all = record {
       job = sends-job plan means heap done kept up w powered (λ on. is-on kept.power (means.on w.device) on switched) (λ off. is-off kept.power (means.on w.device) off switched) xs answer loose answered kept' v result all;

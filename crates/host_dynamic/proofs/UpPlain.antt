@@ -1,5 +1,5 @@
 -- Orders that make and unmake nothing: what their ends leave of a state in which what is up is there.
-use Rattle.std.proofs.Common.{◌≡◌, refl, sym, ◌∙◌, List, [], map, false, Ok, Err}
+use Rattle.std.proofs.Common.{◌≡◌, refl, sym, ◌∙◌, List, [], false, Ok, Err}
 use Rattle.mbox_link.specs.Meetings.{Meeting}
 use Rattle.tplg_plan.specs.declared.plans.Plan.{Plan}
 use Rattle.tplg_plan.specs.Sound.{IsSound}
@@ -14,7 +14,6 @@ use Rattle.host_widgets.specs.HostActs.{Act}
 use Rattle.host_widgets.specs.Orders.{plain_end, quiet, sends}
 use Rattle.host_widgets.specs.Routines.{Finished, Sending}
 use Rattle.host_widgets.specs.Walk.{walk}
-use Rattle.host_dynamic.specs.DynamicActs.{Ordinary}
 use Rattle.host_dynamic.specs.Dynamic.{UpState, there_by, settled, up_act_rules, plain_job, unsent}
 use Rattle.host_dynamic.specs.UpStates.{IsThereBy, IsUpState}
 use Rattle.host_dynamic.proofs.UpOpening.{down-state}
@@ -52,14 +51,14 @@ module _ (plan : Plan) (sound : IsSound plan) where
     ended now (Err fault) came = failed now came fault
 
     -- the acts of an order, and its end
-    pub plain-keeps : (s : UpState) (q : Q) (acts : List Act) → Steps plan (IsUpState plan) s (map Ordinary acts) IsDone →
-        Keeps plan next (IsUpState plan) s q (Sending (map Ordinary acts) false (λ now outcome. let e = plain_end done now.kept outcome in Finished (settled e.0 now) e.1))
+    pub plain-keeps : (s : UpState) (q : Q) (acts : List Act) → Steps plan (IsUpState plan) s acts IsDone →
+        Keeps plan next (IsUpState plan) s q (Sending acts false (λ now outcome. let e = plain_end done now.kept outcome in Finished (settled e.0 now) e.1))
     plain-keeps s q acts steps =
-        let w = walk (up_act_rules plan) false next s q (map Ordinary acts) in
-        ended w.kept w.outcome (walk-steps plan next (IsUpState plan) IsDone (map Ordinary acts) s q steps)
+        let w = walk (up_act_rules plan) false next s q acts in
+        ended w.kept w.outcome (walk-steps plan next (IsUpState plan) IsDone acts s q steps)
 
     -- acts are sent where the power is on
-    pub sends-keeps : (s : UpState) (q : Q) (acts : List Act) (answer : Answer) → (s.kept.power ≡ powers.On → Steps plan (IsUpState plan) s (map Ordinary acts) IsDone) → ((s.kept.power ≡ powers.On → ⊥) → IsDone s) →
+    pub sends-keeps : (s : UpState) (q : Q) (acts : List Act) (answer : Answer) → (s.kept.power ≡ powers.On → Steps plan (IsUpState plan) s acts IsDone) → ((s.kept.power ≡ powers.On → ⊥) → IsDone s) →
         Keeps plan next (IsUpState plan) s q (plain_job plan s (sends s.kept.power acts done answer)).routine
     sends-keeps s q acts answer on else_done = by s.kept.power refl
       where

@@ -35,7 +35,6 @@ use Rattle.host_widgets.proofs.RecordsStay.{AllAt, record-with}
 use Rattle.host_widgets.proofs.StreamAnswers.{rests}
 use Rattle.host_widgets.proofs.StreamRows.{agrees}
 use Rattle.host_pcm.specs.Asks.{is_closed}
-use Rattle.host_dynamic.specs.DynamicActs.{Ordinary}
 use Rattle.host_dynamic.specs.There.{There, there_in, there_after, silent_state}
 use Rattle.host_dynamic.specs.Dynamic.{UpState, up_own, up_act_rules}
 use Rattle.host_dynamic.specs.Need.{IsEnough}
@@ -137,17 +136,17 @@ module _ (plan : Plan) (sound : IsSound plan) (s : UpState) (is : IsUpState plan
 
   -- ---- the state once the message has passed
 
-  there-then : list_any (conflicts plan host params) pairs ≡ false → there_after plan (Ordinary (Prepare host params)) s.there ≡ at_stage plan now (up_stage plan s.up) s.there.heap
+  there-then : list_any (conflicts plan host params) pairs ≡ false → there_after plan (Prepare host params) s.there ≡ at_stage plan now (up_stage plan s.up) s.there.heap
   there-then free =
-      ap (there_after plan (Ordinary (Prepare host params))) begun.is
+      ap (there_after plan (Prepare host params)) begun.is
       ∙ prepare-is plan sound s.kept s.up [] (up_stage plan s.up) (up-amid plan sound s.up serves.brought) (up-placed plan sound s.up) s.there.heap host has-all comp.0 comp.1 comp.2 params serves p found takes rate free
 
-  pub prepared-state : up_own plan s (Ordinary (Prepare host params)) ≡ None → IsUpState plan ((up_act_rules plan).after (Ordinary (Prepare host params)) s)
+  pub prepared-state : up_own plan s (Prepare host params) ≡ None → IsUpState plan ((up_act_rules plan).after (Prepare host params) s)
   prepared-state own_is = changed-state plan sound s is host (prepared_stream params) (λ q there e. sym (ap (λ (x : StreamPair). is_closed x.1.found) (one-pair q there e) ∙ takes-open p.1.found takes)) (record-then free) then.there
       (subst (λ (power : Power). IsThereBy power plan then) (sym on) (stage-there plan sound then (subst (IsStage plan now (up_stage plan s.up)) (sym (there-then free)) (record { is = refl; heap = begun.heap }))))
     where
       then : UpState
-      then = (up_act_rules plan).after (Ordinary (Prepare host params)) s
+      then = (up_act_rules plan).after (Prepare host params) s
 
       free : list_any (conflicts plan host params) pairs ≡ false
       free = none-refused (list_any (conflicts plan host params) pairs) (errno invalid) own_is
@@ -161,15 +160,15 @@ module _ (plan : Plan) (sound : IsSound plan) (s : UpState) (is : IsUpState plan
   told-then = prepare-told plan sound s.kept s.up [] (up_stage plan s.up) (up-amid plan sound s.up serves.brought) (up-placed plan sound s.up) s.there.heap host has-all comp.0 comp.1 comp.2 params serves p found takes rate
 
   -- it refuses them where they conflict with those of another stream, and else takes them
-  pub own-prepare : (f : FwState) → there_in f ≡ s.there → IsOwn plan s (Ordinary (Prepare host params)) f
+  pub own-prepare : (f : FwState) → there_in f ≡ s.there → IsOwn plan s (Prepare host params) f
   own-prepare f same = by (list_any (conflicts plan host params) pairs) refl
     where
       said : told (row f (PcmParams host (direction_of plan host) params)) ≡ said_by (list_any (conflicts plan host params) pairs)
       said = row-told f (PcmParams host (direction_of plan host) params) tt ∙ ap (λ (t : There). told (row (silent_state t) (PcmParams host (direction_of plan host) params))) (same ∙ begun.is) ∙ told-then
 
-      by : (c : Bool) → list_any (conflicts plan host params) pairs ≡ c → SaysSo plan s (Ordinary (Prepare host params)) (cond c (Some (errno invalid)) None) (told (row f (PcmParams host (direction_of plan host) params)))
+      by : (c : Bool) → list_any (conflicts plan host params) pairs ≡ c → SaysSo plan s (Prepare host params) (cond c (Some (errno invalid)) None) (told (row f (PcmParams host (direction_of plan host) params)))
       by true e = (invalid, said ∙ ap said_by e, refl)
       by false e = said ∙ ap said_by e ∙ (λ i. Ok (sym (there-then e) i))
 
-  pub preparing-steps : Steps plan (IsUpState plan) s (Ordinary (Prepare host params) ∷ []) (IsUpState plan)
+  pub preparing-steps : Steps plan (IsUpState plan) s ((Prepare host params) ∷ []) (IsUpState plan)
   preparing-steps = (is, λ free. prepared-state free)

@@ -37,7 +37,7 @@ use Rattle.host_widgets.specs.ActLists.{control_acts, control_acts_by, prepare_a
 use Rattle.host_widgets.specs.Expected.{stream_view, phase_of}
 use Rattle.host_widgets.specs.Acts.{direction_of}
 use Rattle.host_widgets.specs.Host.{Outcome, errno, conflicts}
-use Rattle.host_widgets.specs.HostActs.{Act, Make, Put, Part, Finish, Prepare, Trig, Free, Save, Ask, after, prepared_stream, with_blob}
+use Rattle.host_widgets.specs.HostActs.{Act, Make, Put, Part, Finish, Prepare, Trig, Free, Save, Ask, Unmake, after, prepared_stream, with_blob}
 use Rattle.host_widgets.specs.HostActs as acts
 use Rattle.host_widgets.specs.HostRecord.{closed, are_in_range, may_have}
 use Rattle.host_widgets.specs.IdleStreams.{idle_view}
@@ -53,10 +53,10 @@ use Rattle.tplg_plan.specs.declared.plans.ControlKind.{ControlKind}
 use Rattle.tplg_plan.specs.declared.plans.ControlKind.TheVariants as kinds
 use Rattle.host_widgets.specs.declared.kept.ControlRec.{ControlRec}
 use Rattle.host_pcm.specs.Asks.{is_closed}
-use Rattle.host_dynamic.specs.DynamicActs.{Ordinary, dynamic_message, widgets_of, is_control_of, finish_ids, making_acts}
+use Rattle.host_dynamic.specs.DynamicActs.{widgets_of, making_acts}
 use Rattle.host_dynamic.specs.There.{There, there_in, there_after, silent_state, booted}
-use Rattle.host_dynamic.specs.Dynamic.{UpState, up_own, kept_after, up_act_rules, after_resuming, resuming_job}
-use Rattle.host_dynamic.specs.Need.{index_at, HasAt, end_index, is_joined_to, HasBrought, IsEnough}
+use Rattle.host_dynamic.specs.Dynamic.{UpState, up_own, up_act_rules, after_resuming, resuming_job}
+use Rattle.host_dynamic.specs.Need.{HasAt, end_index, is_joined_to, HasBrought, IsEnough}
 use Rattle.host_dynamic.specs.Up.{buffer_joins}
 use Rattle.host_dynamic.specs.UpStates.{IsThereBy, IsUpState}
 use Rattle.host_dynamic.proofs.Needs.{in-left, in-right, in-either, in-map}
@@ -77,6 +77,9 @@ use Rattle.host_dynamic.proofs.UpStages.{Stage, StreamPair, stage_graph, stage_s
 use Rattle.host_dynamic.proofs.UpStanding.{stage-there}
 use Rattle.host_dynamic.proofs.UpSending.{StagedFirst, AreAnswered}
 use Rattle.host_dynamic.proofs.UpWalks.{Runs, runs-on, Met, walk-runs, Keeps}
+use Rattle.host_widgets.specs.ActMessages.{act_message}
+use Rattle.host_widgets.specs.Groups.{is_control_of, finish_ids}
+use Rattle.host_widgets.specs.Indices.{index_at}
 
 -- ---- lists
 
@@ -181,49 +184,50 @@ module _ (plan : Plan) where
     kept-over (Free host) leaves same = absurd leaves
     kept-over Save leaves same = refl
     kept-over (Ask comp k) leaves same = refl
+    kept-over (Unmake id) leaves same = refl
 
-    pub own-over : (act : Act) → LeavesStreams act → (t : There) → up_own plan (over other t) (Ordinary act) ≡ up_own plan (over kept t) (Ordinary act)
+    pub own-over : (act : Act) → LeavesStreams act → (t : There) → up_own plan (over other t) act ≡ up_own plan (over kept t) act
     own-over (Prepare host params) leaves t = absurd leaves
     own-over act leaves t = refl
 
-    runs-over : (Mid End : There → Type 0) (xs : List Act) → AllByRecursion LeavesStreams xs → (t : There) → Runs plan Mid (over other t) (map Ordinary xs) End → Runs plan AnyThere (over kept t) (map Ordinary xs) End
+    runs-over : (Mid End : There → Type 0) (xs : List Act) → AllByRecursion LeavesStreams xs → (t : There) → Runs plan Mid (over other t) xs End → Runs plan AnyThere (over kept t) xs End
     runs-over Mid End [] leaves t runs = runs
     runs-over Mid End (act ∷ xs) leaves t runs =
-        (tt, kept-over act leaves.0 runs.1, λ free. runs-over Mid End xs leaves.1 (there_after plan (Ordinary act) t) (runs.2 (own-over act leaves.0 t ∙ free)))
+        (tt, kept-over act leaves.0 runs.1, λ free. runs-over Mid End xs leaves.1 (there_after plan act t) (runs.2 (own-over act leaves.0 t ∙ free)))
 
     -- the firmware answers them as the rules say, and so those after them
-    says-over : (act : Act) (t : There) (o : Option Errno) (said : Result There ℤ) → SaysSo plan (over other t) (Ordinary act) o said → SaysSo plan (over kept t) (Ordinary act) o said
+    says-over : (act : Act) (t : There) (o : Option Errno) (said : Result There ℤ) → SaysSo plan (over other t) act o said → SaysSo plan (over kept t) act o said
     says-over act t None said says = says
     says-over act t (Some e) said says = says
 
-    answered-over : (Mid End : There → Type 0) (xs more : List Act) → AllByRecursion LeavesStreams xs → (t : There) → AreAnswered plan (over other t) (map Ordinary xs) → Runs plan Mid (over other t) (map Ordinary xs) End →
-        ((f : FwState) → StagedFirst (map Ordinary more) f) → ((x : There) → End x → AreAnswered plan (over kept x) (map Ordinary more)) → AreAnswered plan (over kept t) (map Ordinary (xs ++ more))
+    answered-over : (Mid End : There → Type 0) (xs more : List Act) → AllByRecursion LeavesStreams xs → (t : There) → AreAnswered plan (over other t) xs → Runs plan Mid (over other t) xs End →
+        ((f : FwState) → StagedFirst more f) → ((x : There) → End x → AreAnswered plan (over kept x) more) → AreAnswered plan (over kept t) (xs ++ more)
     answered-over Mid End [] more leaves t answered runs loose then = then t runs
     answered-over Mid End (act ∷ xs) more leaves t answered runs loose then = (
       answered.0,
       λ f same staged. own f (answered.1 f same staged),
       λ f g staged done. first xs g (answered.2 f g staged done),
       λ free.
-          subst (λ (r : Record). AreAnswered plan (over r (there_after plan (Ordinary act) t)) (map Ordinary (xs ++ more))) (sym (kept-over act leaves.0 runs.1))
-          (answered-over Mid End xs more leaves.1 (there_after plan (Ordinary act) t)
-          (subst (λ (r : Record). AreAnswered plan (over r (there_after plan (Ordinary act) t)) (map Ordinary xs)) runs.1 (answered.3 (own-over act leaves.0 t ∙ free))) (runs.2 (own-over act leaves.0 t ∙ free)) loose then),
+          subst (λ (r : Record). AreAnswered plan (over r (there_after plan act t)) (xs ++ more)) (sym (kept-over act leaves.0 runs.1))
+          (answered-over Mid End xs more leaves.1 (there_after plan act t)
+          (subst (λ (r : Record). AreAnswered plan (over r (there_after plan act t)) xs) runs.1 (answered.3 (own-over act leaves.0 t ∙ free))) (runs.2 (own-over act leaves.0 t ∙ free)) loose then),
     )
       where
-        own : (f : FwState) → IsOwn plan (over other t) (Ordinary act) f → IsOwn plan (over kept t) (Ordinary act) f
+        own : (f : FwState) → IsOwn plan (over other t) act f → IsOwn plan (over kept t) act f
         own f says =
-            subst (λ (o : Option Errno). SaysSo plan (over kept t) (Ordinary act) o (told (row f (dynamic_message plan (Ordinary act))))) (own-over act leaves.0 t)
-            (says-over act t (up_own plan (over other t) (Ordinary act)) (told (row f (dynamic_message plan (Ordinary act)))) says)
+            subst (λ (o : Option Errno). SaysSo plan (over kept t) act o (told (row f (act_message plan act)))) (own-over act leaves.0 t)
+            (says-over act t (up_own plan (over other t) act) (told (row f (act_message plan act))) says)
 
-        first : (ys : List Act) (g : FwState) → StagedFirst (map Ordinary ys) g → StagedFirst (map Ordinary (ys ++ more)) g
+        first : (ys : List Act) (g : FwState) → StagedFirst ys g → StagedFirst (ys ++ more) g
         first [] g staged = loose g
         first (y ∷ ys) g staged = staged
 
 -- parameters ask for nothing that is staged
-pub prepares-loose : (ps : List StreamPair) (f : FwState) → StagedFirst (map Ordinary (flat_map prepare_acts ps)) f
+pub prepares-loose : (ps : List StreamPair) (f : FwState) → StagedFirst (flat_map prepare_acts ps) f
 prepares-loose [] f = tt
 prepares-loose (p ∷ ps) f = by p.1.found p.1.params (prepares-loose ps f)
   where
-    by : (found : Found) (o : Option Params) → StagedFirst (map Ordinary (flat_map prepare_acts ps)) f → StagedFirst (map Ordinary (prepare_by p.0.host found o ++ flat_map prepare_acts ps)) f
+    by : (found : Found) (o : Option Params) → StagedFirst (flat_map prepare_acts ps) f → StagedFirst (prepare_by p.0.host found o ++ flat_map prepare_acts ps) f
     by founds.Prepared (Some params) rest = tt
     by founds.Prepared None rest = rest
     by founds.Closed o rest = rest
@@ -308,7 +312,7 @@ module _ (plan : Plan) (sound : IsSound plan) (s : UpState) (is : IsUpState plan
   abbrev pub bare_at : There → UpState
   bare_at t = over plan s.kept rested s.up bare t
 
-  makes : (heap : ℕ) → Runs plan AnyThere (over plan s.kept rested s.up s.kept (booted heap)) (map Ordinary (making_acts plan s.kept s.up)) Made
+  makes : (heap : ℕ) → Runs plan AnyThere (over plan s.kept rested s.up s.kept (booted heap)) (making_acts plan s.kept s.up) Made
   makes heap =
       runs-over plan s.kept rested s.up (IsMaking plan sound (bare_at (booted heap)) [] s.up bare-serves apart brought once) Made (making_acts plan s.kept s.up) (making-leaves plan s.kept s.up) (booted heap)
       (makes-up plan sound (bare_at (booted heap)) [] s.up bare-serves apart brought once (empty-stage plan sound bare heap))
@@ -475,7 +479,7 @@ module _ (plan : Plan) (sound : IsSound plan) (s : UpState) (is : IsUpState plan
           let range : are_in_range params ≡ true = (λ i. may_have (sym found_is i) (sym params_are i)) ∙ may-be q q-in in
           (and_parts (is_rate params.rate) (nat_le 1 params.channels && nat_le params.channels 8) range).0
 
-      pub prepared-there : there_after plan (Ordinary (Prepare q.0.host params)) (record { heap = h; graph = k; streams = partly done (q ∷ rest) }) ≡ record { heap = h; graph = k; streams = partly (done ++ q ∷ []) rest }
+      pub prepared-there : there_after plan (Prepare q.0.host params) (record { heap = h; graph = k; streams = partly done (q ∷ rest) }) ≡ record { heap = h; graph = k; streams = partly (done ++ q ∷ []) rest }
       prepared-there =
           prepare-row plan sound s.kept s.up [] st amid (up-placed plan sound s.up) h q.0.host q-enough q-comp.0 q-comp.1 q-comp.2 params (partly done (q ∷ rest)) rate (found-still (partly done (q ∷ rest)) q.0.host partly-still) agrees-then
           ∙ (λ i. record { heap = h; graph = k; streams = given-next i })
@@ -510,17 +514,17 @@ module _ (plan : Plan) (sound : IsSound plan) (s : UpState) (is : IsUpState plan
       said-so = prepare-row-told plan sound s.kept s.up [] st amid (up-placed plan sound s.up) h q.0.host q-enough q-comp.0 q-comp.1 q-comp.2 params (partly done (q ∷ rest)) (rate h) (found-still (partly done (q ∷ rest)) q.0.host (partly-still h)) (agrees-then h)
 
       -- so it takes the parameters, wherever as much is there
-      pub own-prepared : (t : There) → t ≡ at_now → (f : FwState) → there_in f ≡ t → IsOwn plan (record { kept = s.kept; up = s.up; there = t }) (Ordinary (Prepare q.0.host params)) f
-      own-prepared t at f same = own-told plan (record { kept = s.kept; up = s.up; there = t }) (Ordinary (Prepare q.0.host params)) tt refl f same
+      pub own-prepared : (t : There) → t ≡ at_now → (f : FwState) → there_in f ≡ t → IsOwn plan (record { kept = s.kept; up = s.up; there = t }) (Prepare q.0.host params) f
+      own-prepared t at f same = own-told plan (record { kept = s.kept; up = s.up; there = t }) (Prepare q.0.host params) tt refl f same
           (ap (λ (b : Bool). cond b (Some (errno invalid)) None) none-conflicts) (record { heap = h; graph = k; streams = map given (partly done (q ∷ rest)) })
           (ap (λ (x : There). told (row (silent_state x) (PcmParams q.0.host (direction_of plan q.0.host) params))) at ∙ said-so)
 
-      fits-so : IsMessage (dynamic_message plan (Ordinary (Prepare q.0.host params)))
+      fits-so : IsMessage (act_message plan (Prepare q.0.host params))
       fits-so = params-fit plan sound q.0.host (in-any (λ (x : StreamPlan). x.host == q.0.host) plan.streams q.0 (in-zip plan.streams s.kept.streams q q-in).0 (eq-eqb q.0.host q.0.host refl)) params
           ((λ i. may_have (sym found_is i) (sym params_are i)) ∙ may-be q q-in)
 
     -- the record has it already
-    pub kept-same : kept_after plan (Ordinary (Prepare q.0.host params)) s.kept ≡ s.kept
+    pub kept-same : after plan (Prepare q.0.host params) s.kept ≡ s.kept
     kept-same = λ i. record {
       power = s.kept.power;
       streams = changed-same q.0.host (prepared_stream params) plan.streams s.kept.streams (λ p there e. sym (ap (λ (x : StreamPair). x.1) (only p there e) ∙ (λ j. record { found = found_is j; params = params_are j }))) i;
@@ -540,9 +544,9 @@ module _ (plan : Plan) (sound : IsSound plan) (s : UpState) (is : IsUpState plan
     at_part done rest = record { heap = h; graph = k; streams = partly done rest }
 
     abbrev Next : List StreamPair → List StreamPair → StreamPair → Type 0
-    Next done rest q = (x : There) → x ≡ at_part (done ++ q ∷ []) rest → Runs plan AnyThere (real x) (map Ordinary (flat_map prepare_acts rest)) Ready
+    Next done rest q = (x : There) → x ≡ at_part (done ++ q ∷ []) rest → Runs plan AnyThere (real x) (flat_map prepare_acts rest) Ready
 
-    prepares : (done rest : List StreamPair) (t : There) → zip plan.streams s.kept.streams ≡ done ++ rest → t ≡ at_part done rest → Runs plan AnyThere (real t) (map Ordinary (flat_map prepare_acts rest)) Ready
+    prepares : (done rest : List StreamPair) (t : There) → zip plan.streams s.kept.streams ≡ done ++ rest → t ≡ at_part done rest → Runs plan AnyThere (real t) (flat_map prepare_acts rest) Ready
     prepares done [] t cut at = subst Ready (sym (at ∙ ends)) (record { is = refl; heap = heap })
       where
         ends : at_part done [] ≡ at_stage plan s.kept st h
@@ -552,16 +556,16 @@ module _ (plan : Plan) (sound : IsSound plan) (s : UpState) (is : IsUpState plan
         q-there : IsIn q pairs
         q-there = subst (IsIn q) (sym cut) (in-right done (q ∷ rest) q (inl refl))
 
-        idly : (f : Found) → q.1.found ≡ f → phase_of f ≡ phases.Idle → ((o : Option Params) → may_have f o ≡ true → o ≡ None) → Next done rest q → Runs plan AnyThere (real t) (map Ordinary (flat_map prepare_acts rest)) Ready
+        idly : (f : Found) → q.1.found ≡ f → phase_of f ≡ phases.Idle → ((o : Option Params) → may_have f o ≡ true → o ≡ None) → Next done rest q → Runs plan AnyThere (real t) (flat_map prepare_acts rest) Ready
         idly f e at_rest none go =
             let same : stream_view q ≡ idle q = λ i. record { host = q.0.host; phase = (ap phase_of e ∙ at_rest) i; params = none q.1.params (ap (λ (x : Found). may_have x q.1.params) (sym e) ∙ may-be q q-there) i } in
             go t (at ∙ (λ i. record { heap = h; graph = k; streams = stays-idle done rest q same i }))
 
-        by : (f : Found) (o : Option Params) → q.1.found ≡ f → q.1.params ≡ o → Next done rest q → Runs plan AnyThere (real t) (map Ordinary (prepare_by q.0.host f o ++ flat_map prepare_acts rest)) Ready
+        by : (f : Found) (o : Option Params) → q.1.found ≡ f → q.1.params ≡ o → Next done rest q → Runs plan AnyThere (real t) (prepare_by q.0.host f o ++ flat_map prepare_acts rest) Ready
         by founds.Prepared (Some params) e p go = (
           tt,
           kept-same done rest q cut params e p,
-          λ free. go (there_after plan (Ordinary (Prepare q.0.host params)) t) (ap (there_after plan (Ordinary (Prepare q.0.host params))) at ∙ prepared-there done rest q cut params e p h),
+          λ free. go (there_after plan (Prepare q.0.host params) t) (ap (there_after plan (Prepare q.0.host params)) at ∙ prepared-there done rest q cut params e p h),
         )
         by founds.Prepared None e p go = absurd (false≢true ((λ i. may_have (sym e i) (sym p i)) ∙ may-be q q-there))
         by founds.Closed o e p go = idly founds.Closed e refl none-closed go
@@ -572,28 +576,28 @@ module _ (plan : Plan) (sound : IsSound plan) (s : UpState) (is : IsUpState plan
 
     -- the firmware answers each as the rules say
     abbrev NextAsked : List StreamPair → List StreamPair → StreamPair → Type 0
-    NextAsked done rest q = (x : There) → x ≡ at_part (done ++ q ∷ []) rest → AreAnswered plan (real x) (map Ordinary (flat_map prepare_acts rest))
+    NextAsked done rest q = (x : There) → x ≡ at_part (done ++ q ∷ []) rest → AreAnswered plan (real x) (flat_map prepare_acts rest)
 
-    prepares-asked : (done rest : List StreamPair) (t : There) → zip plan.streams s.kept.streams ≡ done ++ rest → t ≡ at_part done rest → AreAnswered plan (real t) (map Ordinary (flat_map prepare_acts rest))
+    prepares-asked : (done rest : List StreamPair) (t : There) → zip plan.streams s.kept.streams ≡ done ++ rest → t ≡ at_part done rest → AreAnswered plan (real t) (flat_map prepare_acts rest)
     prepares-asked done [] t cut at = tt
     prepares-asked done (q ∷ rest) t cut at = by q.1.found q.1.params refl refl (λ x x_at. prepares-asked (done ++ q ∷ []) rest x (cut ∙ sym (append_assoc done (q ∷ []) rest)) x_at)
       where
         q-there : IsIn q pairs
         q-there = subst (IsIn q) (sym cut) (in-right done (q ∷ rest) q (inl refl))
 
-        idly : (f : Found) → q.1.found ≡ f → phase_of f ≡ phases.Idle → ((o : Option Params) → may_have f o ≡ true → o ≡ None) → NextAsked done rest q → AreAnswered plan (real t) (map Ordinary (flat_map prepare_acts rest))
+        idly : (f : Found) → q.1.found ≡ f → phase_of f ≡ phases.Idle → ((o : Option Params) → may_have f o ≡ true → o ≡ None) → NextAsked done rest q → AreAnswered plan (real t) (flat_map prepare_acts rest)
         idly f e at_rest none go =
             let same : stream_view q ≡ idle q = λ i. record { host = q.0.host; phase = (ap phase_of e ∙ at_rest) i; params = none q.1.params (ap (λ (x : Found). may_have x q.1.params) (sym e) ∙ may-be q q-there) i } in
             go t (at ∙ (λ i. record { heap = h; graph = k; streams = stays-idle done rest q same i }))
 
-        by : (f : Found) (o : Option Params) → q.1.found ≡ f → q.1.params ≡ o → NextAsked done rest q → AreAnswered plan (real t) (map Ordinary (prepare_by q.0.host f o ++ flat_map prepare_acts rest))
+        by : (f : Found) (o : Option Params) → q.1.found ≡ f → q.1.params ≡ o → NextAsked done rest q → AreAnswered plan (real t) (prepare_by q.0.host f o ++ flat_map prepare_acts rest)
         by founds.Prepared (Some params) e p go = (
           fits-so done rest q cut params e p h,
           λ f same staged. own-prepared done rest q cut params e p h t at f same,
           λ f g staged passed. prepares-loose rest g,
           λ free.
-              subst (λ (kept : Record). AreAnswered plan (record { kept = kept; up = s.up; there = there_after plan (Ordinary (Prepare q.0.host params)) t }) (map Ordinary (flat_map prepare_acts rest))) (sym (kept-same done rest q cut params e p))
-              (go (there_after plan (Ordinary (Prepare q.0.host params)) t) (ap (there_after plan (Ordinary (Prepare q.0.host params))) at ∙ prepared-there done rest q cut params e p h)),
+              subst (λ (kept : Record). AreAnswered plan (record { kept = kept; up = s.up; there = there_after plan (Prepare q.0.host params) t }) (flat_map prepare_acts rest)) (sym (kept-same done rest q cut params e p))
+              (go (there_after plan (Prepare q.0.host params) t) (ap (there_after plan (Prepare q.0.host params)) at ∙ prepared-there done rest q cut params e p h)),
         )
         by founds.Prepared None e p go = absurd (false≢true ((λ i. may_have (sym e i) (sym p i)) ∙ may-be q q-there))
         by founds.Closed o e p go = idly founds.Closed e refl none-closed go
@@ -602,17 +606,17 @@ module _ (plan : Plan) (sound : IsSound plan) (s : UpState) (is : IsUpState plan
         by founds.Paused o e p go = absurd (true≢false (ap (λ (x : Found). is_live_phase (phase_of x)) (sym e) ∙ still q q-there))
         by founds.On o e p go = absurd (false≢true (ap (λ (x : Found). may_have x q.1.params) (sym e) ∙ may-be q q-there))
 
-  made-ready : (t : There) → Made t → Runs plan AnyThere (real t) (map Ordinary (flat_map prepare_acts (zip plan.streams s.kept.streams))) Ready
+  made-ready : (t : There) → Made t → Runs plan AnyThere (real t) (flat_map prepare_acts (zip plan.streams s.kept.streams)) Ready
   made-ready t at = prepares t.heap at.heap [] pairs t refl (at.is ∙ (λ i. record { heap = t.heap; graph = k; streams = rest-shown plan.streams s.kept.streams is.record_is.streams i }))
 
-  pub all-runs : (heap : ℕ) → Runs plan AnyThere (real (booted heap)) (map Ordinary (making_acts plan s.kept s.up ++ flat_map prepare_acts (zip plan.streams s.kept.streams))) Ready
+  pub all-runs : (heap : ℕ) → Runs plan AnyThere (real (booted heap)) (making_acts plan s.kept s.up ++ flat_map prepare_acts (zip plan.streams s.kept.streams)) Ready
   all-runs heap = runs-on plan AnyThere Made Ready (real (booted heap)) (making_acts plan s.kept s.up) (flat_map prepare_acts (zip plan.streams s.kept.streams)) (makes heap) made-ready
 
   -- the firmware answers all of it as the rules say
-  ready-asked : (t : There) → Made t → AreAnswered plan (real t) (map Ordinary (flat_map prepare_acts (zip plan.streams s.kept.streams)))
+  ready-asked : (t : There) → Made t → AreAnswered plan (real t) (flat_map prepare_acts (zip plan.streams s.kept.streams))
   ready-asked t at = prepares-asked t.heap at.heap [] pairs t refl (at.is ∙ (λ i. record { heap = t.heap; graph = k; streams = rest-shown plan.streams s.kept.streams is.record_is.streams i }))
 
-  pub resuming-answered : (heap : ℕ) → AreAnswered plan (real (booted heap)) (map Ordinary (making_acts plan s.kept s.up ++ flat_map prepare_acts (zip plan.streams s.kept.streams)))
+  pub resuming-answered : (heap : ℕ) → AreAnswered plan (real (booted heap)) (making_acts plan s.kept s.up ++ flat_map prepare_acts (zip plan.streams s.kept.streams))
   resuming-answered heap =
       answered-over plan s.kept rested s.up (IsMaking plan sound (bare_at (booted heap)) [] s.up bare-serves apart brought once) Made (making_acts plan s.kept s.up) (flat_map prepare_acts (zip plan.streams s.kept.streams)) (making-leaves plan s.kept s.up) (booted heap)
       (makes-answered plan sound (bare_at (booted heap)) [] s.up bare-serves apart brought once (empty-stage plan sound bare heap))
@@ -620,10 +624,10 @@ module _ (plan : Plan) (sound : IsSound plan) (s : UpState) (is : IsUpState plan
       (prepares-loose pairs) ready-asked
 
   -- the first of it asks for nothing that is staged
-  pub resuming-loose : (f : FwState) → StagedFirst (map Ordinary (making_acts plan s.kept s.up ++ flat_map prepare_acts (zip plan.streams s.kept.streams))) f
+  pub resuming-loose : (f : FwState) → StagedFirst (making_acts plan s.kept s.up ++ flat_map prepare_acts (zip plan.streams s.kept.streams)) f
   resuming-loose f = by (making_acts plan s.kept s.up) (making-loose plan sound (bare_at (booted 0)) [] s.up bare-serves apart brought once f)
     where
-      by : (xs : List Act) → StagedFirst (map Ordinary xs) f → StagedFirst (map Ordinary (xs ++ flat_map prepare_acts pairs)) f
+      by : (xs : List Act) → StagedFirst xs f → StagedFirst (xs ++ flat_map prepare_acts pairs) f
       by [] first = prepares-loose pairs f
       by (x ∷ xs) first = first
 
@@ -647,6 +651,6 @@ module _ (plan : Plan) (sound : IsSound plan) (s : UpState) (is : IsUpState plan
 
     pub resuming-keeps : (heap : ℕ) (q : Q) → Keeps plan next (IsUpState plan) (resuming_job plan heap s).from q (resuming_job plan heap s).routine
     resuming-keeps heap q =
-        let w = walk (up_act_rules plan) false next (real (booted heap)) q (map Ordinary (making_acts plan s.kept s.up ++ flat_map prepare_acts (zip plan.streams s.kept.streams))) in
-        let ended = walk-runs plan next AnyThere Ready (map Ordinary (making_acts plan s.kept s.up ++ flat_map prepare_acts (zip plan.streams s.kept.streams))) (real (booted heap)) q (all-runs heap) in
+        let w = walk (up_act_rules plan) false next (real (booted heap)) q (making_acts plan s.kept s.up ++ flat_map prepare_acts (zip plan.streams s.kept.streams)) in
+        let ended = walk-runs plan next AnyThere Ready (making_acts plan s.kept s.up ++ flat_map prepare_acts (zip plan.streams s.kept.streams)) (real (booted heap)) q (all-runs heap) in
         come w.kept w.queue w.outcome ended.kept ended.up ended.met

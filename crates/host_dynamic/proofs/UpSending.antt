@@ -14,32 +14,32 @@ use Rattle.host_widgets.specs.declared.answers.HostFault.{HostFault}
 use Rattle.host_widgets.specs.declared.answers.HostFault.TheVariants as faults
 use Rattle.host_widgets.specs.ActCalls.{ActsDid, Onwards, next_of, came_to}
 use Rattle.host_widgets.specs.Host.{Outcome, verdict}
-use Rattle.host_widgets.specs.HostActs.{Part}
+use Rattle.host_widgets.specs.HostActs.{Part, Act}
 use Rattle.host_widgets.specs.OneAct.{outcome_by, performed, lag_of}
 use Rattle.host_widgets.specs.Walk.{walk, followed_by, goes_past}
 use Rattle.host_widgets.proofs.BuildingActs.{ends-at}
 use Rattle.host_widgets.proofs.PartRows.{HasStaged}
 use Rattle.host_widgets.proofs.StandingOn.{LeavesAll, ticks-leave}
-use Rattle.host_dynamic.specs.DynamicActs.{DynamicAct, Ordinary, dynamic_message}
 use Rattle.host_dynamic.specs.There.{there_in}
 use Rattle.host_dynamic.specs.Dynamic.{UpState, up_own, up_act_rules}
-use Rattle.host_dynamic.specs.ListCalls.{DynamicSent}
 use Rattle.host_dynamic.proofs.UpExchanges.{ticks-there, IsOwn, before, Left, IsMet, act-met}
 use Rattle.host_dynamic.proofs.UpWalks.{passed-free}
+use Rattle.host_widgets.specs.ActMessages.{act_message}
+use Rattle.host_widgets.specs.MadeLists.{ActsPassed}
 
 -- ---- what is staged
 
 -- a part of a blob asks for those before it
-abbrev pub Staged : DynamicAct → FwState → Type 0
-Staged (Ordinary (Part id blob k)) f = HasStaged id blob k f
+abbrev pub Staged : Act → FwState → Type 0
+Staged (Part id blob k) f = HasStaged id blob k f
 Staged act f = Unit {0}
 
-abbrev pub StagedFirst : List DynamicAct → FwState → Type 0
+abbrev pub StagedFirst : List Act → FwState → Type 0
 StagedFirst [] f = Unit {0}
 StagedFirst (act ∷ acts) f = Staged act f
 
-staged-still : (act : DynamicAct) (f g : FwState) → g.staging ≡ f.staging → Staged act f → Staged act g
-staged-still (Ordinary (Part id blob k)) f g same staged = λ some. ap (λ (ss : List Staging). find (λ (s : Staging). s.eq == id) ss) same ∙ staged some
+staged-still : (act : Act) (f g : FwState) → g.staging ≡ f.staging → Staged act f → Staged act g
+staged-still (Part id blob k) f g same staged = λ some. ap (λ (ss : List Staging). find (λ (s : Staging). s.eq == id) ss) same ∙ staged some
 staged-still act f g same staged = tt
 
 module _ (plan : Plan) where
@@ -47,21 +47,21 @@ module _ (plan : Plan) where
 
   -- Each is a message; a firmware in which what is kept is there answers it as the rules say, where what it asks is staged; and after it
   -- the next finds staged what it asks.
-  abbrev pub AreAnswered : UpState → List DynamicAct → Type 0
+  abbrev pub AreAnswered : UpState → List Act → Type 0
   AreAnswered u [] = Unit {0}
   AreAnswered u (act ∷ acts) =
-      IsMessage (dynamic_message plan act)
+      IsMessage (act_message plan act)
       × ((f : FwState) → there_in f ≡ u.there → Staged act f → IsOwn plan u act f)
-      × ((f g : FwState) → Staged act f → row f (dynamic_message plan act) ≡ Ok g → StagedFirst acts g)
+      × ((f g : FwState) → Staged act f → row f (act_message plan act) ≡ Ok g → StagedFirst acts g)
       × (up_own plan u act ≡ None → AreAnswered ((up_act_rules plan).after act u) acts)
 
   -- what acts leave that passed one after another
-  abbrev pub after_all : UpState → List DynamicAct → UpState
+  abbrev pub after_all : UpState → List Act → UpState
   after_all u [] = u
   after_all u (act ∷ acts) = after_all ((up_act_rules plan).after act u) acts
 
   -- the firmware itself refused none of them
-  abbrev pub AreFree : UpState → List DynamicAct → Type 0
+  abbrev pub AreFree : UpState → List Act → Type 0
   AreFree u [] = Unit {0}
   AreFree u (act ∷ acts) = (up_own plan u act ≡ None) × AreFree ((up_act_rules plan).after act u) acts
 
@@ -71,7 +71,7 @@ module _ (plan : Plan) where
     EndsThere (Err faults.LinkDown) u v = is_some (means.on v.device) ≡ true
     EndsThere o u v = (g : FwState) × (means.on v.device ≡ Some g) × (there_in g ≡ u.there)
 
-    pub record HasSent (u : UpState) (acts passed : List DynamicAct) (w v : World D) (result : Outcome) : Type 0 where
+    pub record HasSent (u : UpState) (acts passed : List Act) (w v : World D) (result : Outcome) : Type 0 where
       pub meetings : List Meeting
       pub did : ActsDid means (up_act_rules plan) false u acts meetings w v
       pub came : result ≡ (walk (up_act_rules plan) false next_of u meetings acts).outcome
@@ -80,8 +80,8 @@ module _ (plan : Plan) where
       pub left : (walk (up_act_rules plan) false next_of u meetings acts).kept ≡ after_all u passed
 
     -- one act, and those after it
-    module _ (u : UpState) (act : DynamicAct) (acts passed : List DynamicAct) (w mid v : World D) (result : Outcome) (answer : Option (List ℕ)) (f : FwState) (on : means.on w.device ≡ Some f) (fits : IsMessage (dynamic_message plan act))
-        (x : Exchanged means (message_spelling (dynamic_message plan act)) answer w mid) (same : there_in (before plan u act means fits answer w mid f on x) ≡ u.there) (m : IsMet plan u act means fits answer w mid f on x) where
+    module _ (u : UpState) (act : Act) (acts passed : List Act) (w mid v : World D) (result : Outcome) (answer : Option (List ℕ)) (f : FwState) (on : means.on w.device ≡ Some f) (fits : IsMessage (act_message plan act))
+        (x : Exchanged means (message_spelling (act_message plan act)) answer w mid) (same : there_in (before plan u act means fits answer w mid f on x) ≡ u.there) (m : IsMet plan u act means fits answer w mid f on x) where
       abbrev met : Meeting
       met = record { lag = means.pending w.device - means.pending mid.device; fate = m.fate }
 
@@ -101,7 +101,7 @@ module _ (plan : Plan) where
       whole-list : (ms : List Meeting) → AreFree u passed → All ms came_so → HasSent u (act ∷ acts) passed w v result
       whole-list ms free all = record { meetings = met ∷ ms; did = (mid, m.did, all.0); came = all.1; there = all.2; free = free; left = all.3 }
 
-      passed-so : came_so ≡ Ok tt → (more : List DynamicAct) → passed ≡ act ∷ more → HasSent ((up_act_rules plan).after act u) acts more mid v result → HasSent u (act ∷ acts) passed w v result
+      passed-so : came_so ≡ Ok tt → (more : List Act) → passed ≡ act ∷ more → HasSent ((up_act_rules plan).after act u) acts more mid v result → HasSent u (act ∷ acts) passed w v result
       passed-so is more first r =
           whole-list r.meetings (subst (AreFree u) (sym first) (passed-free m.fate (up_own plan u act) is, r.free)) (subst (All r.meetings) (sym is) (r.did, r.came, r.there, r.left ∙ ap (after_all u) (sym first)))
 
@@ -123,8 +123,8 @@ module _ (plan : Plan) where
 
     -- ---- all of them
 
-    pub sent-did : (acts : List DynamicAct) (passed : List DynamicAct) (u : UpState) (w v : World D) (result : Outcome) (f : FwState) → means.on w.device ≡ Some f → there_in f ≡ u.there → StagedFirst acts f → AreAnswered u acts →
-        DynamicSent means plan acts passed w v result → HasSent u acts passed w v result
+    pub sent-did : (acts : List Act) (passed : List Act) (u : UpState) (w v : World D) (result : Outcome) (f : FwState) → means.on w.device ≡ Some f → there_in f ≡ u.there → StagedFirst acts f → AreAnswered u acts →
+        ActsPassed means plan acts passed w v result → HasSent u acts passed w v result
     sent-did [] passed u w v result f on same staged answered (none, stays, is) = record {
       meetings = [];
       did = (refl, stays);
@@ -149,11 +149,11 @@ module _ (plan : Plan) where
         m = act-met plan u act means answered.0 answer w mid f on x (answered.1 now same_now staged_now)
 
         Rest : Type 0
-        Rest = (more : List DynamicAct) (g : FwState) → means.on mid.device ≡ Some g → there_in g ≡ ((up_act_rules plan).after act u).there → StagedFirst acts g → AreAnswered ((up_act_rules plan).after act u) acts →
-            DynamicSent means plan acts more mid v result → HasSent ((up_act_rules plan).after act u) acts more mid v result
+        Rest = (more : List Act) (g : FwState) → means.on mid.device ≡ Some g → there_in g ≡ ((up_act_rules plan).after act u).there → StagedFirst acts g → AreAnswered ((up_act_rules plan).after act u) acts →
+            ActsPassed means plan acts more mid v result → HasSent ((up_act_rules plan).after act u) acts more mid v result
 
         by : (r : Result Reply HostFault) → verdict answer ≡ r →
-            MatchResult r (λ reply. (more : List DynamicAct) × (passed ≡ act ∷ more) × DynamicSent means plan acts more mid v result) (λ fault. (passed ≡ []) × (v ≡ mid) × (result ≡ Err fault)) →
+            MatchResult r (λ reply. (more : List Act) × (passed ≡ act ∷ more) × ActsPassed means plan acts more mid v result) (λ fault. (passed ≡ []) × (v ≡ mid) × (result ≡ Err fault)) →
             Rest → HasSent u (act ∷ acts) passed w v result
         by (Ok reply) is (more, first, sent) go =
             let is_ok : outcome_by m.fate (up_own plan u act) ≡ Ok tt = sym m.came ∙ ap came_to is in

@@ -1,5 +1,5 @@
 -- Whatever messages meet, closing a stream leaves a state in which what is up is there.
-use Rattle.std.proofs.Common.{◌≡◌, refl, sym, ap, subst, ◌∙◌, ℕ, [], ◌∷◌, map, Bool, true, false, cond, ◌==◌, Some, None, is_some, Ok, Err}
+use Rattle.std.proofs.Common.{◌≡◌, refl, sym, ap, subst, ◌∙◌, ℕ, [], ◌∷◌, Bool, true, false, cond, ◌==◌, Some, None, is_some, Ok, Err}
 use Rattle.std.specs.Prelude.{Option, find}
 use Rattle.std.specs.List.{zip}
 use Rattle.std.proofs.lemmas.Bool.{true≢false, false≢true}
@@ -26,7 +26,6 @@ use Rattle.host_widgets.specs.StreamStands.{takes_trigger}
 use Rattle.host_widgets.specs.Walk.{walk}
 use Rattle.host_pcm.specs.Asks.{is_closed}
 use Rattle.host_pcm.specs.StreamCalls.{shut}
-use Rattle.host_dynamic.specs.DynamicActs.{Ordinary}
 use Rattle.host_dynamic.specs.Dynamic.{UpState, up_act_rules, cut_off, after_closing, closing_by}
 use Rattle.host_dynamic.specs.Need.{need_in}
 use Rattle.host_dynamic.specs.UpStates.{IsThereBy, IsUpState}
@@ -92,12 +91,12 @@ module _ (plan : Plan) (sound : IsSound plan) (s : UpState) (is : IsUpState plan
     prepared-then : (changed_one host (triggered_stream Stop) p).1.found ≡ founds.Prepared
     prepared-then = stands-then plan sound s is host p found on Stop moves
 
-    stop-steps : Steps plan (IsUpState plan) s (Ordinary (Trig host Stop) ∷ Ordinary (Free host) ∷ []) Ended
+    stop-steps : Steps plan (IsUpState plan) s ((Trig host Stop) ∷ (Free host) ∷ []) Ended
     stop-steps = (is, λ free. (triggered-state plan sound s is host p found on Stop moves, λ free'. freed-so plan sound s.up host stopped (triggered-state plan sound s is host p found on Stop moves) refl on (changed_one host (triggered_stream Stop) p) (triggered-pair plan sound s is host p found on Stop moves) (ap is_closed prepared-then) prepared-then))
 
   -- ---- all of it
 
-  pub steps : (f : Found) → p.1.found ≡ f → Steps plan (IsUpState plan) s (map Ordinary (close_by host f)) Ended
+  pub steps : (f : Found) → p.1.found ≡ f → Steps plan (IsUpState plan) s (close_by host f) Ended
   steps founds.Running e = stop-steps (ap (takes_trigger Stop) e)
   steps founds.Paused e = stop-steps (ap (takes_trigger Stop) e)
   steps founds.Prepared e = (is, λ free. freed-so plan sound s.up host s is refl on p found open_yet e)
@@ -130,5 +129,5 @@ module _ (plan : Plan) (sound : IsSound plan) (s : UpState) (is : IsUpState plan
 
     pub closing-keeps : (q : Q) → Keeps plan next (IsUpState plan) s q (closing_by powers.On plan host p.1.found s)
     closing-keeps q =
-        let w = walk (up_act_rules plan) false next s q (map Ordinary (close_by host p.1.found)) in
-        come w.kept w.queue w.outcome (walk-steps plan next (IsUpState plan) Ended (map Ordinary (close_by host p.1.found)) s q (steps p.1.found refl))
+        let w = walk (up_act_rules plan) false next s q (close_by host p.1.found) in
+        come w.kept w.queue w.outcome (walk-steps plan next (IsUpState plan) Ended (close_by host p.1.found) s q (steps p.1.found refl))

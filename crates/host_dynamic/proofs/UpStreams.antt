@@ -24,10 +24,9 @@ use Rattle.host_widgets.proofs.LookedUp.{found-map}
 use Rattle.host_widgets.proofs.RecordsStay.{record-less}
 use Rattle.host_pcm.specs.Asks.{is_closed}
 use Rattle.host_pcm.specs.StreamCalls.{shut}
-use Rattle.host_dynamic.specs.DynamicActs.{Ordinary}
 use Rattle.host_dynamic.specs.There.{There, there_after}
 use Rattle.host_dynamic.specs.Dynamic.{UpState, up_act_rules, parting, with_stream_shut, unmade}
-use Rattle.host_dynamic.specs.Need.{index_at, HasBrought, need_in}
+use Rattle.host_dynamic.specs.Need.{HasBrought, need_in}
 use Rattle.host_dynamic.specs.Up.{is_join_at, buffer_joins}
 use Rattle.host_dynamic.specs.UpStates.{IsThereBy, IsUpState}
 use Rattle.host_dynamic.proofs.Needs.{in-map, flat-in, has-at, host-on}
@@ -41,6 +40,7 @@ use Rattle.host_dynamic.proofs.UpClosing.{parts-keep}
 use Rattle.host_dynamic.proofs.UpStages.{StreamPair, at_stage, IsStage, up_stage, index_of_id}
 use Rattle.host_dynamic.proofs.UpStanding.{there-stage}
 use Rattle.host_dynamic.proofs.UpWalks.{Keeps}
+use Rattle.host_widgets.specs.Indices.{index_at}
 
 module _ (plan : Plan) (sound : IsSound plan) (u : UpState) (is : IsUpState plan u) (host : ℕ) (f : StreamRec → StreamRec)
     (keeps : (p : StreamPair) → IsIn p (zip plan.streams u.kept.streams) → (p.0.host == host) ≡ true → is_closed (f p.1).found ≡ is_closed p.1.found) (record_is : IsRecordOf plan (with_stream plan host f u.kept)) where
@@ -129,10 +129,10 @@ module _ (plan : Plan) (sound : IsSound plan) (up : List ℕ) (host : ℕ) where
 
     module _ (prepared : p.1.found ≡ founds.Prepared) where
       abbrev then : UpState
-      then = (up_act_rules plan).after (Ordinary (Free host)) u
+      then = (up_act_rules plan).after (Free host) u
 
       then-there : then.there ≡ at_stage plan then.kept (up_stage plan u.up) u.there.heap
-      then-there = ap (there_after plan (Ordinary (Free host))) (begun u is same on).is ∙ free-is plan sound u.kept (up_stage plan u.up) (whole u) u.there.heap host p found has prepared
+      then-there = ap (there_after plan (Free host)) (begun u is same on).is ∙ free-is plan sound u.kept (up_stage plan u.up) (whole u) u.there.heap host p found has prepared
 
       from-old : (q : StreamPair) → IsIn q (zip plan.streams then.kept.streams) → (r : StreamPair) × IsIn r (zip plan.streams u.kept.streams) × (q ≡ changed_one host freed r)
       from-old q there = mapped-in (changed_one host freed) (zip plan.streams u.kept.streams) q (subst (IsIn q) (zip-changed host freed plan.streams u.kept.streams) there)

@@ -26,7 +26,6 @@ use Rattle.host_widgets.proofs.RecordsStay.{AllAt, may, Less, record-less}
 use Rattle.host_widgets.proofs.StreamPlaces.{streams-ascend}
 use Rattle.host_widgets.proofs.TakenActs.{trigger-may}
 use Rattle.host_pcm.specs.Asks.{is_closed}
-use Rattle.host_dynamic.specs.DynamicActs.{Ordinary}
 use Rattle.host_dynamic.specs.There.{there_after}
 use Rattle.host_dynamic.specs.Dynamic.{UpState, up_act_rules, plain_job}
 use Rattle.host_dynamic.specs.UpStates.{IsThereBy, IsUpState}
@@ -85,14 +84,14 @@ module _ (plan : Plan) (sound : IsSound plan) (s : UpState) (is : IsUpState plan
 
   module _ (on : s.kept.power ≡ powers.On) (what : Trigger) (moves : takes_trigger what p.1.found ≡ true) where
     abbrev pub triggered : UpState
-    triggered = (up_act_rules plan).after (Ordinary (Trig host what)) s
+    triggered = (up_act_rules plan).after (Trig host what) s
 
     open_yet : is_closed p.1.found ≡ false
     open_yet = takes-open what p.1.found moves
 
     triggered-there : triggered.there ≡ at_stage plan triggered.kept (up_stage plan s.up) s.there.heap
     triggered-there =
-        ap (there_after plan (Ordinary (Trig host what))) (begun plan sound s.up host s is refl on).is
+        ap (there_after plan (Trig host what)) (begun plan sound s.up host s is refl on).is
         ∙ trigger-is plan sound s.kept (up_stage plan s.up) (whole plan sound s.up host s) s.there.heap host p found (has plan sound s.up host s is refl on p found open_yet) what moves
 
     triggered-record : IsRecordOf plan triggered.kept

@@ -29,10 +29,9 @@ use Rattle.host_widgets.proofs.ControlLists.{Pair}
 use Rattle.host_widgets.proofs.Joined.{edge_with}
 use Rattle.host_widgets.proofs.NamedIds.{named-at, component-found, buffer-found, pipeline-found, each-comp, each-edge, each-pipe}
 use Rattle.host_widgets.proofs.PutsTaken.{comp_while}
-use Rattle.host_dynamic.specs.DynamicActs.{Unmake, dynamic_message, pipe_ids, unmade_order, unmaking_acts}
+use Rattle.host_dynamic.specs.DynamicActs.{pipe_ids, unmade_order, unmaking_acts}
 use Rattle.host_dynamic.specs.There.{There, there_after, ids_there, ids_there_of, silent_state}
 use Rattle.host_dynamic.specs.Dynamic.{UpState}
-use Rattle.host_dynamic.specs.Need.{index_at}
 use Rattle.host_dynamic.specs.Up.{buffer_joins}
 use Rattle.host_dynamic.proofs.Needs.{in-among, in-map}
 use Rattle.host_dynamic.proofs.Between.{same-bools, member-found, found-member, comp-named, edge-named}
@@ -49,6 +48,9 @@ use Rattle.host_dynamic.proofs.UpStages.{Stage, StreamPair, comps_left, edges_le
 use Rattle.host_dynamic.proofs.UpExchanges.{own-told}
 use Rattle.host_dynamic.proofs.UpSending.{StagedFirst, AreAnswered}
 use Rattle.host_dynamic.proofs.UpWalks.{Runs, with_there}
+use Rattle.host_widgets.specs.HostActs.{Unmake}
+use Rattle.host_widgets.specs.ActMessages.{act_message}
+use Rattle.host_widgets.specs.Indices.{index_at}
 
 module _ (plan : Plan) (sound : IsSound plan) (s : UpState) (up n : List ℕ) (serving : IsServing plan s.kept up) (apart : AreApart up n) where
   abbrev g : Graph
@@ -285,7 +287,7 @@ module _ (plan : Plan) (sound : IsSound plan) (s : UpState) (up n : List ℕ) (s
   pipes-asked (id ∷ ids) behind st t once left named a is then = (
     unmake-fits plan sound id (pipeline-found plan sound id p.0 p.1).low,
     λ f same staged. own-told plan (with_there plan s t) (Unmake id) (unmake-whole plan sound id) refl f same refl (at_stage plan kept (without_id id st) (without_piece id t.heap))
-        (ap (λ (x : There). told (row (silent_state x) (dynamic_message plan (Unmake id)))) is.is ∙ free-pipe-told plan sound kept st (whole st a) t.heap id here.1 p.0 p.1 (index-free st a p.0.index in_n)),
+        (ap (λ (x : There). told (row (silent_state x) (act_message plan (Unmake id)))) is.is ∙ free-pipe-told plan sound kept st (whole st a) t.heap id here.1 p.0 p.1 (index-free st a p.0.index in_n)),
     λ f after staged done. unmakes-loose (ids ++ behind) after,
     λ free.
         pipes-asked ids behind (without_id id st) (there_after plan (Unmake id) t) once.1 (left-rest id ids st once left) (λ x there. named x (inr there)) (less-amid st id a here.0)
@@ -307,7 +309,7 @@ module _ (plan : Plan) (sound : IsSound plan) (s : UpState) (up n : List ℕ) (s
   buffers-asked (id ∷ ids) behind st t once left named gone a is then = (
     unmake-fits plan sound id (buffer-found plan sound id e.0 e.1).low,
     λ f same staged. own-told plan (with_there plan s t) (Unmake id) (unmake-whole plan sound id) refl f same refl (at_stage plan kept (without_id id st) (without_piece id t.heap))
-        (ap (λ (x : There). told (row (silent_state x) (dynamic_message plan (Unmake id)))) is.is
+        (ap (λ (x : There). told (row (silent_state x) (act_message plan (Unmake id)))) is.is
         ∙ free-buffer-told plan sound kept st (whole st a) t.heap id here.1 e.0.pipe (edge-index-of plan sound kept st (whole st a) t.heap id here.1 e.0 e.1) no-pipe e.0 e.1 (none-held st a id e.0.pipe (edge-named plan sound up id e.0 e.1) in_n) stay),
     λ f after staged done. unmakes-loose (ids ++ behind) after,
     λ free.
@@ -342,7 +344,7 @@ module _ (plan : Plan) (sound : IsSound plan) (s : UpState) (up n : List ℕ) (s
   comps-asked (id ∷ ids) st t once left named gone joins a is = (
     unmake-fits plan sound id (component-found plan sound id c.0 c.1).low,
     λ f same staged. own-told plan (with_there plan s t) (Unmake id) (unmake-whole plan sound id) refl f same refl (at_stage plan kept (without_id id st) (without_piece id t.heap))
-        (ap (λ (x : There). told (row (silent_state x) (dynamic_message plan (Unmake id)))) is.is
+        (ap (λ (x : There). told (row (silent_state x) (act_message plan (Unmake id)))) is.is
         ∙ free-comp-told plan sound kept st (whole st a) t.heap id here.1 c.0.pipe (comp-index-of plan sound kept st (whole st a) t.heap id here.1 c.0 c.1) no-pipe c.0 c.1 untouched),
     λ f after staged done. unmakes-loose ids after,
     λ free.

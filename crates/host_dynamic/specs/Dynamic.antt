@@ -1,5 +1,5 @@
 -- What commands come to where pipelines are made when a stream that needs them is opened, and unmade once no stream does.
-use Rattle.std.specs.Prelude.{ℕ, List, [], ◌∷◌, ◌++◌, map, filter, Bool, true, false, not, Option, Some, None, Ok, Err, if◌then◌else◌}
+use Rattle.std.specs.Prelude.{ℕ, List, [], ◌∷◌, ◌++◌, filter, Bool, true, false, not, Option, Some, None, Ok, Err, if◌then◌else◌}
 use Rattle.std.specs.List.{zip, flat_map, list_any}
 use Rattle.std.specs.Option.{option_map_or, option_or}
 use Rattle.sof_base.specs.Holes.{rounded, fits}
@@ -21,7 +21,7 @@ use Rattle.host_widgets.specs.declared.kept.Record.{Record}
 use Rattle.host_widgets.specs.ActLists.{close_by, prepare_acts}
 use Rattle.host_widgets.specs.Expected.{stated_bytes}
 use Rattle.host_widgets.specs.Host.{Outcome, errno, conflicts}
-use Rattle.host_widgets.specs.HostActs.{Make, Prepare, after}
+use Rattle.host_widgets.specs.HostActs.{Make, Prepare, after, Act, fresh_in}
 use Rattle.host_widgets.specs.Kept.{first_record, with_power, went_down, with_stream}
 use Rattle.host_widgets.specs.ActRules.{ActRules}
 use Rattle.host_widgets.specs.Orders.{Procedure, goes_on_after_refusal, end_by, where_on}
@@ -30,9 +30,10 @@ use Rattle.host_pcm.specs.Asks.{is_closed}
 use Rattle.host_pcm.specs.StreamCalls.{opened_stream, shut}
 use Rattle.host_ctl.specs.ControlAsks.{named_control, read_fault}
 use Rattle.host_dynamic.specs.Need.{need_in}
-use Rattle.host_dynamic.specs.Up.{is_up}
-use Rattle.host_dynamic.specs.DynamicActs.{DynamicAct, Ordinary, making_acts, unmaking_acts, dynamic_message, dynamic_fresh}
+use Rattle.host_dynamic.specs.DynamicActs.{making_acts, unmaking_acts}
 use Rattle.host_dynamic.specs.There.{There, there_view, there_after, booted, nowhere, ids_there_of}
+use Rattle.host_widgets.specs.Indices.{is_up}
+use Rattle.host_widgets.specs.ActMessages.{act_message}
 
 -- ---- what is kept
 
@@ -63,33 +64,28 @@ cut_off s = settled (went_down s.kept) s
 
 -- The firmware itself refuses a widget exactly where no hole holds its rounded size, and parameters that do not agree with those of
 -- another stream.
-abbrev pub up_own : Plan → UpState → DynamicAct → Option Errno
-up_own plan s (Ordinary (Make id)) = if fits (rounded (stated_bytes plan id)) s.there.heap.holes then None else Some (errno no_memory)
-up_own plan s (Ordinary (Prepare host p)) = if list_any (conflicts plan host p) (zip plan.streams s.kept.streams) then Some (errno invalid) else None
+abbrev pub up_own : Plan → UpState → Act → Option Errno
+up_own plan s (Make id) = if fits (rounded (stated_bytes plan id)) s.there.heap.holes then None else Some (errno no_memory)
+up_own plan s (Prepare host p) = if list_any (conflicts plan host p) (zip plan.streams s.kept.streams) then Some (errno invalid) else None
 up_own plan s act = None
 
--- one that unmakes leaves the record
-abbrev pub kept_after : Plan → DynamicAct → Record → Record
-kept_after plan (Ordinary act) kept = after plan act kept
-kept_after plan act kept = kept
-
-abbrev pub up_act_rules : Plan → ActRules UpState DynamicAct
+abbrev pub up_act_rules : Plan → ActRules UpState Act
 up_act_rules plan = record {
   own = up_own plan;
-  after = λ act s. record { kept = kept_after plan act s.kept; up = s.up; there = there_after plan act s.there };
+  after = λ act s. record { kept = after plan act s.kept; up = s.up; there = there_after plan act s.there };
   view = λ s. there_view s.there;
-  fresh = dynamic_fresh plan;
-  message = dynamic_message plan;
+  fresh = fresh_in plan;
+  message = act_message plan;
 }
 
 -- ---- commands that neither make nor unmake
 
 -- the ordinary host's order, with its end
-abbrev pub plain_job : Plan → UpState → Procedure → Job UpState DynamicAct
+abbrev pub plain_job : Plan → UpState → Procedure → Job UpState Act
 plain_job plan s o = record {
   first = o.first;
   from = s;
-  routine = Sending (map Ordinary o.acts) (goes_on_after_refusal o.ending)
+  routine = Sending o.acts (goes_on_after_refusal o.ending)
       (λ now outcome. let e = end_by o.ending plan o.done s.kept now.kept outcome in Finished (settled e.0 now) e.1);
   answer = o.answer;
 }
@@ -97,12 +93,12 @@ plain_job plan s o = record {
 -- ---- load and unload
 
 -- the device is booted, and no message is sent
-abbrev pub loading_job : ℕ → UpState → Job UpState DynamicAct
+abbrev pub loading_job : ℕ → UpState → Job UpState Act
 loading_job heap s =
     let now : UpState = record { kept = with_power powers.On s.kept; up = []; there = booted heap } in
     record { first = Boot ∷ []; from = now; routine = Finished now []; answer = answers.Done }
 
-abbrev pub unloading_job : Plan → UpState → Job UpState DynamicAct
+abbrev pub unloading_job : Plan → UpState → Job UpState Act
 unloading_job plan s =
     record { first = where_on s.kept.power (Cut ∷ []); from = s; routine = Finished (first_state plan) []; answer = answers.Done }
 
@@ -116,26 +112,26 @@ abbrev pub with_stream_open : Plan → ℕ → List ℕ → UpState → UpState
 with_stream_open plan host n s = record { kept = with_stream plan host opened_stream s.kept; up = s.up ++ n; there = s.there }
 
 -- a failure while unmaking cuts the device
-abbrev pub after_unmaking : (UpState → UpState) → UpState → Outcome → Routine UpState DynamicAct
+abbrev pub after_unmaking : (UpState → UpState) → UpState → Outcome → Routine UpState Act
 after_unmaking done s (Ok passed) = Finished (done s) []
 after_unmaking done s (Err fault) = Finished (cut_off (done s)) (Cut ∷ [])
 
 -- what there is of these indices is unmade
-abbrev pub unmade : Plan → List ℕ → (UpState → UpState) → UpState → Routine UpState DynamicAct
+abbrev pub unmade : Plan → List ℕ → (UpState → UpState) → UpState → Routine UpState Act
 unmade plan n done s = Sending (unmaking_acts plan (ids_there_of plan n s.there)) false (after_unmaking done)
 
 -- a refusal unmakes what was made, and a failed link cuts the device: the stream stays closed, and what is up stays so
-abbrev pub after_making : Plan → ℕ → List ℕ → UpState → Outcome → Routine UpState DynamicAct
+abbrev pub after_making : Plan → ℕ → List ℕ → UpState → Outcome → Routine UpState Act
 after_making plan host n s (Ok passed) = Finished (with_stream_open plan host n s) []
 after_making plan host n s (Err (Refused e)) = unmade plan n (λ now. now) s
 after_making plan host n s (Err fault) = Finished (cut_off s) (Cut ∷ [])
 
 -- while the power is off, only what should be there changes
-abbrev pub opening_by : Power → Plan → ℕ → List ℕ → UpState → Routine UpState DynamicAct
-opening_by powers.On plan host n s = Sending (map Ordinary (making_acts plan s.kept n)) false (after_making plan host n)
+abbrev pub opening_by : Power → Plan → ℕ → List ℕ → UpState → Routine UpState Act
+opening_by powers.On plan host n s = Sending (making_acts plan s.kept n) false (after_making plan host n)
 opening_by power plan host n s = Finished (with_stream_open plan host n s) []
 
-abbrev pub opening_job : Plan → UpState → ℕ → Job UpState DynamicAct
+abbrev pub opening_job : Plan → UpState → ℕ → Job UpState Act
 opening_job plan s host =
     record { first = []; from = s; routine = opening_by s.kept.power plan host (lacking plan s.up host) s; answer = answers.Done }
 
@@ -163,31 +159,31 @@ abbrev pub with_stream_shut : Plan → ℕ → UpState → UpState
 with_stream_shut plan host s = record { kept = without_stream plan host s.kept; up = staying plan host s; there = s.there }
 
 -- once the stream is stopped and freed, what no other needs is unmade; after a refusal nothing is
-abbrev pub after_closing : Plan → ℕ → UpState → Outcome → Routine UpState DynamicAct
+abbrev pub after_closing : Plan → ℕ → UpState → Outcome → Routine UpState Act
 after_closing plan host s (Ok passed) = unmade plan (parting plan host s) (with_stream_shut plan host) s
 after_closing plan host s (Err (Refused e)) = Finished s []
 after_closing plan host s (Err fault) = Finished (cut_off s) (Cut ∷ [])
 
-abbrev pub closing_by : Power → Plan → ℕ → Found → UpState → Routine UpState DynamicAct
-closing_by powers.On plan host found s = Sending (map Ordinary (close_by host found)) false (after_closing plan host)
+abbrev pub closing_by : Power → Plan → ℕ → Found → UpState → Routine UpState Act
+closing_by powers.On plan host found s = Sending (close_by host found) false (after_closing plan host)
 closing_by power plan host found s = Finished (with_stream_shut plan host s) []
 
-abbrev pub closing_job : Plan → UpState → ℕ → Found → Job UpState DynamicAct
+abbrev pub closing_job : Plan → UpState → ℕ → Found → Job UpState Act
 closing_job plan s host found = record { first = []; from = s; routine = closing_by s.kept.power plan host found s; answer = answers.Done }
 
 -- ---- resume
 
 -- a failure cuts the device, and what is kept is as before
-abbrev pub after_resuming : UpState → UpState → Outcome → Routine UpState DynamicAct
+abbrev pub after_resuming : UpState → UpState → Outcome → Routine UpState Act
 after_resuming before now (Ok passed) = Finished (record { kept = with_power powers.On now.kept; up = now.up; there = now.there }) []
 after_resuming before now (Err fault) = Finished before (Cut ∷ [])
 
 -- all that is up is made in its order, and each prepared stream has its parameters again
-abbrev pub resuming_job : Plan → ℕ → UpState → Job UpState DynamicAct
+abbrev pub resuming_job : Plan → ℕ → UpState → Job UpState Act
 resuming_job plan heap s = record {
   first = Boot ∷ [];
   from = record { kept = s.kept; up = s.up; there = booted heap };
-  routine = Sending (map Ordinary (making_acts plan s.kept s.up ++ flat_map prepare_acts (zip plan.streams s.kept.streams))) false (after_resuming s);
+  routine = Sending (making_acts plan s.kept s.up ++ flat_map prepare_acts (zip plan.streams s.kept.streams)) false (after_resuming s);
   answer = answers.Done;
 }
 

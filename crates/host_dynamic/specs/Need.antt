@@ -1,23 +1,14 @@
 -- Which pipelines a stream needs, by their indices.
-use Rattle.std.specs.Prelude.{◌≡◌, ◌↔◌, ℕ, List, [], ◌∷◌, ◌++◌, map, filter, length, Bool, true, ◌||◌, ◌==◌, Option, Some, None, unwrap_or, option_and_then, if◌then◌else◌}
+use Rattle.std.specs.Prelude.{◌≡◌, ◌↔◌, ℕ, List, [], ◌∷◌, ◌++◌, filter, length, Bool, true, ◌||◌, ◌==◌, Option, Some, None, unwrap_or, option_and_then, if◌then◌else◌}
 use Rattle.std.specs.List.{flat_map, AllByRecursion}
 use Rattle.stream_law.specs.declared.graph.Comp.{Comp}
-use Rattle.stream_law.specs.declared.graph.Edge.{Edge}
 use Rattle.stream_law.specs.declared.graph.Join.{Join}
 use Rattle.stream_law.specs.declared.graph.Graph.{Graph}
-use Rattle.stream_law.specs.Ways.{comp_of, edge_of, components, buffers, leads, reaches, splits, on_way}
+use Rattle.stream_law.specs.Ways.{components, buffers, leads, reaches, splits, on_way}
 use Rattle.stream_law.specs.Order.{is_among}
+use Rattle.host_widgets.specs.Indices.{index_at, pipe_indices}
 
 -- ---- the least closed set
-
--- the index of a component or a buffer: that of its pipeline
-abbrev pub named_index : Option Comp → Option Edge → Option ℕ
-named_index (Some c) e = Some c.pipe
-named_index None (Some e) = Some e.pipe
-named_index None None = None
-
-abbrev pub index_at : Graph → ℕ → Option ℕ
-index_at g id = named_index (comp_of g id) (edge_of g id)
 
 -- a set has the index that is there
 abbrev pub HasAt : (ℕ → Bool) → Option ℕ → Type 0
@@ -86,10 +77,6 @@ host_index g host = unwrap_or (index_at g host) 0
 abbrev pub is_needed : Graph → ℕ → ℕ → Bool
 is_needed g host i =
     let from = host_index g host in let links = brings g host from in leads links (length links) from i
-
--- the indices of all pipelines
-abbrev pub pipe_indices : Graph → List ℕ
-pipe_indices g = map (λ p. p.index) g.pipes
 
 -- what a stream needs, by the ids of its pipelines
 abbrev pub need_in : Graph → ℕ → List ℕ

@@ -9,8 +9,8 @@ use Rattle.mbox_link.specs.BlobParts.{is_last}
 use Rattle.mbox_link.specs.Step.{row, fresh, with_comps, with_setting}
 use Rattle.tplg_plan.specs.declared.plans.Plan.{Plan}
 use Rattle.host_widgets.specs.Acts.{widget_ids, widget_words}
-use Rattle.host_widgets.specs.HostActs.{Part}
-use Rattle.host_dynamic.specs.DynamicActs.{DynamicAct, Ordinary, dynamic_message}
+use Rattle.host_widgets.specs.HostActs.{Part, Act}
+use Rattle.host_widgets.specs.ActMessages.{act_message}
 
 -- the heap's holes and pieces, the graph and the streams
 pub record There : Type 0 where
@@ -44,8 +44,8 @@ abbrev pub row_left : There → Result FwState ℤ → There
 row_left t (Ok f) = there_in f
 row_left t (Err e) = t
 
-abbrev pub by_row : Plan → DynamicAct → There → There
-by_row plan act t = row_left t (row (silent_state t) (dynamic_message plan act))
+abbrev pub by_row : Plan → Act → There → There
+by_row plan act t = row_left t (row (silent_state t) (act_message plan act))
 
 -- the last part of a blob puts it in force, and the parts before it change nothing
 abbrev pub by_part : ℕ → List ℕ → Bool → There → There
@@ -53,8 +53,8 @@ by_part comp blob false t = t
 by_part comp blob last t = record { heap = t.heap; graph = with_comps (map (with_setting comp (Blob blob)) t.graph.comps) t.graph; streams = t.streams }
 
 -- what is there after it
-abbrev pub there_after : Plan → DynamicAct → There → There
-there_after plan (Ordinary (Part comp blob k)) t = by_part comp blob (is_last blob k) t
+abbrev pub there_after : Plan → Act → There → There
+there_after plan (Part comp blob k) t = by_part comp blob (is_last blob k) t
 there_after plan act t = by_row plan act t
 
 -- the ids that are there: each has its piece

@@ -1,34 +1,20 @@
 -- The part of a graph whose pipelines are up, and what the firmware shows of it.
-use Rattle.std.specs.Prelude.{ℕ, List, map, filter, Bool, false, ◌==◌, Option, Some, None}
+use Rattle.std.specs.Prelude.{ℕ, List, map, filter, Bool, false, ◌==◌}
 use Rattle.std.specs.List.{zip, flat_map}
 use Rattle.std.specs.Option.{option_map_or}
-use Rattle.stream_law.specs.declared.graph.Edge.{Edge}
 use Rattle.stream_law.specs.declared.graph.Join.{Join}
 use Rattle.stream_law.specs.declared.graph.Graph.{Graph}
 use Rattle.stream_law.specs.State.{View}
 use Rattle.stream_law.specs.Order.{is_among}
-use Rattle.stream_law.specs.Ways.{edge_of}
 use Rattle.tplg_plan.specs.declared.plans.Plan.{Plan}
 use Rattle.tplg_plan.specs.declared.plans.StreamPlan.{StreamPlan}
 use Rattle.host_widgets.specs.declared.kept.Record.{Record}
 use Rattle.host_widgets.specs.declared.kept.StreamRec.{StreamRec}
 use Rattle.host_widgets.specs.Expected.{stream_view}
 use Rattle.host_widgets.specs.ViewOf.{graph_by}
-use Rattle.host_dynamic.specs.Need.{index_at}
-
--- what a component or a buffer of this id stands in is up
-abbrev pub is_up : Graph → List ℕ → ℕ → Bool
-is_up g up id = option_map_or (is_among up) (index_at g id) false
+use Rattle.host_widgets.specs.Indices.{is_up, join_index}
 
 -- ---- joins, by the buffers that they are at
-
-abbrev pub buffer_index : Option Edge → Option Edge → Option ℕ
-buffer_index (Some e) other = Some e.pipe
-buffer_index None (Some e) = Some e.pipe
-buffer_index None None = None
-
-abbrev pub join_index : Graph → Join → Option ℕ
-join_index g j = buffer_index (edge_of g j.source) (edge_of g j.sink)
 
 -- a join is at a buffer of this index
 abbrev pub is_join_at : Graph → ℕ → Join → Bool

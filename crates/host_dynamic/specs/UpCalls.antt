@@ -1,5 +1,5 @@
 -- What making and unmaking did, over any device.
-use Rattle.std.specs.Prelude.{◌≡◌, ℕ, List, [], ◌∷◌, map, Ok, Err}
+use Rattle.std.specs.Prelude.{◌≡◌, ℕ, List, [], ◌∷◌, Ok, Err}
 use Rattle.stream_law.specs.Past.{Cut}
 use Rattle.mbox_link.specs.Calls.{World, Meaning, Led}
 use Rattle.tplg_plan.specs.declared.plans.Plan.{Plan}
@@ -11,8 +11,9 @@ use Rattle.host_widgets.specs.ActCalls.{calls_of}
 use Rattle.host_widgets.specs.Host.{Outcome}
 use Rattle.host_widgets.specs.Kept.{went_down}
 use Rattle.host_widgets.specs.Walk.{first_of}
-use Rattle.host_dynamic.specs.DynamicActs.{DynamicAct, Ordinary, making_acts, unmaking_acts}
-use Rattle.host_dynamic.specs.ListCalls.{DynamicSent, Listed}
+use Rattle.host_dynamic.specs.DynamicActs.{making_acts, unmaking_acts}
+use Rattle.host_widgets.specs.HostActs.{Act}
+use Rattle.host_widgets.specs.MadeLists.{ActsPassed, MadeListed}
 
 -- the device was cut, and the record taken down
 abbrev pub WasCut : {D : Type 0} → Meaning D → ℕ → Record → Record → World D → World D → Type 0
@@ -25,9 +26,9 @@ CutAtFailure means heap (Err fault) kept kept' w v = WasCut means heap kept kept
 
 -- what these ids name was unmade, up to the first message that did not pass; a failure cut the device
 pub record Unmade {D : Type 0} (means : Meaning D) (plan : Plan) (heap : ℕ) (ids : List ℕ) (kept kept' : Record) (w v : World D) (result : Outcome) : Type 0 where
-  pub passed : List DynamicAct
+  pub passed : List Act
   pub sent : World D
-  pub did : DynamicSent means plan (unmaking_acts plan ids) passed w sent result
+  pub did : ActsPassed means plan (unmaking_acts plan ids) passed w sent result
   pub ends : CutAtFailure means heap result kept kept' sent v
 
 -- what comes after what was made, by the result of making
@@ -42,7 +43,7 @@ pub record MadeOrCut {D : Type 0} (means : Meaning D) (plan : Plan) (heap : ℕ)
   pub made : List ℕ
   pub outcome : Outcome
   pub mid : World D
-  pub listed : Listed means plan (map Ordinary (making_acts plan kept indices)) [] made w mid outcome
+  pub listed : MadeListed means plan (making_acts plan kept indices) [] made w mid outcome
   pub rest : AfterMaking means plan heap made outcome kept kept' mid v result
 
 -- so where the power is on; else nothing is done

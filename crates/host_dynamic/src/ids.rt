@@ -4,6 +4,7 @@ ghost use Rattle.arrayvec.specs.ArrayVec.{array_vec_len};
 ghost use Rattle.stream_law.specs.Order.{is_among};
 
 use arrayvec::ArrayVec;
+use host_widgets::has;
 use stream_law::{Comp, Edge};
 
 // The component of an id.
@@ -18,13 +19,6 @@ pub fn edge_of(edges: &[Edge], id: u32) -> Option<&Edge>
     ensures { option_copied result ≡ find (λ e. e.buffer == id) edges.now }
 {
     edges.iter().find(|edge| edge.buffer == id)
-}
-
-/// Whether an index is among these.
-pub fn has(indices: &[u32], index: u32) -> bool
-    ensures { result ≡ is_among indices.now index }
-{
-    indices.iter().any(|other| *other == index)
 }
 
 // Lists the ids of components.

@@ -2,16 +2,18 @@
 ghost use Rattle.std.specs.Prelude.{◌≡◌, ◌==◌, ◌+◌, ◌≤◌, ◌<◌, ◌++◌, ◌∷◌, [], length, map, filter, if◌then◌else◌};
 ghost use Rattle.arrayvec.specs.ArrayVec.{array_vec_len};
 ghost use Rattle.stream_law.specs.Order.{is_among};
-ghost use Rattle.host_widgets.specs.Acts.{widget_ids, widget_words};
+ghost use Rattle.host_widgets.specs.Acts.{widget_words};
 ghost use Rattle.tplg_plan.specs.Sound.{IsSound};
 ghost use Rattle.host_dynamic.specs.Dynamic.{is_control_up};
 ghost use Rattle.host_dynamic.specs.JoinEnds.{ends_joins};
 ghost use Rattle.host_dynamic.specs.DynamicActs as law;
+ghost use Rattle.host_widgets.specs.Groups.{finish_ids};
+ghost use Rattle.host_widgets.specs.Indices.{join_index};
 ghost use Rattle.host_dynamic.specs.Up as up;
 
-use crate::ids::{edge_of, has, keep, list_buffers, list_comps};
+use crate::ids::{edge_of, keep, list_buffers, list_comps};
 use arrayvec::ArrayVec;
-use host_widgets::is_named;
+use host_widgets::{all_widgets, has, is_named, widget_index};
 use sof_base::{Bounded, Name44};
 use stream_law::{Graph, Join, Pipe};
 use tplg_plan::Plan;
@@ -25,17 +27,6 @@ pub struct Ends {
 
 // ---- making
 
-/// The index of a widget's pipeline; 0 where no widget has this id.
-pub fn widget_index(plan: &Plan, id: u32) -> u32
-    ensures { result ≡ (widget_words plan.now id).pipe }
-{
-    match plan.widgets.items().get(id as usize) {
-        Some(words) => words.pipe,
-        // No widget has this id.
-        None => 0,
-    }
-}
-
 /// Whether the component of the control of this name is up; so of a name that no control has.
 pub fn is_control_up(plan: &Plan, up: &[u32], name: &Name44) -> bool
     requires { IsSound plan.now }
@@ -47,18 +38,6 @@ pub fn is_control_up(plan: &Plan, up: &[u32], name: &Name44) -> bool
         }
     }
     true
-}
-
-// The ids of all widgets.
-pub fn all_widgets(plan: &Plan) -> ArrayVec<u32, 288>
-    requires { length plan.now.widgets ≤ 288 }
-    ensures { result.items ≡ widget_ids plan.now }
-{
-    let mut ids = ArrayVec::new();
-    for id in 0..plan.widgets.items().len() {
-        ids.push(id as u32);
-    }
-    ids
 }
 
 // Leaves the widgets of an index.
@@ -84,7 +63,7 @@ pub fn widgets_at(plan: &Plan, index: u32) -> Bounded<u32, 288>
 
 // The index of the buffer of a join.
 fn join_index(graph: &Graph, join: &Join) -> Option<u32>
-    ensures { result ≡ up.join_index graph.now join.now }
+    ensures { result ≡ join_index graph.now join.now }
 {
     match edge_of(graph.edges.items(), join.source) {
         Some(edge) => Some(edge.pipe),
@@ -147,7 +126,7 @@ fn list_finish(list: &mut ArrayVec<u32, 32>, pipe: &Pipe, indices: &[u32])
 /// The pipelines of these indices, by id: PIPE_COMPLETE is sent for each.
 pub fn finishes(graph: &Graph, indices: &[u32]) -> Bounded<u32, 32>
     requires { length graph.now.pipes ≤ 32 }
-    ensures { result ≡ law.finish_ids graph.now indices.now }
+    ensures { result ≡ finish_ids graph.now indices.now }
 {
     let mut list: ArrayVec<u32, 32> = ArrayVec::new();
     for pipe in graph.pipes.items() {

@@ -4,12 +4,14 @@ ghost use Rattle.std.specs.List.{list_any, AllByRecursion};
 ghost use Rattle.stream_law.specs.Ways.{is_capture as captures, is_of, splits};
 ghost use Rattle.stream_law.specs.Order.{is_among};
 ghost use Rattle.tplg_plan.specs.Sound.{IsSound};
+ghost use Rattle.host_widgets.specs.Indices as indices;
 ghost use Rattle.host_dynamic.specs.Need as need;
 ghost use Rattle.host_dynamic.specs.Noting as law;
 ghost use Rattle.host_dynamic.specs.Spreading as spreading;
 
-use crate::ids::{comp_of, has, keep};
+use crate::ids::{comp_of, keep};
 use arrayvec::ArrayVec;
+use host_widgets::{all_indices, has};
 use stream_law::{Comp, Edge, Graph, Join, Kind, Pipe};
 use tplg_plan::Plan;
 
@@ -205,8 +207,8 @@ fn note_marked(
     requires table { spreading.IsTable plan.now.graph table.now }
     requires once { spreading.AreOnceNoted plan.now.graph needed.old.items }
     requires size { length marks.now ≡ 288 }
-    ensures more { spreading.NotesMore plan.now.graph (λ p. (x : ℕ) → slice_index_or marks.now x false ≡ true → need.HasAt p (need.index_at plan.now.graph x)) needed.old.items needed.new.items }
-    ensures marked { (x : ℕ) → slice_index_or marks.now x false ≡ true → need.HasAt (is_among needed.new.items) (need.index_at plan.now.graph x) }
+    ensures more { spreading.NotesMore plan.now.graph (λ p. (x : ℕ) → slice_index_or marks.now x false ≡ true → need.HasAt p (indices.index_at plan.now.graph x)) needed.old.items needed.new.items }
+    ensures marked { (x : ℕ) → slice_index_or marks.now x false ≡ true → need.HasAt (is_among needed.new.items) (indices.index_at plan.now.graph x) }
 {
     for id in 0..288u32 {
         note_mark(plan, table, marks, id, needed);
@@ -374,18 +376,6 @@ pub fn needed_from(
         more = before < needed.len();
     }
     needed
-}
-
-// The indices of all pipelines.
-fn all_indices(pipes: &[Pipe]) -> ArrayVec<u32, 32>
-    requires { length pipes.now ≤ 32 }
-    ensures { result.items ≡ map (λ p. p.index) pipes.now }
-{
-    let mut all: ArrayVec<u32, 32> = ArrayVec::new();
-    for pipe in pipes {
-        all.push(pipe.index);
-    }
-    all
 }
 
 /// The indices of the pipelines that a host's stream needs, by the ids of these pipelines: those of all on its way, and with them those

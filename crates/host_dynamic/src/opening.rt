@@ -21,13 +21,14 @@ ghost use Rattle.host_dynamic.specs.UpCalls.{AfterMaking, MadeOrCut, MadeWhereOn
 ghost use Rattle.host_dynamic.specs.UpDevices.{UpAgrees, up_state_in};
 ghost use Rattle.host_dynamic.specs.UpStates.{IsUpState};
 
-use crate::ids::{has, keep, list_ids, lose};
+use crate::ids::{keep, list_ids, lose};
 use crate::lists::{make, unmake};
-use crate::making::{all_widgets, widget_index};
 use crate::needing::{mark_host, need_of, needed_from};
 use arrayvec::ArrayVec;
 use host_pcm::{Ask, close_at, open_at, tested};
-use host_widgets::{Found, HostCall, HostFault, Power, Record, StreamRec, link_down};
+use host_widgets::{
+    Found, HostCall, HostFault, Power, Record, StreamRec, all_widgets, has, link_down, widget_index,
+};
 use mbox_link::Dsp;
 use sof_base::{Bounded, Name44};
 use sof_io::{Inputs, Outputs};

@@ -31,7 +31,7 @@ use Rattle.host_widgets.specs.declared.kept.Record.{Record}
 use Rattle.host_widgets.specs.Acts.{direction_of}
 use Rattle.host_widgets.specs.Expected.{loaded_heap}
 use Rattle.host_widgets.specs.StateOf.{empty_rings, state_by}
-use Rattle.host_widgets.specs.HostActs.{Act, Make, Join, Put, Part, Finish, Prepare, Trig, Free, Save, Ask, after}
+use Rattle.host_widgets.specs.HostActs.{Act, Make, Join, Put, Part, Finish, Prepare, Trig, Free, Save, Ask, Unmake, after}
 use Rattle.host_widgets.specs.ActLists.{prepare_acts, prepare_by}
 use Rattle.host_widgets.specs.ActMessages.{act_message}
 use Rattle.host_widgets.specs.Host.{Outcome, verdict, errno}
@@ -152,6 +152,7 @@ module _ (plan : Plan) (heap : ℕ) where
   act-rested t (Free host) is f f' rested done = absurd is
   act-rested t Save is f f' rested done = absurd is
   act-rested t (Ask comp k) is f f' rested done = absurd is
+  act-rested t (Unmake id) is f f' rested done = absurd is
 
   -- ---- acts, one after another
 

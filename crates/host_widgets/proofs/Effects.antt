@@ -26,8 +26,8 @@ use Rattle.tplg_plan.specs.declared.plans.ControlPlan.{ControlPlan}
 use Rattle.tplg_plan.specs.declared.plans.ControlKind.{ControlKind}
 use Rattle.tplg_plan.specs.declared.plans.ControlKind.TheVariants.{Volume, Choice, Blob, Masks}
 use Rattle.host_widgets.specs.Controls.{control_of}
-use Rattle.host_widgets.specs.HostActs.{Act, Make, Join, Put, Part, Finish, Prepare, Trig, Free, Save, Ask}
-use Rattle.host_widgets.specs.ActMessages.{act_message, set_message, put_message}
+use Rattle.host_widgets.specs.HostActs.{Act, Make, Join, Put, Part, Finish, Prepare, Trig, Free, Save, Ask, Unmake}
+use Rattle.host_widgets.specs.ActMessages.{act_message, set_message, put_message, unmake_by}
 use Rattle.host_widgets.specs.Acts.{widget_words, pipe_by_id, comp_message, buffer_message, pipe_message}
 use Rattle.host_widgets.specs.Expected.{needed_by}
 use Rattle.host_widgets.specs.Host.{verdict, errno}
@@ -135,6 +135,11 @@ put-bare : (f : FwState) (comp : ℕ) (values : List ℕ) (k : Option ControlPla
 put-bare f comp values (Some k) = set-bare f comp values k.kind
 put-bare f comp values None = refl
 
+unmake-bare : (f : FwState) (id : ℕ) (c : Option Comp) (e : Option Edge) → body f (unmake_by c e id) ≡ Nothing
+unmake-bare f id (Some c) e = refl
+unmake-bare f id None (Some e) = refl
+unmake-bare f id None None = refl
+
 act-bare : (f : FwState) (plan : Plan) (act : Act) → IsTold act → body f (act_message plan act) ≡ Nothing
 act-bare f plan (Make id) told = made-bare f id (control_of plan id) (widget_words plan id) (comp_of plan.graph id) (edge_of plan.graph id) (pipe_by_id plan id)
 act-bare f plan (Join source sink) told = refl
@@ -149,6 +154,7 @@ act-bare f plan (Trig host Release) told = refl
 act-bare f plan (Free host) told = refl
 act-bare f plan Save told = refl
 act-bare f plan (Ask comp k) told = absurd told
+act-bare f plan (Unmake id) told = unmake-bare f id (comp_of plan.graph id) (edge_of plan.graph id)
 
 -- ---- one exchange
 

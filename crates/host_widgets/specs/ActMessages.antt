@@ -1,7 +1,10 @@
 -- The message that the host writes for each act.
 use Rattle.std.specs.Prelude.{ℕ, List, [], map, Option, Some, None}
+use Rattle.stream_law.specs.declared.graph.Comp.{Comp}
+use Rattle.stream_law.specs.declared.graph.Edge.{Edge}
+use Rattle.stream_law.specs.Ways.{comp_of, edge_of}
 use Rattle.ipc3_model.specs.declared.message.Message.{Message}
-use Rattle.ipc3_model.specs.declared.message.Message.TheVariants.{Connect, SetValue, GetValue, SetData, GetData, PipeComplete, PcmParams, PcmFree, CtxSave}
+use Rattle.ipc3_model.specs.declared.message.Message.TheVariants.{Connect, SetValue, GetValue, SetData, GetData, CompFree, BufferFree, PipeFree, PipeComplete, PcmParams, PcmFree, CtxSave}
 use Rattle.ipc3_model.specs.declared.control_kind.TheConstants.{CTRL_VOLUME, CTRL_ENUM, CTRL_SWITCH}
 use Rattle.tplg_plan.specs.declared.plans.Plan.{Plan}
 use Rattle.tplg_plan.specs.declared.plans.ControlPlan.{ControlPlan}
@@ -11,7 +14,7 @@ use Rattle.tplg_plan.specs.GainOf.{control_gain}
 use Rattle.host_widgets.specs.Controls.{control_of, eight_masks}
 use Rattle.host_widgets.specs.Acts.{make_message, widget_words, direction_of, trigger_message}
 use Rattle.mbox_link.specs.BlobParts.{blob_part}
-use Rattle.host_widgets.specs.HostActs.{Act, Make, Join, Put, Part, Finish, Prepare, Trig, Free, Save, Ask}
+use Rattle.host_widgets.specs.HostActs.{Act, Make, Join, Put, Part, Finish, Prepare, Trig, Free, Save, Ask, Unmake}
 
 -- SET_VALUE: a volume's gains by CTRL_VOLUME, a mux's choice by CTRL_ENUM, a demux's eight masks by CTRL_SWITCH; no other component is
 -- set so
@@ -35,6 +38,12 @@ abbrev pub ask_message : ℕ → ℕ → Option ControlPlan → Message
 ask_message comp k (Some c) = get_message comp k c.kind
 ask_message comp k None = GetValue comp CTRL_VOLUME
 
+-- COMP_FREE, BUFFER_FREE or PIPE_FREE, by what an id names
+abbrev pub unmake_by : Option Comp → Option Edge → ℕ → Message
+unmake_by (Some c) e id = CompFree id
+unmake_by None (Some e) id = BufferFree id
+unmake_by None None id = PipeFree id
+
 -- the message of an act
 abbrev pub act_message : Plan → Act → Message
 act_message plan (Make id) = make_message plan id (widget_words plan id)
@@ -47,3 +56,4 @@ act_message plan (Trig host what) = trigger_message host what
 act_message plan (Free host) = PcmFree host
 act_message plan Save = CtxSave
 act_message plan (Ask comp k) = ask_message comp k (control_of plan comp)
+act_message plan (Unmake id) = unmake_by (comp_of plan.graph id) (edge_of plan.graph id) id

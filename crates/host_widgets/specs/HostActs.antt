@@ -27,6 +27,7 @@ pub data Act : Type 0 where
   Free : (host : ℕ) → Act  -- a stream is without parameters
   Save : Act  -- the power will be cut
   Ask : (comp k : ℕ) → Act  -- a control's values, or the k-th part of its blob, are asked for
+  Unmake : (id : ℕ) → Act  -- what this id names is unmade
 
 -- ---- the record after an act that passed
 

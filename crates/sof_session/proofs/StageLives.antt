@@ -30,8 +30,7 @@ use Rattle.host_widgets.proofs.ControlLists.{Pair}
 use Rattle.host_widgets.proofs.NamedIds.{component-found}
 use Rattle.host_widgets.proofs.PutsTaken.{comp_while}
 use Rattle.host_widgets.proofs.ReadyWays.{comp-set, ways-set}
-use Rattle.host_dynamic.specs.Need.{index_at, HasAt, IsEnough}
-use Rattle.host_dynamic.specs.Up.{is_up}
+use Rattle.host_dynamic.specs.Need.{HasAt, IsEnough}
 use Rattle.host_dynamic.proofs.Needs.{has-at}
 use Rattle.host_dynamic.proofs.Between.{IsBetween, comp-named, edge-named}
 use Rattle.host_dynamic.proofs.BetweenWays.{way-stays}
@@ -41,6 +40,7 @@ use Rattle.host_dynamic.proofs.StageStays.{pass-each, from-map}
 use Rattle.host_dynamic.proofs.UpContext.{IsServing, comp-up-by}
 use Rattle.host_dynamic.proofs.UpStages.{Stage, StreamPair, stage_graph, stage_streams, index_of_id, IsAmid}
 use Rattle.sof_session.proofs.LiveViews.{SameLife}
+use Rattle.host_widgets.specs.Indices.{index_at, is_up}
 
 -- ---- lists
 

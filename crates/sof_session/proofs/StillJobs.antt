@@ -27,7 +27,6 @@ use Rattle.host_pcm.specs.declared.asking.Ask.TheVariants.{Preparing, Triggering
 use Rattle.host_pcm.specs.StreamOrders.{stream_order}
 use Rattle.host_ctl.specs.ControlAsks.{channels_of, spread, named_control}
 use Rattle.host_ctl.specs.ControlOrders.{setting_order, set_order, installing_order, bytes_order, control_answer, ask_acts, named_at, reading_order}
-use Rattle.host_dynamic.specs.DynamicActs.{DynamicAct}
 use Rattle.host_dynamic.specs.Dynamic.{UpState, up_act_rules, plain_job, unsent, is_control_up, after_unmaking, after_making, opening_by, after_closing, closing_by, after_resuming, with_stream_shut}
 use Rattle.sof_script.specs.declared.script.Command.{Command}
 use Rattle.sof_script.specs.declared.script.Command.TheVariants as commands
@@ -91,10 +90,10 @@ where-still powers.Off = tt
 where-still powers.Unloaded = tt
 
 module _ {D : Type 0} (means : Meaning D) (plan : Plan) (heap : ℕ) where
-  abbrev Ends : Routine UpState DynamicAct → Type 0
+  abbrev Ends : Routine UpState Act → Type 0
   Ends routine = EndsStill means (up_act_rules plan) heap routine
 
-  abbrev pub StillJob : Job UpState DynamicAct → Type 0
+  abbrev pub StillJob : Job UpState Act → Type 0
   StillJob job = IsStillJob means (up_act_rules plan) heap job
 
   unmaking-still : (done : UpState → UpState) (now : UpState) (o : Outcome) → Ends (after_unmaking done now o)

@@ -33,7 +33,7 @@ use Rattle.host_ctl.specs.ControlAsks.{named_control, name_fault, set_fault, byt
 use Rattle.host_ctl.specs.ControlAnswers.{IsSetFor}
 use Rattle.host_ctl.specs.ControlOrders.{set_order, bytes_order, get_order, read_order, control_told, named_at, KeptAlone}
 use Rattle.host_dynamic.specs.Dynamic.{UpState, up_act_rules, plain_job, unsent, is_control_up, control_order}
-use Rattle.host_dynamic.specs.Up.{is_up, up_view}
+use Rattle.host_dynamic.specs.Up.{up_view}
 use Rattle.host_dynamic.specs.UpDevices.{up_state_in, UpAgrees}
 use Rattle.host_dynamic.specs.UpStates.{IsUpState}
 use Rattle.host_dynamic.proofs.UpAgreeing.{IsSwitched, agrees-of, switched-of, done-state, early-tested}
@@ -54,6 +54,7 @@ use Rattle.sof_session.proofs.UpAgreement.{on-use, some-up}
 use Rattle.sof_session.proofs.UpMode.{up-kept}
 use Rattle.sof_session.proofs.UpShown.{job-keeps}
 use Rattle.sof_session.proofs.UpStays.{use-stays}
+use Rattle.host_widgets.specs.Indices.{is_up}
 
 -- ---- what an order answers, whether its component is up or not
 

@@ -32,12 +32,11 @@ use Rattle.tplg_plan.specs.Sound.{IsSound, IsSideOf, FillsBuffer, DrainsBuffer}
 use Rattle.host_widgets.specs.declared.trigger.Trigger.{Trigger}
 use Rattle.host_widgets.specs.declared.trigger.Trigger.TheVariants as triggers
 use Rattle.host_widgets.specs.Acts.{widget_words, pipe_by_id, comp_message, buffer_message, pipe_message, trigger_message}
-use Rattle.host_widgets.specs.ActMessages.{set_message, put_message, get_message, ask_message, act_message}
-use Rattle.host_widgets.specs.HostActs.{Make, Join, Put, Part, Finish, Prepare, Trig, Free, Save, Ask}
+use Rattle.host_widgets.specs.ActMessages.{set_message, put_message, get_message, ask_message, act_message, unmake_by}
+use Rattle.host_widgets.specs.HostActs.{Make, Join, Put, Part, Finish, Prepare, Trig, Free, Save, Ask, Act, Unmake}
 use Rattle.host_widgets.specs.Controls.{control_of}
 use Rattle.host_widgets.specs.Kept.{first_record}
 use Rattle.host_widgets.proofs.NamedIds.{buffer-found}
-use Rattle.host_dynamic.specs.DynamicActs.{DynamicAct, Ordinary, Unmake, unmake_by}
 use Rattle.host_dynamic.specs.There.{There, there_view, silent_state, row_left, by_part, there_after}
 use Rattle.host_dynamic.proofs.Sublists.{all-filter, all-placed}
 use Rattle.sof_session.specs.RunLaws.{HasRanks}
@@ -95,8 +94,8 @@ module _ (plan : Plan) where
   -- ---- acts
 
   -- an act joins nothing else
-  abbrev pub IsOfPlan : DynamicAct → Type 0
-  IsOfPlan (Ordinary (Join source sink)) = IsPlanned source sink
+  abbrev pub IsOfPlan : Act → Type 0
+  IsOfPlan (Join source sink) = IsPlanned source sink
   IsOfPlan act = Unit {0}
 
   makes : (id : ℕ) (c : Option Comp) (e : Option Edge) (p : Option Pipe) →
@@ -238,17 +237,17 @@ module _ (plan : Plan) where
     parts comp blob false = are
     parts comp blob true = are
 
-    pub there-edges : (act : DynamicAct) → IsOfPlan act → AreEdges (there_after plan act t)
-    there-edges (Ordinary (Part comp blob k)) is = parts comp blob (is_last blob k)
-    there-edges (Ordinary (Make id)) is = row-edges (act_message plan (Make id)) (makes id (comp_of plan.graph id) (edge_of plan.graph id) (pipe_by_id plan id))
-    there-edges (Ordinary (Join source sink)) is = row-edges (messages.Connect source sink) is
-    there-edges (Ordinary (Put comp values)) is = row-edges (act_message plan (Put comp values)) (puts comp values (control_of plan comp))
-    there-edges (Ordinary (Finish id)) is = row-edges (act_message plan (Finish id)) tt
-    there-edges (Ordinary (Prepare host params)) is = row-edges (act_message plan (Prepare host params)) tt
-    there-edges (Ordinary (Trig host what)) is = row-edges (act_message plan (Trig host what)) (triggers-told host what)
-    there-edges (Ordinary (Free host)) is = row-edges (act_message plan (Free host)) tt
-    there-edges (Ordinary Save) is = row-edges (act_message plan Save) tt
-    there-edges (Ordinary (Ask comp k)) is = row-edges (act_message plan (Ask comp k)) (asks comp k (control_of plan comp))
+    pub there-edges : (act : Act) → IsOfPlan act → AreEdges (there_after plan act t)
+    there-edges (Part comp blob k) is = parts comp blob (is_last blob k)
+    there-edges (Make id) is = row-edges (act_message plan (Make id)) (makes id (comp_of plan.graph id) (edge_of plan.graph id) (pipe_by_id plan id))
+    there-edges (Join source sink) is = row-edges (messages.Connect source sink) is
+    there-edges (Put comp values) is = row-edges (act_message plan (Put comp values)) (puts comp values (control_of plan comp))
+    there-edges (Finish id) is = row-edges (act_message plan (Finish id)) tt
+    there-edges (Prepare host params) is = row-edges (act_message plan (Prepare host params)) tt
+    there-edges (Trig host what) is = row-edges (act_message plan (Trig host what)) (triggers-told host what)
+    there-edges (Free host) is = row-edges (act_message plan (Free host)) tt
+    there-edges Save is = row-edges (act_message plan Save) tt
+    there-edges (Ask comp k) is = row-edges (act_message plan (Ask comp k)) (asks comp k (control_of plan comp))
     there-edges (Unmake id) is = row-edges (unmake_by (comp_of plan.graph id) (edge_of plan.graph id) id) (unmakes (comp_of plan.graph id) (edge_of plan.graph id) id)
 
   -- ---- ranks

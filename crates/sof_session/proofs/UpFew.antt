@@ -22,17 +22,17 @@ use Rattle.host_widgets.specs.declared.kept.Record.{Record}
 use Rattle.host_widgets.specs.Acts.{widget_ids, widget_words}
 use Rattle.host_widgets.specs.ActLists.{control_acts, prepare_acts, close_by}
 use Rattle.host_widgets.specs.Host.{Outcome, IsRecordOf}
-use Rattle.host_widgets.specs.HostActs.{Act, Make, Finish}
+use Rattle.host_widgets.specs.HostActs.{Act, Make, Finish, Unmake}
 use Rattle.host_widgets.specs.HostActs as acts
 use Rattle.host_widgets.specs.Orders.{Procedure}
 use Rattle.host_widgets.specs.Routines.{Routine}
 use Rattle.host_widgets.specs.Walk.{walk}
 use Rattle.host_widgets.proofs.FewJoins.{few-brought}
-use Rattle.host_dynamic.specs.DynamicActs.{DynamicAct, Ordinary, Unmake, widgets_of, is_control_of, finish_ids, making_acts, pipe_ids, unmade_order, unmaking_acts}
+use Rattle.host_dynamic.specs.DynamicActs.{widgets_of, making_acts, pipe_ids, unmade_order, unmaking_acts}
 use Rattle.host_dynamic.specs.Dynamic.{UpState, up_act_rules, plain_job, lacking, after_unmaking, unmade, after_making, opening_by, after_closing, closing_by, after_resuming, resuming_job, control_order, is_control_up, unsent, with_stream_shut, parting}
 use Rattle.host_dynamic.specs.There.{ids_there_of}
-use Rattle.host_dynamic.specs.Need.{is_needed, need_in, pipe_indices}
-use Rattle.host_dynamic.specs.Up.{join_index, is_join_at, buffer_joins}
+use Rattle.host_dynamic.specs.Need.{is_needed, need_in}
+use Rattle.host_dynamic.specs.Up.{is_join_at, buffer_joins}
 use Rattle.host_dynamic.specs.UpStates.{IsUpState}
 use Rattle.host_dynamic.proofs.Sublists.{AreOnce, once-filter, distinct-once}
 use Rattle.sof_script.specs.declared.script.Command.{Command}
@@ -48,6 +48,8 @@ use Rattle.sof_session.proofs.RoutineBoots.{NoneBoots}
 use Rattle.sof_session.proofs.RoutineNumbers.{SendsWithin}
 use Rattle.sof_session.proofs.RunBoots.{none-ended}
 use Rattle.sof_session.proofs.SameNext.{due}
+use Rattle.host_widgets.specs.Groups.{is_control_of, finish_ids}
+use Rattle.host_widgets.specs.Indices.{pipe_indices, join_index}
 
 -- ---- what passes a test is no more
 
@@ -180,7 +182,7 @@ module _ (plan : Plan) (sound : IsSound plan) where
 -- ---- routines
 
 module _ (plan : Plan) (sound : IsSound plan) {Q : Type 0} (next : Q → Meeting × Q) where
-  abbrev Sends : ℕ → UpState → Q → Routine UpState DynamicAct → Type 0
+  abbrev Sends : ℕ → UpState → Q → Routine UpState Act → Type 0
   Sends n s q routine = SendsWithin (up_act_rules plan) next n s q routine
 
   unmaking-ends : (done : UpState → UpState) (now : UpState) (q : Q) (n : ℕ) (o : Outcome) → Sends n now q (after_unmaking done now o)
@@ -213,8 +215,7 @@ module _ (plan : Plan) (sound : IsSound plan) {Q : Type 0} (next : Q → Meeting
   opening-few s is q host powers.On =
       let ns = lacking plan s.up host in
       let made = few-making plan sound s.kept ns (lacking-once s.up host) is in
-      let same = length-map (making_acts plan s.kept ns) Ordinary in
-      (omega (arith, made, same), making-ends host ns _ _ _ (omega (arith, made, same)) _)
+      (omega (arith, made), making-ends host ns _ _ _ (omega (arith, made)) _)
   opening-few s is q host powers.Off = tt
   opening-few s is q host powers.Unloaded = tt
 
@@ -241,9 +242,8 @@ module _ (plan : Plan) (sound : IsSound plan) {Q : Type 0} (next : Q → Meeting
   closing-few : (s : UpState) (q : Q) (host : ℕ) (found : Found) (power : Power) → Sends 1200 s q (closing_by power plan host found s)
   closing-few s q host found powers.On =
       let few = few-close host found in
-      let same = length-map (close_by host found) Ordinary in
-      let w = walk (up_act_rules plan) false next s q (map Ordinary (close_by host found)) in
-      (omega (arith, few, same), closing-ends host w.kept w.queue (1200 - length (map Ordinary (close_by host found))) (omega (arith, few, same)) w.outcome)
+      let w = walk (up_act_rules plan) false next s q (close_by host found) in
+      (omega (arith, few), closing-ends host w.kept w.queue (1200 - length (close_by host found)) (omega (arith, few)) w.outcome)
   closing-few s q host found powers.Off = tt
   closing-few s q host found powers.Unloaded = tt
 
@@ -261,14 +261,13 @@ module _ (plan : Plan) (sound : IsSound plan) {Q : Type 0} (next : Q → Meeting
           few-prepares plan.streams s.kept.streams,
           few-streams plan sound,
           length-append making prepares,
-          length-map (making ++ prepares) Ordinary,
         ),
         resuming-ends s _ _ _ _,
       )
 
   -- one that sends what the ordinary host does
   plain-few : (s : UpState) (q : Q) (n : ℕ) (o : Procedure) → length o.acts ≤ n → Sends n s q (plain_job plan s o).routine
-  plain-few s q n o few = (omega (arith, few, length-map o.acts Ordinary), tt)
+  plain-few s q n o few = (omega (arith, few), tt)
 
   control-few : (b : Bool) (s : UpState) (q : Q) (o : Procedure) → length o.acts ≤ 1200 → Sends 1200 s q (plain_job plan s (cond b o (unsent o))).routine
   control-few true s q o few = plain-few s q 1200 o few
@@ -322,7 +321,7 @@ module _ (plan : Plan) (sound : IsSound plan) (heap : ℕ) (s : UpState) (is : I
 -- ---- no last moment of a job is a boot
 
 module _ (plan : Plan) where
-  abbrev None_boots : Routine UpState DynamicAct → Type 0
+  abbrev None_boots : Routine UpState Act → Type 0
   None_boots routine = NoneBoots (up_act_rules plan) routine
 
   unmaking-none : (done : UpState → UpState) (now : UpState) (o : Outcome) → None_boots (after_unmaking done now o)

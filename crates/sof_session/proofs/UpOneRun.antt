@@ -5,7 +5,6 @@ use Rattle.stream_law.specs.StreamLaws.{AreRanked}
 use Rattle.stream_law.proofs.OnePast.{leads_same}
 use Rattle.mbox_link.specs.Meetings.{Doing}
 use Rattle.tplg_plan.specs.Sound.{IsSound}
-use Rattle.host_dynamic.specs.DynamicActs.{DynamicAct}
 use Rattle.host_dynamic.specs.Dynamic.{UpState}
 use Rattle.sof_script.specs.declared.script.Command.{Command}
 use Rattle.sof_session.specs.Commands.{Known}
@@ -15,9 +14,10 @@ use Rattle.sof_session.specs.Written.{Basis, Ground, At, Leg, LegStep, IsLeg, Is
 use Rattle.sof_session.proofs.RankedRuns.{empty-ranks, are-ranked, leads-ranks}
 use Rattle.sof_session.proofs.UpEdges.{AreEdges}
 use Rattle.sof_session.proofs.UpRanks.{came-ranked}
+use Rattle.host_widgets.specs.HostActs.{Act}
 
 module _ (g : Ground) (sound : IsSound g.plan) (doing : Doing) where
-  abbrev b : Basis UpState DynamicAct
+  abbrev b : Basis UpState Act
   b = record { rules = up_rules g.plan g.heap; whole = g.whole; slots = g.slots }
 
   -- the view of a place has ranks, and what is there is joined as the plan joins it

@@ -37,11 +37,11 @@ use Rattle.host_widgets.specs.declared.trigger.Trigger.{Trigger}
 use Rattle.host_widgets.specs.declared.trigger.Trigger.TheVariants as triggers
 use Rattle.host_widgets.specs.Acts.{widget_ids, widget_words, trigger_message}
 use Rattle.host_widgets.specs.ActLists.{control_acts_by, control_acts, prepare_by, prepare_acts, stop_by, stop_acts, close_by}
-use Rattle.host_widgets.specs.ActMessages.{act_message, put_message, set_message, ask_message, get_message}
+use Rattle.host_widgets.specs.ActMessages.{act_message, put_message, set_message, ask_message, get_message, unmake_by}
 use Rattle.host_widgets.specs.Expected.{stream_view}
 use Rattle.host_widgets.specs.Host.{Outcome}
 use Rattle.host_widgets.specs.HostActs as acts
-use Rattle.host_widgets.specs.HostActs.{Act}
+use Rattle.host_widgets.specs.HostActs.{Act, Unmake, fresh_in}
 use Rattle.host_widgets.specs.OneAct.{Performed, one_act, performed, outcome_by, lag_of}
 use Rattle.host_widgets.specs.Orders.{Procedure, sends, suspending, where_on}
 use Rattle.host_widgets.specs.Routines.{Routine, Finished, Sending, Job, followed, walk_on, walk_routine, not_begun}
@@ -53,7 +53,7 @@ use Rattle.host_pcm.specs.StreamCalls.{host_at}
 use Rattle.host_pcm.specs.StreamOrders.{asking_order, stream_order}
 use Rattle.host_ctl.specs.ControlAsks.{named_control}
 use Rattle.host_ctl.specs.ControlOrders.{setting_order, installing_order, reading_order, ask_acts, named_at}
-use Rattle.host_dynamic.specs.DynamicActs.{DynamicAct, Ordinary, Unmake, widgets_at, widgets_of, is_control_of, finish_ids, making_acts, unmade_order, dynamic_message, dynamic_fresh, unmake_by}
+use Rattle.host_dynamic.specs.DynamicActs.{widgets_at, widgets_of, making_acts, unmade_order}
 use Rattle.host_dynamic.specs.Dynamic.{UpState, up_act_rules, up_own, plain_job, after_unmaking, unmade, after_making, opening_by, after_closing, closing_by, after_resuming, resuming_job, is_control_up, unsent, with_stream_shut, parting}
 use Rattle.host_dynamic.specs.There.{There, there_view, there_after, by_part, nowhere, ids_there_of}
 use Rattle.host_dynamic.specs.Up.{buffer_joins, is_host_up}
@@ -72,29 +72,30 @@ use Rattle.sof_session.proofs.FewRows.{HasFewPeriod, HasFewParams, AreFewThere, 
 use Rattle.sof_session.proofs.InputMoves.{IsInRange, AllInRange, ticks_in, all-append, ticks-append, lag-in-range, lag-ticks}
 use Rattle.sof_session.proofs.RoutineNumbers.{planned-by, tested-is}
 use Rattle.sof_session.proofs.UpFew.{first-none}
+use Rattle.host_widgets.specs.Groups.{is_control_of, finish_ids}
 
 -- ---- acts
 
 module _ (plan : Plan) where
-  abbrev pub IsFewDynamic : DynamicAct → Type 0
-  IsFewDynamic act = IsFewMessage (dynamic_message plan act)
+  abbrev pub IsFewDynamic : Act → Type 0
+  IsFewDynamic act = IsFewMessage (act_message plan act)
 
   part-few : (comp : ℕ) (blob : List ℕ) (t : There) → AreFewThere t → (b : Bool) → AreFewThere (by_part comp blob b t)
   part-few comp blob t few true = record { pipes = few.pipes; streams = few.streams }
   part-few comp blob t few false = few
 
-  there-few : (act : DynamicAct) (t : There) → IsFewDynamic act → AreFewThere t → AreFewThere (there_after plan act t)
-  there-few (Ordinary (acts.Part comp blob k)) t is few = part-few comp blob t few (is_last blob k)
-  there-few (Ordinary (acts.Make id)) t is few = row-few t (dynamic_message plan (Ordinary (acts.Make id))) few is
-  there-few (Ordinary (acts.Join source sink)) t is few = row-few t (dynamic_message plan (Ordinary (acts.Join source sink))) few is
-  there-few (Ordinary (acts.Put comp values)) t is few = row-few t (dynamic_message plan (Ordinary (acts.Put comp values))) few is
-  there-few (Ordinary (acts.Finish id)) t is few = row-few t (dynamic_message plan (Ordinary (acts.Finish id))) few is
-  there-few (Ordinary (acts.Prepare host params)) t is few = row-few t (dynamic_message plan (Ordinary (acts.Prepare host params))) few is
-  there-few (Ordinary (acts.Trig host what)) t is few = row-few t (dynamic_message plan (Ordinary (acts.Trig host what))) few is
-  there-few (Ordinary (acts.Free host)) t is few = row-few t (dynamic_message plan (Ordinary (acts.Free host))) few is
-  there-few (Ordinary acts.Save) t is few = row-few t (dynamic_message plan (Ordinary acts.Save)) few is
-  there-few (Ordinary (acts.Ask comp k)) t is few = row-few t (dynamic_message plan (Ordinary (acts.Ask comp k))) few is
-  there-few (Unmake id) t is few = row-few t (dynamic_message plan (Unmake id)) few is
+  there-few : (act : Act) (t : There) → IsFewDynamic act → AreFewThere t → AreFewThere (there_after plan act t)
+  there-few (acts.Part comp blob k) t is few = part-few comp blob t few (is_last blob k)
+  there-few (acts.Make id) t is few = row-few t (act_message plan (acts.Make id)) few is
+  there-few (acts.Join source sink) t is few = row-few t (act_message plan (acts.Join source sink)) few is
+  there-few (acts.Put comp values) t is few = row-few t (act_message plan (acts.Put comp values)) few is
+  there-few (acts.Finish id) t is few = row-few t (act_message plan (acts.Finish id)) few is
+  there-few (acts.Prepare host params) t is few = row-few t (act_message plan (acts.Prepare host params)) few is
+  there-few (acts.Trig host what) t is few = row-few t (act_message plan (acts.Trig host what)) few is
+  there-few (acts.Free host) t is few = row-few t (act_message plan (acts.Free host)) few is
+  there-few acts.Save t is few = row-few t (act_message plan acts.Save) few is
+  there-few (acts.Ask comp k) t is few = row-few t (act_message plan (acts.Ask comp k)) few is
+  there-few (Unmake id) t is few = row-few t (act_message plan (Unmake id)) few is
 
   there-range : (t : There) → AreFewThere t → IsInRange (there_view t)
   there-range t few = view-in-range (there_view t) few.pipes few.streams
@@ -103,7 +104,7 @@ module _ (plan : Plan) where
 
 module _ (plan : Plan) (goes_on : Bool) (doing : Doing) where
   -- what is there stays in range, so do the views that come, and there are no more ticks than lags that were used up
-  record IsPacedUp (q : Queue) (w : Walked UpState DynamicAct Queue) : Type 0 where
+  record IsPacedUp (q : Queue) (w : Walked UpState Act Queue) : Type 0 where
     few : AreFewThere w.kept.there
     range : AllInRange w.moments
     ticks : ticks_in w.moments + lags w.queue.entries ≤ lags q.entries
@@ -113,7 +114,7 @@ module _ (plan : Plan) (goes_on : Bool) (doing : Doing) where
     range : AllInRange a.moments
     ticks : ticks_in a.moments ≤ lag
 
-  one-paced : (s : UpState) (act : DynamicAct) (m : Meeting) → IsFewDynamic plan act → AreFewThere s.there → IsPacedOne m.lag (one_act (up_act_rules plan) s act m)
+  one-paced : (s : UpState) (act : Act) (m : Meeting) → IsFewDynamic plan act → AreFewThere s.there → IsPacedOne m.lag (one_act (up_act_rules plan) s act m)
   one-paced s act m is few = by (outcome_by m.fate (up_own plan s act))
     where
       ticks : ticks_in (lag_of m) ≡ m.lag
@@ -122,7 +123,7 @@ module _ (plan : Plan) (goes_on : Bool) (doing : Doing) where
       by : (o : Outcome) → IsPacedOne m.lag (performed (up_act_rules plan) act s (lag_of m) o)
       by (Ok done) =
           let now = there-few plan act s.there is few in
-          let last : List Moment = Now (there_view (there_after plan act s.there)) (dynamic_fresh plan act) ∷ [] in
+          let last : List Moment = Now (there_view (there_after plan act s.there)) (fresh_in plan act) ∷ [] in
           let one = ticks-append (lag_of m) last in
           record {
             few = now;
@@ -131,14 +132,14 @@ module _ (plan : Plan) (goes_on : Bool) (doing : Doing) where
           }
       by (Err fault) = record { few = few; range = lag-in-range m.lag; ticks = omega (arith, ticks) }
 
-  module _ (s : UpState) (q : Queue) (act : DynamicAct) where
+  module _ (s : UpState) (q : Queue) (act : Act) where
     abbrev m : Meeting × Queue
     m = next_meeting doing q
 
     abbrev a : Performed UpState
     a = one_act (up_act_rules plan) s act m.0
 
-    onward-paced : (b : Bool) (rest : Walked UpState DynamicAct Queue) → IsPacedOne m.0.lag a → IsPacedUp m.1 rest → IsPacedUp q (followed_by act a m.1 b rest)
+    onward-paced : (b : Bool) (rest : Walked UpState Act Queue) → IsPacedOne m.0.lag a → IsPacedUp m.1 rest → IsPacedUp q (followed_by act a m.1 b rest)
     onward-paced true rest here there =
         let less : m.0.lag + lags m.1.entries ≤ lags q.entries = lags-both (more q.sent) q.entries in
         let both = ticks-append a.moments rest.moments in
@@ -147,7 +148,7 @@ module _ (plan : Plan) (goes_on : Bool) (doing : Doing) where
         let less : m.0.lag + lags m.1.entries ≤ lags q.entries = lags-both (more q.sent) q.entries in
         record { few = here.few; range = here.range; ticks = omega (arith, here.ticks, less) }
 
-  up-walk-paced : (xs : List DynamicAct) (s : UpState) (q : Queue) → AllByRecursion (IsFewDynamic plan) xs → AreFewThere s.there → IsPacedUp q (walk (up_act_rules plan) goes_on (next_meeting doing) s q xs)
+  up-walk-paced : (xs : List Act) (s : UpState) (q : Queue) → AllByRecursion (IsFewDynamic plan) xs → AreFewThere s.there → IsPacedUp q (walk (up_act_rules plan) goes_on (next_meeting doing) s q xs)
   up-walk-paced [] s q all few = record { few = few; range = tt; ticks = omega arith }
   up-walk-paced (act ∷ xs) s q all few =
       let here = one-paced s act (m s q act).0 all.0 few in
@@ -157,11 +158,11 @@ module _ (plan : Plan) (goes_on : Bool) (doing : Doing) where
 
 module _ (plan : Plan) (doing : Doing) where
   -- its acts are few so, and its last moments have no tick
-  abbrev pub IsPacedRoutine : Routine UpState DynamicAct → Type 0
+  abbrev pub IsPacedRoutine : Routine UpState Act → Type 0
   IsPacedRoutine (Finished kept moments) = AllInRange moments × (ticks_in moments ≡ 0)
   IsPacedRoutine (Sending xs goes_on then) = AllByRecursion (IsFewDynamic plan) xs × ((now : UpState) (o : Outcome) → IsPacedRoutine (then now o))
 
-  routine-paced : (most : ℕ) (before : Walked UpState DynamicAct Queue) (routine : Routine UpState DynamicAct) → IsPacedRoutine routine → AreFewThere before.kept.there → AllInRange before.moments →
+  routine-paced : (most : ℕ) (before : Walked UpState Act Queue) (routine : Routine UpState Act) → IsPacedRoutine routine → AreFewThere before.kept.there → AllInRange before.moments →
       ticks_in before.moments + lags before.queue.entries ≤ most →
       let w = walk_on (up_act_rules plan) (next_meeting doing) before routine in AllInRange w.moments × (ticks_in w.moments ≤ most)
   routine-paced most before (Finished kept moments) paced few range ticks =
@@ -177,9 +178,9 @@ module _ (plan : Plan) (doing : Doing) where
 
 module _ (plan : Plan) where
   abbrev AllDynamic : List Act → Type 0
-  AllDynamic xs = AllByRecursion (λ (act : Act). IsFewDynamic plan (Ordinary act)) xs
+  AllDynamic xs = AllByRecursion (λ (act : Act). IsFewDynamic plan act) xs
 
-  all-ordinary : (xs : List Act) → AllDynamic xs → AllByRecursion (IsFewDynamic plan) (map Ordinary xs)
+  all-ordinary : (xs : List Act) → AllDynamic xs → AllByRecursion (IsFewDynamic plan) xs
   all-ordinary [] all = tt
   all-ordinary (x ∷ xs) all = (all.0, all-ordinary xs all.1)
 
@@ -187,7 +188,7 @@ module _ (plan : Plan) where
   all-more [] ys first rest = rest
   all-more (x ∷ xs) ys first rest = (first.0, all-more xs ys first.1 rest)
 
-  all-map : {X : Type 0} (f : X → Act) → (xs : List X) → ((x : X) → IsIn x xs → IsFewDynamic plan (Ordinary (f x))) → AllDynamic (map f xs)
+  all-map : {X : Type 0} (f : X → Act) → (xs : List X) → ((x : X) → IsIn x xs → IsFewDynamic plan (f x)) → AllDynamic (map f xs)
   all-map f [] each = tt
   all-map f (x ∷ xs) each = (each x (inl refl), all-map f xs (λ y there. each y (inr there)))
 
@@ -223,7 +224,15 @@ module _ (plan : Plan) where
   trigger-few host triggers.Pause = tt
   trigger-few host triggers.Release = tt
 
-  ordinary-few : (act : Act) → MakesNone act → IsFewAct act → IsFewDynamic plan (Ordinary act)
+  unmake-few : (id : ℕ) → IsFewDynamic plan (Unmake id)
+  unmake-few id = by (comp_of plan.graph id) (edge_of plan.graph id)
+    where
+      by : (c : Option Comp) (e : Option Edge) → IsFewMessage (unmake_by c e id)
+      by (Some c) e = tt
+      by None (Some e) = tt
+      by None None = tt
+
+  ordinary-few : (act : Act) → MakesNone act → IsFewAct act → IsFewDynamic plan act
   ordinary-few (acts.Make id) none is = absurd none
   ordinary-few (acts.Join source sink) none is = tt
   ordinary-few (acts.Put comp values) none is = put-few comp values _
@@ -234,6 +243,7 @@ module _ (plan : Plan) where
   ordinary-few (acts.Free host) none is = tt
   ordinary-few acts.Save none is = tt
   ordinary-few (acts.Ask comp k) none is = ask-few comp k _
+  ordinary-few (Unmake id) none is = unmake-few id
 
   both-few : (xs : List Act) → AllByRecursion MakesNone xs → AreFewActs xs → AllDynamic xs
   both-few [] none few = tt
@@ -327,22 +337,14 @@ module _ (plan : Plan) (sound : IsSound plan) where
       (all-more plan (flat_map control_acts (filter (is_control_of plan n) (zip plan.controls kept.controls))) _ (all-flat plan control_acts (λ p. control-acts p.0.comp p.0.kind p.1) (filter (is_control_of plan n) (zip plan.controls kept.controls)))
       (all-map plan acts.Finish (finish_ids plan.graph n) (λ id there. tt))))
 
-  unmake-few : (id : ℕ) → IsFewDynamic plan (Unmake id)
-  unmake-few id = by (comp_of plan.graph id) (edge_of plan.graph id)
-    where
-      by : (c : Option Comp) (e : Option Edge) → IsFewMessage (unmake_by c e id)
-      by (Some c) e = tt
-      by None (Some e) = tt
-      by None None = tt
-
   all-unmake : (ids : List ℕ) → AllByRecursion (IsFewDynamic plan) (map Unmake ids)
   all-unmake [] = tt
-  all-unmake (id ∷ ids) = (unmake-few id, all-unmake ids)
+  all-unmake (id ∷ ids) = (unmake-few plan id, all-unmake ids)
 
   -- ---- routines
 
   module _ (doing : Doing) where
-    abbrev Paced : Routine UpState DynamicAct → Type 0
+    abbrev Paced : Routine UpState Act → Type 0
     Paced routine = IsPacedRoutine plan doing routine
 
     unmaking-paced : (done : UpState → UpState) (now : UpState) (o : Outcome) → Paced (after_unmaking done now o)
@@ -458,7 +460,7 @@ module _ (plan : Plan) (sound : IsSound plan) (heap : ℕ) (doing : Doing) (know
   abbrev s : UpState
   s = known.kept
 
-  abbrev IsPaced : CommandResult UpState DynamicAct → Type 0
+  abbrev IsPaced : CommandResult UpState Act → Type 0
   IsPaced c = AllInRange c.moments × (ticks_in c.moments ≤ 16)
 
   few : AllFew s.kept.streams
@@ -498,14 +500,14 @@ module _ (plan : Plan) (sound : IsSound plan) (heap : ℕ) (doing : Doing) (know
   -- ---- its first moments, and what is there after them
 
   -- moments without a tick, or those of a command that is a tick
-  record StartsSo (job : Job UpState DynamicAct) : Type 0 where
+  record StartsSo (job : Job UpState Act) : Type 0 where
     range : AllInRange job.first
     there : AreFewThere job.from.there
     ticks : ticks_in job.first ≡ 0
 
-  by-starts : (job : Job UpState DynamicAct) → StartsSo job → IsPacedRoutine plan doing job.routine → IsPaced (carried (up_rules plan heap) doing known job)
+  by-starts : (job : Job UpState Act) → StartsSo job → IsPacedRoutine plan doing job.routine → IsPaced (carried (up_rules plan heap) doing known job)
   by-starts job starts paced =
-      let before : Walked UpState DynamicAct Queue = not_begun job.from known.queue in
+      let before : Walked UpState Act Queue = not_begun job.from known.queue in
       let r = routine-paced plan doing 16 before job.routine paced starts.there tt (omega (arith, held)) in
       let w = walk_routine (up_act_rules plan) (next_meeting doing) job.from known.queue job.routine in
       let both = ticks-append job.first w.moments in
@@ -584,7 +586,7 @@ module _ (plan : Plan) (sound : IsSound plan) (heap : ℕ) (doing : Doing) (know
       let all = ticks-append (where_on s.kept.power (Tick ∷ [])) [] in
       (all-append (where_on s.kept.power (Tick ∷ [])) [] one.0 tt, omega (arith, all, one.1))
 
-  tested-paced : (job : Job UpState DynamicAct) (fault : Option HostFault) → (fault ≡ None → IsPaced (carried (up_rules plan heap) doing known job)) → IsPaced (tested (up_rules plan heap) doing known job fault)
+  tested-paced : (job : Job UpState Act) (fault : Option HostFault) → (fault ≡ None → IsPaced (carried (up_rules plan heap) doing known job)) → IsPaced (tested (up_rules plan heap) doing known job fault)
   tested-paced job (Some fault) paced = (tt, omega arith)
   tested-paced job None paced = paced refl
 

@@ -50,7 +50,7 @@ use Rattle.host_widgets.specs.ActMessages.{act_message, set_message, put_message
 use Rattle.host_widgets.specs.Controls.{control_of, eight_masks}
 use Rattle.host_widgets.specs.Expected.{stream_view}
 use Rattle.host_widgets.specs.Host.{IsRecordOf}
-use Rattle.host_widgets.specs.HostActs.{Act, Make, Join, Put, Part, Finish, Prepare, Trig, Free, Save, Ask, after, fresh_by, fresh_in, with_values, with_blob}
+use Rattle.host_widgets.specs.HostActs.{Act, Make, Join, Put, Part, Finish, Prepare, Trig, Free, Save, Ask, Unmake, after, fresh_by, fresh_in, with_values, with_blob}
 use Rattle.host_widgets.specs.HostRecord.{may_have}
 use Rattle.host_widgets.specs.Kept.{with_control}
 use Rattle.host_widgets.specs.ViewOf.{record_view, set_comp, record_setting}
@@ -59,11 +59,10 @@ use Rattle.host_widgets.proofs.LookedUp.{found-is}
 use Rattle.host_widgets.proofs.StandingOn.{LeadsOn}
 use Rattle.host_ctl.proofs.PutShows.{found-set, elsewhere-at}
 use Rattle.host_ctl.proofs.PutStands.{stands-seen, put-stands, shape-with}
-use Rattle.host_dynamic.specs.DynamicActs.{Ordinary}
 use Rattle.host_dynamic.specs.Dynamic.{UpState, up_act_rules}
 use Rattle.host_dynamic.specs.Parts.{up_part, part_record}
 use Rattle.host_dynamic.specs.There.{There, there_in, there_view}
-use Rattle.host_dynamic.specs.Up.{is_up, is_host_up, up_view}
+use Rattle.host_dynamic.specs.Up.{is_host_up, up_view}
 use Rattle.host_dynamic.specs.UpStates.{IsThere}
 use Rattle.host_dynamic.proofs.Between.{IsBetween, kind-of}
 use Rattle.host_dynamic.proofs.PartViews.{part-shows}
@@ -73,6 +72,7 @@ use Rattle.host_dynamic.proofs.StageStays.{all-pass, pass-each, from-map}
 use Rattle.host_dynamic.proofs.UpContext.{IsServing}
 use Rattle.host_dynamic.proofs.UpStages.{StreamPair, stage_graph, up_stage}
 use Rattle.host_dynamic.proofs.UpStanding.{there-stage}
+use Rattle.host_widgets.specs.Indices.{is_up}
 
 -- ---- what a row that passed says
 
@@ -314,6 +314,7 @@ abbrev pub IsPlainly : Act → Type 0
 IsPlainly (Make id) = ⊥
 IsPlainly (Join source sink) = ⊥
 IsPlainly (Finish id) = ⊥
+IsPlainly (Unmake id) = ⊥
 IsPlainly act = Unit {0}
 
 module _ (plan : Plan) (sound : IsSound plan) (s : UpState) (was : IsRecordOf plan s.kept) (serves : IsServing plan s.kept s.up) (stood_there : IsThere plan s) (f g : FwState) (same : there_in f ≡ s.there) where
@@ -541,9 +542,10 @@ module _ (plan : Plan) (sound : IsSound plan) (s : UpState) (was : IsRecordOf pl
   leads-by (Make id) plain will behind passed = absurd plain
   leads-by (Join source sink) plain will behind passed = absurd plain
   leads-by (Finish id) plain will behind passed = absurd plain
+  leads-by (Unmake id) plain will behind passed = absurd plain
 
 -- an act at a state in which what is up is there, before it and after it
-pub plain-row : (plan : Plan) → IsSound plan → (act : Act) → IsPlainly act → (s : UpState) → IsRecordOf plan s.kept → IsServing plan s.kept s.up → IsThere plan s → (let t = (up_act_rules plan).after (Ordinary act) s in IsRecordOf plan t.kept → IsThere plan t → (f g : FwState) → there_in f ≡ s.there → there_in g ≡ t.there →
+pub plain-row : (plan : Plan) → IsSound plan → (act : Act) → IsPlainly act → (s : UpState) → IsRecordOf plan s.kept → IsServing plan s.kept s.up → IsThere plan s → (let t = (up_act_rules plan).after act s in IsRecordOf plan t.kept → IsThere plan t → (f g : FwState) → there_in f ≡ s.there → there_in g ≡ t.there →
     row f (act_message plan act) ≡ Ok g → LeadsOn (Some f) (Some g) (Now (there_view t.there) (fresh_in plan act) ∷ []))
 plain-row plan sound act plain s was serves at will behind f g same same_then passed =
     subst (λ (v : View). LeadsOn (Some f) (Some g) (Now v (fresh_in plan act) ∷ [])) (ap there_view same_then)

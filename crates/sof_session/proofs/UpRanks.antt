@@ -29,7 +29,7 @@ use Rattle.host_widgets.specs.declared.trigger.Trigger.TheVariants as triggers
 use Rattle.host_widgets.specs.ActLists.{part_acts, control_acts_by, control_acts, prepare_by, prepare_acts, stop_by, stop_acts, go_down, close_by}
 use Rattle.host_widgets.specs.ActRules.{ActRules}
 use Rattle.host_widgets.specs.Host.{Outcome}
-use Rattle.host_widgets.specs.HostActs.{Act, Make, Join, Finish, Ask, Part}
+use Rattle.host_widgets.specs.HostActs.{Act, Make, Join, Finish, Ask, Part, Unmake}
 use Rattle.host_widgets.specs.Kept.{controls_of}
 use Rattle.host_widgets.specs.OneAct.{Performed, outcome_by, performed, one_act, lag_of}
 use Rattle.host_widgets.specs.Orders.{Procedure, end_by, sends}
@@ -43,7 +43,7 @@ use Rattle.host_pcm.specs.StreamOrders.{asking_order, stream_order}
 use Rattle.host_ctl.specs.ControlAsks.{named_control}
 use Rattle.host_ctl.specs.ControlOrders.{setting_order, installing_order, ask_acts, reading_order, named_at}
 use Rattle.host_dynamic.specs.Up.{is_join_at, buffer_joins}
-use Rattle.host_dynamic.specs.DynamicActs.{DynamicAct, Ordinary, Unmake, is_control_of, widgets_of, finish_ids, making_acts, unmade_order, unmaking_acts}
+use Rattle.host_dynamic.specs.DynamicActs.{widgets_of, making_acts, unmade_order, unmaking_acts}
 use Rattle.host_dynamic.specs.There.{There, there_after, ids_there_of}
 use Rattle.host_dynamic.specs.Dynamic.{UpState, there_by, up_own, up_act_rules, plain_job, cut_off, lacking, after_unmaking, unmade, after_making, opening_by, parting, with_stream_shut, after_closing, closing_by, after_resuming, is_control_up, unsent}
 use Rattle.host_dynamic.proofs.Needs.{flat-in}
@@ -53,6 +53,7 @@ use Rattle.sof_session.specs.Commands.{Known, CommandResult, order_of, planned_w
 use Rattle.sof_session.specs.UpCommands.{place_named, up_fault, up_job, up_rules}
 use Rattle.sof_session.proofs.RankedRuns.{AllRanks, all-append, lag-ranks, where-ranks, first-ranks, end-ranks}
 use Rattle.sof_session.proofs.UpEdges.{IsPlanned, AreEdges, IsOfPlan, there-edges, there-ranks}
+use Rattle.host_widgets.specs.Groups.{is_control_of, finish_ids}
 
 -- ---- lists
 
@@ -73,19 +74,19 @@ all-flat P f each [] = tt
 all-flat P f each (x ∷ xs) = all-both P (f x) (flat_map f xs) (each x) (all-flat P f each xs)
 
 module _ (plan : Plan) where
-  abbrev R : ActRules UpState DynamicAct
+  abbrev R : ActRules UpState Act
   R = up_act_rules plan
 
   -- ---- which acts commands have
 
   abbrev IsSent : Act → Type 0
-  IsSent act = IsOfPlan plan (Ordinary act)
+  IsSent act = IsOfPlan plan act
 
   abbrev AreSent : List Act → Type 0
   AreSent acts = AllByRecursion IsSent acts
 
-  ordinary : (acts : List Act) → AreSent acts → AllByRecursion (IsOfPlan plan) (map Ordinary acts)
-  ordinary acts sent = all-along IsSent (IsOfPlan plan) Ordinary (λ act is. is) acts sent
+  ordinary : (acts : List Act) → AreSent acts → AllByRecursion (IsOfPlan plan) acts
+  ordinary acts sent = all-along IsSent (IsOfPlan plan) (λ act is. is) acts sent
 
   parts-sent : (comp : ℕ) (blob : List ℕ) → AreSent (part_acts comp blob)
   parts-sent comp blob = all-each IsSent (Part comp blob) (λ k. tt) (part_numbers blob)
@@ -186,7 +187,7 @@ module _ (plan : Plan) where
     abbrev Ranked : List Moment → There → Type 0
     Ranked moments t = AllRanks moments × AreEdges plan t
 
-    act-ranked : (s : UpState) (act : DynamicAct) (m : Meeting) → IsOfPlan plan act → AreEdges plan s.there → let a = one_act R s act m in Ranked a.moments a.kept.there
+    act-ranked : (s : UpState) (act : Act) (m : Meeting) → IsOfPlan plan act → AreEdges plan s.there → let a = one_act R s act m in Ranked a.moments a.kept.there
     act-ranked s act m of_plan are = by (outcome_by m.fate (up_own plan s act))
       where
         by : (o : Outcome) → let a = performed R act s (lag_of m) o in Ranked a.moments a.kept.there
@@ -195,12 +196,12 @@ module _ (plan : Plan) where
             (all-append (lag_of m) _ (lag-ranks m.lag) (there-ranks plan sound (there_after plan act s.there) later, tt), later)
         by (Err fault) = (lag-ranks m.lag, are)
 
-    then-ranked : (act : DynamicAct) (a : Performed UpState) (q : Queue) (b : Bool) (rest : Walked UpState DynamicAct Queue) → Ranked a.moments a.kept.there → Ranked rest.moments rest.kept.there →
+    then-ranked : (act : Act) (a : Performed UpState) (q : Queue) (b : Bool) (rest : Walked UpState Act Queue) → Ranked a.moments a.kept.there → Ranked rest.moments rest.kept.there →
         let w = followed_by act a q b rest in Ranked w.moments w.kept.there
     then-ranked act a q true rest here there = (all-append a.moments rest.moments here.0 there.0, there.1)
     then-ranked act a q false rest here there = here
 
-    walk-ranked : (goes_on : Bool) (acts : List DynamicAct) (s : UpState) (q : Queue) → AllByRecursion (IsOfPlan plan) acts → AreEdges plan s.there → let w = walk R goes_on (next_meeting doing) s q acts in Ranked w.moments w.kept.there
+    walk-ranked : (goes_on : Bool) (acts : List Act) (s : UpState) (q : Queue) → AllByRecursion (IsOfPlan plan) acts → AreEdges plan s.there → let w = walk R goes_on (next_meeting doing) s q acts in Ranked w.moments w.kept.there
     walk-ranked goes_on [] s q of_plan are = (tt, are)
     walk-ranked goes_on (act ∷ acts) s q of_plan are =
         let p = next_meeting doing q in
@@ -210,11 +211,11 @@ module _ (plan : Plan) where
 
     -- ---- routines
 
-    abbrev IsRanked : Routine UpState DynamicAct → Type 0
+    abbrev IsRanked : Routine UpState Act → Type 0
     IsRanked (Finished end moments) = Ranked moments end.there
     IsRanked (Sending acts goes_on then) = AllByRecursion (IsOfPlan plan) acts × ((s : UpState) (o : Outcome) → AreEdges plan s.there → IsRanked (then s o))
 
-    on-ranked : (before : Walked UpState DynamicAct Queue) (routine : Routine UpState DynamicAct) → Ranked before.moments before.kept.there → IsRanked routine →
+    on-ranked : (before : Walked UpState Act Queue) (routine : Routine UpState Act) → Ranked before.moments before.kept.there → IsRanked routine →
         let w = walk_on R (next_meeting doing) before routine in Ranked w.moments w.kept.there
     on-ranked before (Finished end moments) sofar ranked = (all-append before.moments moments sofar.0 ranked.0, ranked.1)
     on-ranked before (Sending acts goes_on then) sofar ranked =
@@ -224,7 +225,7 @@ module _ (plan : Plan) where
 
     -- ---- jobs
 
-    record IsRankedJob (job : Job UpState DynamicAct) : Type 0 where
+    record IsRankedJob (job : Job UpState Act) : Type 0 where
       first : AllRanks job.first
       from : AreEdges plan job.from.there
       routine : IsRanked job.routine
@@ -322,15 +323,15 @@ module _ (plan : Plan) where
       job-ranked (commands.Lag k ticks) = plain-ranked s (order_of plan s.kept (commands.Lag k ticks)) are tt tt
 
     module _ (heap : ℕ) (known : Known UpState) (are : AreEdges plan known.kept.there) where
-      abbrev RankedCame : CommandResult UpState DynamicAct → Type 0
+      abbrev RankedCame : CommandResult UpState Act → Type 0
       RankedCame c = Ranked c.moments c.known.kept.there
 
-      carried-ranked : (job : Job UpState DynamicAct) → IsRankedJob job → RankedCame (carried (up_rules plan heap) doing known job)
+      carried-ranked : (job : Job UpState Act) → IsRankedJob job → RankedCame (carried (up_rules plan heap) doing known job)
       carried-ranked job is =
           let w = on-ranked (not_begun job.from known.queue) job.routine (tt, is.from) is.routine in
           (all-append job.first _ is.first w.0, w.1)
 
-      tested-ranked : (job : Job UpState DynamicAct) (fault : Option HostFault) → IsRankedJob job → RankedCame (tested (up_rules plan heap) doing known job fault)
+      tested-ranked : (job : Job UpState Act) (fault : Option HostFault) → IsRankedJob job → RankedCame (tested (up_rules plan heap) doing known job fault)
       tested-ranked job (Some fault) is = (tt, are)
       tested-ranked job None is = carried-ranked job is
 

@@ -19,7 +19,6 @@ use Rattle.host_widgets.specs.Orders.{fault_of_load}
 use Rattle.host_widgets.specs.Routines.{Job}
 use Rattle.host_pm.specs.PowerTests.{resume_fault}
 use Rattle.host_ctl.specs.ControlOrders.{control_told, named_at}
-use Rattle.host_dynamic.specs.DynamicActs.{DynamicAct}
 use Rattle.host_dynamic.specs.Dynamic.{UpState}
 use Rattle.host_dynamic.specs.UpStates.{IsUpState}
 use Rattle.host_dynamic.proofs.UpControls.{set-keeps, bytes-keep, read-keeps}
@@ -36,6 +35,7 @@ use Rattle.sof_session.specs.UpCommands.{up_fault, up_job, up_rules}
 use Rattle.sof_session.specs.UpLaws.{UpIsShown, FirstIsShown, RunShowsUp}
 use Rattle.sof_session.specs.Written.{Basis, At, Leg, IsRun, first_at}
 use Rattle.sof_session.proofs.UpSuspending.{suspend-keeps}
+use Rattle.host_widgets.specs.HostActs.{Act}
 
 -- ---- by the tests of the power
 
@@ -52,7 +52,7 @@ resumes-off powers.Unloaded none = absurd (cc none)
 -- ---- where no test fails
 
 module _ (plan : Plan) (sound : IsSound plan) (heap : ℕ) (s : UpState) (is : IsUpState plan s) {Q : Type 0} (next_met : Q → Meeting × Q) (q : Q) where
-  abbrev pub JobKeeps : Job UpState DynamicAct → Type 0
+  abbrev pub JobKeeps : Job UpState Act → Type 0
   JobKeeps job = Keeps plan next_met (IsUpState plan) job.from q job.routine
 
   -- whatever the messages of a command meet, its job keeps it
@@ -86,7 +86,7 @@ module _ (plan : Plan) (sound : IsSound plan) (heap : ℕ) (doing : Doing) (know
   q = known.queue
 
   -- the result of a command
-  abbrev IsKept : CommandResult UpState DynamicAct → Type 0
+  abbrev IsKept : CommandResult UpState Act → Type 0
   IsKept c = IsUpState plan c.known.kept
 
   -- what is planned changes nothing that is kept
@@ -95,7 +95,7 @@ module _ (plan : Plan) (sound : IsSound plan) (heap : ℕ) (doing : Doing) (know
   planned false entries = is
 
   -- nor does a command of which a test fails
-  by-test : (job : Job UpState DynamicAct) (fault : Option HostFault) → (fault ≡ None → Keeps plan (next_meeting doing) (IsUpState plan) job.from q job.routine) → IsKept (tested (up_rules plan heap) doing known job fault)
+  by-test : (job : Job UpState Act) (fault : Option HostFault) → (fault ≡ None → Keeps plan (next_meeting doing) (IsUpState plan) job.from q job.routine) → IsKept (tested (up_rules plan heap) doing known job fault)
   by-test job (Some fault) kept = is
   by-test job None kept = routine-keeps plan (next_meeting doing) (IsUpState plan) job.from q job.routine (kept refl)
 
@@ -115,7 +115,7 @@ first-is-shown plan sound heap = first-is plan sound
 -- ---- runs
 
 module _ (plan : Plan) (sound : IsSound plan) (heap : ℕ) (whole : List (ℕ × List ℕ)) (slots : List ℕ) (doing : Doing) where
-  abbrev b : Basis UpState DynamicAct
+  abbrev b : Basis UpState Act
   b = record { rules = up_rules plan heap; whole = whole; slots = slots }
 
   run-keeps : (commands : List Command) (old : At UpState) (legs : List (Leg UpState)) → IsUpState plan old.known.kept → IsRun b doing commands old legs → AllByRecursion (λ (leg : Leg UpState). IsUpState plan leg.at.known.kept) legs

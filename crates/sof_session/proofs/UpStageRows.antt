@@ -33,14 +33,13 @@ use Rattle.tplg_plan.specs.Sound.{IsSound}
 use Rattle.host_widgets.specs.declared.kept.Record.{Record}
 use Rattle.host_widgets.specs.declared.kept.StreamRec.{StreamRec}
 use Rattle.host_widgets.specs.Acts.{widget_words, pipe_by_id, comp_message, buffer_message, pipe_message, direction_of}
-use Rattle.host_widgets.specs.ActMessages.{set_message, put_message, act_message}
+use Rattle.host_widgets.specs.ActMessages.{set_message, put_message, act_message, unmake_by}
 use Rattle.host_widgets.specs.Controls.{control_of, eight_masks}
-use Rattle.host_widgets.specs.HostActs.{Make, Put, Part, Finish, Prepare, fresh_by}
+use Rattle.host_widgets.specs.HostActs.{Make, Put, Part, Finish, Prepare, fresh_by, Act, Unmake, fresh_in}
 use Rattle.host_widgets.specs.HostActs as acts
 use Rattle.host_widgets.specs.HostRecord.{may_have}
 use Rattle.host_widgets.specs.ViewOf.{record_view}
 use Rattle.host_widgets.proofs.StandingOn.{LeadsOn}
-use Rattle.host_dynamic.specs.DynamicActs.{DynamicAct, Ordinary, Unmake, unmake_by, dynamic_message, dynamic_fresh}
 use Rattle.host_dynamic.specs.There.{There, there_in, there_view}
 use Rattle.host_dynamic.proofs.Between.{IsBetween, kind-of}
 use Rattle.host_dynamic.proofs.StageBetween.{stage-between}
@@ -96,14 +95,14 @@ quiet-row plan host params f g first second agrees done =
 -- ---- acts
 
 -- an act that makes or unmakes
-abbrev pub Builds : DynamicAct → Type 0
-Builds (Ordinary (Make id)) = Unit {0}
-Builds (Ordinary (acts.Join source sink)) = Unit {0}
-Builds (Ordinary (Put comp values)) = Unit {0}
-Builds (Ordinary (Part comp blob k)) = Unit {0}
-Builds (Ordinary (Finish id)) = Unit {0}
-Builds (Ordinary act) = ⊥
+abbrev pub Builds : Act → Type 0
+Builds (Make id) = Unit {0}
+Builds (acts.Join source sink) = Unit {0}
+Builds (Put comp values) = Unit {0}
+Builds (Part comp blob k) = Unit {0}
+Builds (Finish id) = Unit {0}
 Builds (Unmake id) = Unit {0}
+Builds act = ⊥
 
 -- the last part has no bytes after it
 last-same : (blob : List ℕ) (k : ℕ) → ((blob_part blob k).remaining == 0) ≡ is_last blob k
@@ -165,20 +164,20 @@ module _ (plan : Plan) (sound : IsSound plan) (kept : Record) (up n : List ℕ) 
     puts comp values (Some k) done = sets comp values k.kind done
     puts comp values None done = (tt, ap (fresh_by comp) (same-kind comp (set-found f comp CTRL_VOLUME [] g done)))
 
-    marked : (act : DynamicAct) → Builds act → row f (dynamic_message plan act) ≡ Ok g → IsMarked (dynamic_fresh plan act) (dynamic_message plan act)
-    marked (Ordinary (Make id)) builds done = makes id (comp_of plan.graph id) (edge_of plan.graph id) (pipe_by_id plan id)
-    marked (Ordinary (acts.Join source sink)) builds done = (tt, refl)
-    marked (Ordinary (Put comp values)) builds done = puts comp values (control_of plan comp) done
-    marked (Ordinary (Part comp blob k)) builds done = (tt, ap (fresh_by comp) (last-same blob k))
-    marked (Ordinary (Finish id)) builds done = (tt, refl)
-    marked (Ordinary (Prepare host params)) builds done = absurd builds
-    marked (Ordinary (acts.Trig host what)) builds done = absurd builds
-    marked (Ordinary (acts.Free host)) builds done = absurd builds
-    marked (Ordinary acts.Save) builds done = absurd builds
-    marked (Ordinary (acts.Ask comp k)) builds done = absurd builds
+    marked : (act : Act) → Builds act → row f (act_message plan act) ≡ Ok g → IsMarked (fresh_in plan act) (act_message plan act)
+    marked (Make id) builds done = makes id (comp_of plan.graph id) (edge_of plan.graph id) (pipe_by_id plan id)
+    marked (acts.Join source sink) builds done = (tt, refl)
+    marked (Put comp values) builds done = puts comp values (control_of plan comp) done
+    marked (Part comp blob k) builds done = (tt, ap (fresh_by comp) (last-same blob k))
+    marked (Finish id) builds done = (tt, refl)
+    marked (Prepare host params) builds done = absurd builds
+    marked (acts.Trig host what) builds done = absurd builds
+    marked (acts.Free host) builds done = absurd builds
+    marked acts.Save builds done = absurd builds
+    marked (acts.Ask comp k) builds done = absurd builds
     marked (Unmake id) builds done = unmakes (comp_of plan.graph id) (edge_of plan.graph id) id
 
-    pub stage-row : (act : DynamicAct) → Builds act → row f (dynamic_message plan act) ≡ Ok g → LeadsOn (Some f) (Some g) (Now (view_of g) (dynamic_fresh plan act) ∷ [])
+    pub stage-row : (act : Act) → Builds act → row f (act_message plan act) ≡ Ok g → LeadsOn (Some f) (Some g) (Now (view_of g) (fresh_in plan act) ∷ [])
     stage-row act builds done =
         let m = marked act builds done in
-        subst (λ (fresh : Option ℕ). LeadsOn (Some f) (Some g) (Now (view_of g) fresh ∷ [])) m.1 (row-stands f g same agrees (dynamic_message plan act) m.0 done)
+        subst (λ (fresh : Option ℕ). LeadsOn (Some f) (Some g) (Now (view_of g) fresh ∷ [])) m.1 (row-stands f g same agrees (act_message plan act) m.0 done)

@@ -21,7 +21,6 @@ use Rattle.host_widgets.specs.Routines.{Job, JobDone}
 use Rattle.host_widgets.proofs.StandingOn.{StandsOn}
 use Rattle.host_pm.specs.PowerTests.{suspend_fault, resume_fault}
 use Rattle.host_ctl.specs.ControlOrders.{control_told, named_at}
-use Rattle.host_dynamic.specs.DynamicActs.{DynamicAct}
 use Rattle.host_dynamic.specs.Dynamic.{UpState, up_act_rules, plain_job}
 use Rattle.host_dynamic.specs.UpDevices.{there_on}
 use Rattle.host_dynamic.specs.UpStates.{IsUpState}
@@ -44,6 +43,7 @@ use Rattle.sof_session.proofs.UpStandsStreams.{on-there, quiet-leads, load-leads
 use Rattle.sof_session.proofs.UpStandsControls.{set-leads, bytes-lead, read-leads}
 use Rattle.sof_session.proofs.UpStandsDown.{suspend-leads-by}
 use Rattle.sof_session.proofs.UpStandsResume.{QuietRows, resume-leads}
+use Rattle.host_widgets.specs.HostActs.{Act}
 
 -- ---- by the tests of the power
 
@@ -61,7 +61,7 @@ resumes-off powers.Unloaded none = absurd (cc none)
 
 module _ (plan : Plan) (sound : IsSound plan) (plays : PlaysAtStages plan) (stage-rows : RowsAtStages plan) (plain-rows : PlainRows plan) (quiet-rows : QuietRows plan) (heap : ℕ) (device : Option FwState) (s : UpState) (is : IsUpState plan s)
     (there_is : s.there ≡ there_on device) (on_device : s.kept.power ≡ powers.On → (f : FwState) × (device ≡ Some f)) where
-  abbrev Leads : Job UpState DynamicAct → Type 0
+  abbrev Leads : Job UpState Act → Type 0
   Leads job = LeadsOver plan heap device job
 
   suspend-leads : suspend_fault s.kept.power ≡ None → Leads (plain_job plan s (suspending plan s.kept))

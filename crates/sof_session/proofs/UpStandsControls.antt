@@ -25,7 +25,7 @@ use Rattle.host_widgets.specs.declared.kept.Record.{Record}
 use Rattle.host_widgets.specs.ActLists.{part_acts}
 use Rattle.host_widgets.specs.ActMessages.{act_message}
 use Rattle.host_widgets.specs.Host.{IsRecordOf}
-use Rattle.host_widgets.specs.HostActs.{Put, Part, Ask, with_values, with_blob}
+use Rattle.host_widgets.specs.HostActs.{Put, Part, Ask, with_values, with_blob, Act}
 use Rattle.host_widgets.specs.Kept.{control_at, with_control}
 use Rattle.host_widgets.specs.Named.{is_named, off_fault}
 use Rattle.host_widgets.specs.Routines.{Job}
@@ -42,10 +42,8 @@ use Rattle.host_ctl.proofs.ControlsTaken.{set-all}
 use Rattle.host_ctl.proofs.ControlsThere.{lost-here, live, at-here, named-here}
 use Rattle.host_ctl.proofs.PutShows.{there-at}
 use Rattle.host_ctl.proofs.PutStands.{put-record}
-use Rattle.host_dynamic.specs.DynamicActs.{DynamicAct, Ordinary}
 use Rattle.host_dynamic.specs.There.{There, there_after, silent_state, by_part}
 use Rattle.host_dynamic.specs.Dynamic.{UpState, up_act_rules, plain_job, unsent, control_order, is_control_up, read_up_fault}
-use Rattle.host_dynamic.specs.Up.{is_up}
 use Rattle.host_dynamic.specs.UpDevices.{there_on}
 use Rattle.host_dynamic.specs.UpStates.{IsUpState}
 use Rattle.host_dynamic.proofs.RowsTold.{left-told}
@@ -60,10 +58,11 @@ use Rattle.sof_session.proofs.UpPlainRows.{IsPlainly}
 use Rattle.sof_session.proofs.UpStandsLists.{PlaysAtStages, RowsAtStages, all-mapped}
 use Rattle.sof_session.proofs.UpStandsJobs.{PlainRows, IsThereSo, EndsThereSo, so-there}
 use Rattle.sof_session.proofs.UpStandsStreams.{Leads, sends-lead, unsent-leads}
+use Rattle.host_widgets.specs.Indices.{is_up}
 
 module _ (plan : Plan) (sound : IsSound plan) (plays : PlaysAtStages plan) (stage-rows : RowsAtStages plan) (plain-rows : PlainRows plan) (heap : ℕ) (device : Option FwState) (s : UpState) (is : IsUpState plan s)
     (there_is : s.there ≡ there_on device) (on_device : s.kept.power ≡ powers.On → (f : FwState) × (device ≡ Some f)) where
-  abbrev LeadsSo : Job UpState DynamicAct → Type 0
+  abbrev LeadsSo : Job UpState Act → Type 0
   LeadsSo job = Leads plan sound plays stage-rows plain-rows heap device s is there_is on_device job
 
   abbrev ThereSo : UpState → Type 0
@@ -100,7 +99,7 @@ module _ (plan : Plan) (sound : IsSound plan) (plays : PlaysAtStages plan) (stag
       put = with_control plan k.comp (with_values values)
 
       abbrev put_state : UpState
-      put_state = (up_act_rules plan).after (Ordinary (Put k.comp values)) s
+      put_state = (up_act_rules plan).after (Put k.comp values) s
 
       put-record-is : IsRecordOf plan (put s.kept)
       put-record-is = put-record plan s.kept k.comp (with_values values) (λ c. refl) is.record_is (set-all plan sound s.kept is.record_is i low values may)
@@ -110,8 +109,8 @@ module _ (plan : Plan) (sound : IsSound plan) (plays : PlaysAtStages plan) (stag
           let b = begun on in
           let t = at_stage plan s.kept (up_stage plan s.up) s.there.heap in
           let now = at_stage plan (put s.kept) (up_stage plan s.up) s.there.heap in
-          let at : there_after plan (Ordinary (Put k.comp values)) s.there ≡ now =
-          ap (there_after plan (Ordinary (Put k.comp values))) b.is ∙ left-told t (row (silent_state t) (act_message plan (Put k.comp values))) now (put-told plan sound s is i low values may has s.there.heap) in
+          let at : there_after plan (Put k.comp values) s.there ≡ now =
+          ap (there_after plan (Put k.comp values)) b.is ∙ left-told t (row (silent_state t) (act_message plan (Put k.comp values))) now (put-told plan sound s is i low values may has s.there.heap) in
           record { record_is = put-record-is; there = stage-there plan sound put_state (subst (IsStage plan (put s.kept) (up_stage plan s.up)) (sym at) (record { is = refl; heap = b.heap })) }
 
       pub put-leads : LeadsSo (plain_job plan s (if is_up plan.graph s.up k.comp then put_order plan s.kept k.comp values else unsent (put_order plan s.kept k.comp values)))
@@ -156,7 +155,7 @@ module _ (plan : Plan) (sound : IsSound plan) (plays : PlaysAtStages plan) (stag
             ap (by_part k.comp blob true) b.is ∙ blob-set plan sound s is k.comp (with_blob blob) here.comp here.there has s.there.heap blob blob-at in
             record { record_is = install-record; there = stage-there plan sound (part_then true) (subst (IsStage plan (install s.kept) (up_stage plan s.up)) (sym at) (record { is = refl; heap = b.heap })) }
 
-        parts-steps : (n j : ℕ) → j + suc n ≡ parts blob → Steps plan ThereSo s (map Ordinary (map (Part k.comp blob) (range_with_len j (suc n)))) EndsSo
+        parts-steps : (n j : ℕ) → j + suc n ≡ parts blob → Steps plan ThereSo s (map (Part k.comp blob) (range_with_len j (suc n))) EndsSo
         parts-steps zero j all = (so on, λ free. by (is_last blob j) refl)
           where
             few : j < parts blob
@@ -171,23 +170,23 @@ module _ (plan : Plan) (sound : IsSound plan) (plays : PlaysAtStages plan) (stag
             few = omega (arith, all)
 
             Rest : Bool → Type 0
-            Rest last = Steps plan ThereSo (part_then last) (map Ordinary (map (Part k.comp blob) (range_with_len (j + 1) (suc n)))) EndsSo
+            Rest last = Steps plan ThereSo (part_then last) (map (Part k.comp blob) (range_with_len (j + 1) (suc n))) EndsSo
 
             by : (b : Bool) → is_last blob j ≡ b → Rest false → Rest (is_last blob j)
             by true e rest = absurd (let none = none-behind blob whole-blob j few e in omega (arith, all, none))
             by false e rest = subst Rest (sym e) rest
 
-        all-steps : Steps plan ThereSo s (map Ordinary (part_acts k.comp blob)) EndsSo
+        all-steps : Steps plan ThereSo s (part_acts k.comp blob) EndsSo
         all-steps = by (parts blob) refl (few-parts blob whole-blob).0
           where
-            by : (n : ℕ) → parts blob ≡ n → 1 ≤ n → Steps plan ThereSo s (map Ordinary (map (Part k.comp blob) (range_with_len 0 n))) EndsSo
+            by : (n : ℕ) → parts blob ≡ n → 1 ≤ n → Steps plan ThereSo s (map (Part k.comp blob) (range_with_len 0 n)) EndsSo
             by zero same some = absurd (omega (arith, some))
             by (suc n) same some = parts-steps n 0 (let all : 0 + suc n ≡ parts blob = omega (arith, same) in all)
 
-      loose-parts : (f : FwState) → StagedFirst (map Ordinary (part_acts k.comp blob)) f
+      loose-parts : (f : FwState) → StagedFirst (part_acts k.comp blob) f
       loose-parts f = by (parts blob)
         where
-          by : (m : ℕ) → StagedFirst (map Ordinary (map (Part k.comp blob) (range_with_len 0 m))) f
+          by : (m : ℕ) → StagedFirst (map (Part k.comp blob) (range_with_len 0 m)) f
           by zero = tt
           by (suc m) = λ some. absurd (true≢false some)
 
@@ -205,14 +204,14 @@ module _ (plan : Plan) (sound : IsSound plan) (plays : PlaysAtStages plan) (stag
 
     -- ---- what is asked for
 
-    asks-steps : s.kept.power ≡ powers.On → (js : List ℕ) → Steps plan ThereSo s (map Ordinary (map (Ask k.comp) js)) EndsSo
+    asks-steps : s.kept.power ≡ powers.On → (js : List ℕ) → Steps plan ThereSo s (map (Ask k.comp) js) EndsSo
     asks-steps on [] = let x = so on in record { record_is = x.record_is; there = x.there }
     asks-steps on (j ∷ js) = (
       so on,
-      λ free. subst (λ (t : There). Steps plan ThereSo (record { kept = s.kept; up = s.up; there = t }) (map Ordinary (map (Ask k.comp) js)) EndsSo) (sym (asks-stay plan k.comp j s.there)) (asks-steps on js),
+      λ free. subst (λ (t : There). Steps plan ThereSo (record { kept = s.kept; up = s.up; there = t }) (map (Ask k.comp) js) EndsSo) (sym (asks-stay plan k.comp j s.there)) (asks-steps on js),
     )
 
-    asked-steps : s.kept.power ≡ powers.On → (kind : ControlKind) → Steps plan ThereSo s (map Ordinary (ask_acts k.comp kind r)) EndsSo
+    asked-steps : s.kept.power ≡ powers.On → (kind : ControlKind) → Steps plan ThereSo s (ask_acts k.comp kind r) EndsSo
     asked-steps on (Volume min max channels lowest step mute) = asks-steps on (0 ∷ [])
     asked-steps on (Choice items) = asks-steps on (0 ∷ [])
     asked-steps on (Masks min max channels) = asks-steps on (0 ∷ [])
@@ -224,13 +223,13 @@ module _ (plan : Plan) (sound : IsSound plan) (plays : PlaysAtStages plan) (stag
     plain-asks (Masks min max channels) = (tt, tt)
     plain-asks (Blob most initial) = all-mapped IsPlainly (Ask k.comp) (part_numbers r.blob) (λ j. tt)
 
-    loose-asks : (kind : ControlKind) (f : FwState) → StagedFirst (map Ordinary (ask_acts k.comp kind r)) f
+    loose-asks : (kind : ControlKind) (f : FwState) → StagedFirst (ask_acts k.comp kind r) f
     loose-asks (Volume min max channels lowest step mute) f = tt
     loose-asks (Choice items) f = tt
     loose-asks (Masks min max channels) f = tt
     loose-asks (Blob most initial) f = by (parts r.blob)
       where
-        by : (n : ℕ) → StagedFirst (map Ordinary (map (Ask k.comp) (range_with_len 0 n))) f
+        by : (n : ℕ) → StagedFirst (map (Ask k.comp) (range_with_len 0 n)) f
         by zero = tt
         by (suc n) = tt
 

@@ -1,5 +1,5 @@
 -- The acts before a power that is cut lead on, whatever their messages meet.
-use Rattle.std.proofs.Common.{◌≡◌, refl, ap, ◌∙◌, ℕ, ◌<◌, List, [], ◌∷◌, ◌++◌, map, Bool, true, false, cond, ◌==◌, inr, Some, Ok, Err, arith}
+use Rattle.std.proofs.Common.{◌≡◌, refl, ap, ◌∙◌, ℕ, ◌<◌, List, [], ◌∷◌, ◌++◌, Bool, true, false, cond, ◌==◌, inr, Some, Ok, Err, arith}
 use Rattle.std.specs.Prelude.{find}
 use Rattle.std.specs.List.{zip, flat_map, AllByRecursion}
 use Rattle.std.proofs.lemmas.Bool.{eqb-true}
@@ -25,7 +25,6 @@ use Rattle.host_widgets.specs.declared.answers.HostFault.TheVariants as faults
 use Rattle.host_widgets.proofs.LookedUp.{each-found, found-map}
 use Rattle.host_widgets.proofs.StreamPlaces.{streams-ascend}
 use Rattle.host_widgets.proofs.WalksHold.{ByLink}
-use Rattle.host_dynamic.specs.DynamicActs.{DynamicAct, Ordinary}
 use Rattle.host_dynamic.specs.Dynamic.{UpState, settled, plain_job, up_act_rules}
 use Rattle.host_dynamic.specs.There.{there_in}
 use Rattle.host_dynamic.specs.UpStates.{IsUpState}
@@ -48,7 +47,7 @@ module _ (plan : Plan) (sound : IsSound plan) (plays : PlaysAtStages plan) (stag
   Stands u p = find (λ (q : StreamPair). q.0.host == p.0.host) (zip plan.streams u.kept.streams) ≡ Some p
 
   -- one of another host stands as before, once a stream is stopped
-  stands-yet : (u : UpState) (host : ℕ) (p : StreamPair) → host < p.0.host → Stands u p → Stands ((up_act_rules plan).after (Ordinary (Trig host Stop)) u) p
+  stands-yet : (u : UpState) (host : ℕ) (p : StreamPair) → host < p.0.host → Stands u p → Stands ((up_act_rules plan).after (Trig host Stop) u) p
   stands-yet u host p above stands =
       ap (find (λ (q : StreamPair). q.0.host == p.0.host)) (zip-changed host (triggered_stream Stop) plan.streams u.kept.streams)
       ∙ found-map (λ (q : StreamPair). q.0.host) (λ (q : StreamPair). q.0.host) (changed_one host (triggered_stream Stop)) (λ (q : StreamPair). refl) (zip plan.streams u.kept.streams) p.0.host p stands
@@ -58,17 +57,17 @@ module _ (plan : Plan) (sound : IsSound plan) (plays : PlaysAtStages plan) (stag
       by true is = absurd (let same : p.0.host ≡ host = eqb-true p.0.host host is in omega (arith, above, same))
       by false is = refl
 
-  all-stand : (u : UpState) (host : ℕ) (ps : List StreamPair) → AreAbove (λ (p : StreamPair). p.0.host) host ps → AllByRecursion (Stands u) ps → AllByRecursion (Stands ((up_act_rules plan).after (Ordinary (Trig host Stop)) u)) ps
+  all-stand : (u : UpState) (host : ℕ) (ps : List StreamPair) → AreAbove (λ (p : StreamPair). p.0.host) host ps → AllByRecursion (Stands u) ps → AllByRecursion (Stands ((up_act_rules plan).after (Trig host Stop) u)) ps
   unfolding AreAbove
   all-stand u host [] above all = tt
   all-stand u host (p ∷ ps) above all = (stands-yet u host p above.0 all.0, all-stand u host ps above.1 all.1)
 
   -- none of them asks for what is staged
-  loose-down : (ps : List StreamPair) (f : FwState) → StagedFirst (map Ordinary (flat_map stop_acts ps ++ Save ∷ [])) f
+  loose-down : (ps : List StreamPair) (f : FwState) → StagedFirst (flat_map stop_acts ps ++ Save ∷ []) f
   loose-down [] f = tt
   loose-down ((s, r) ∷ ps) f = by r.found (loose-down ps f)
     where
-      by : (found : Found) → StagedFirst (map Ordinary (flat_map stop_acts ps ++ Save ∷ [])) f → StagedFirst (map Ordinary ((stop_by s.host found ++ flat_map stop_acts ps) ++ Save ∷ [])) f
+      by : (found : Found) → StagedFirst (flat_map stop_acts ps ++ Save ∷ []) f → StagedFirst ((stop_by s.host found ++ flat_map stop_acts ps) ++ Save ∷ []) f
       by founds.Running rest = tt
       by founds.Paused rest = tt
       by founds.Closed rest = rest
@@ -76,12 +75,12 @@ module _ (plan : Plan) (sound : IsSound plan) (plays : PlaysAtStages plan) (stag
       by founds.Prepared rest = rest
       by founds.On rest = rest
 
-  down-led : (ps : List StreamPair) (u : UpState) → IsUpState plan u → u.kept.power ≡ powers.On → Ascends (λ (p : StreamPair). p.0.host) ps → AllByRecursion (Stands u) ps → AreLed plan true u (map Ordinary (flat_map stop_acts ps ++ Save ∷ []))
+  down-led : (ps : List StreamPair) (u : UpState) → IsUpState plan u → u.kept.power ≡ powers.On → Ascends (λ (p : StreamPair). p.0.host) ps → AllByRecursion (Stands u) ps → AreLed plan true u (flat_map stop_acts ps ++ Save ∷ [])
   unfolding Ascends
   down-led [] u is on up all = (
     so-plays plan sound plays stage-rows plain-rows u so,
     λ f g same staged free done.
-        (let at : there_in g ≡ u.there = row-takes plan u (Ordinary Save) f g (own-save plan sound u is on f same) free done in
+        (let at : there_in g ≡ u.there = row-takes plan u Save f g (own-save plan sound u is on f same) free done in
         record {
           there = at;
           leads = plain-rows Save tt u so.record_is so.serves_now so.there so.record_is so.there f g same at done;
@@ -94,24 +93,24 @@ module _ (plan : Plan) (sound : IsSound plan) (plays : PlaysAtStages plan) (stag
       so : ThereSo u
       so = so-there plan sound plays stage-rows plain-rows u is on
   down-led ((s, r) ∷ ps) u is on up all = by r.found refl (down-led ps u is on up.1 all.1)
-      (λ is_then. down-led ps ((up_act_rules plan).after (Ordinary (Trig s.host Stop)) u) is_then on up.1 (all-stand u s.host ps up.0 all.1))
+      (λ is_then. down-led ps ((up_act_rules plan).after (Trig s.host Stop) u) is_then on up.1 (all-stand u s.host ps up.0 all.1))
     where
       rest : List Act
       rest = flat_map stop_acts ps ++ Save ∷ []
 
       next : UpState
-      next = (up_act_rules plan).after (Ordinary (Trig s.host Stop)) u
+      next = (up_act_rules plan).after (Trig s.host Stop) u
 
       so : ThereSo u
       so = so-there plan sound plays stage-rows plain-rows u is on
 
-      stops : takes_trigger Stop r.found ≡ true → AreLed plan true u (map Ordinary rest) → (IsUpState plan next → AreLed plan true next (map Ordinary rest)) → AreLed plan true u (map Ordinary (Trig s.host Stop ∷ rest))
+      stops : takes_trigger Stop r.found ≡ true → AreLed plan true u rest → (IsUpState plan next → AreLed plan true next rest) → AreLed plan true u (Trig s.host Stop ∷ rest)
       stops moves same behind =
           let is_then : IsUpState plan next = triggered-state plan sound u is s.host (s, r) all.0 on Stop moves in
           let then = so-there plan sound plays stage-rows plain-rows next is_then on in (
             so-plays plan sound plays stage-rows plain-rows u so,
             λ f g same_f staged free done.
-                (let at : there_in g ≡ next.there = row-takes plan u (Ordinary (Trig s.host Stop)) f g (own-trigger plan sound u is on f same_f s.host (s, r) all.0 Stop moves) free done in
+                (let at : there_in g ≡ next.there = row-takes plan u (Trig s.host Stop) f g (own-trigger plan sound u is on f same_f s.host (s, r) all.0 Stop moves) free done in
                 record {
                   there = at;
                   leads = plain-rows (Trig s.host Stop) tt u so.record_is so.serves_now so.there then.record_is then.there f g same_f at done;
@@ -121,7 +120,7 @@ module _ (plan : Plan) (sound : IsSound plan) (plays : PlaysAtStages plan) (stag
             λ goes. (λ f staged. loose-down ps f, same),
           )
 
-      by : (found : Found) → r.found ≡ found → AreLed plan true u (map Ordinary rest) → (IsUpState plan next → AreLed plan true next (map Ordinary rest)) → AreLed plan true u (map Ordinary ((stop_by s.host found ++ flat_map stop_acts ps) ++ Save ∷ []))
+      by : (found : Found) → r.found ≡ found → AreLed plan true u rest → (IsUpState plan next → AreLed plan true next rest) → AreLed plan true u ((stop_by s.host found ++ flat_map stop_acts ps) ++ Save ∷ [])
       by founds.Running is_so same behind = stops (ap (takes_trigger Stop) is_so) same behind
       by founds.Paused is_so same behind = stops (ap (takes_trigger Stop) is_so) same behind
       by founds.Closed is_so same behind = same
@@ -148,7 +147,7 @@ module _ (plan : Plan) (sound : IsSound plan) (plays : PlaysAtStages plan) (stag
         down-led pairs s is on up (each-found (λ (x : StreamPair). x.0.host) pairs up),
         loose-down pairs,
         λ ms.
-            (let w = walk (up_act_rules plan) true next_of s ms (map Ordinary (go_down plan s.kept)) in
-            let end : Routine UpState DynamicAct = Finished (settled (went_down w.kept.kept) w.kept) (Cut ∷ []) in
+            (let w = walk (up_act_rules plan) true next_of s ms (go_down plan s.kept) in
+            let end : Routine UpState Act = Finished (settled (went_down w.kept.kept) w.kept) (Cut ∷ []) in
             cut-then w.outcome (LeadsBy plan w.kept end) (IsCutThen end) (inr refl) refl),
       )

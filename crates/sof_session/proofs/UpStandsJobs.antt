@@ -21,7 +21,7 @@ use Rattle.host_widgets.specs.declared.kept.Record.{Record}
 use Rattle.host_widgets.specs.declared.trigger.Trigger.TheVariants as triggers
 use Rattle.host_widgets.specs.ActLists.{close_by}
 use Rattle.host_widgets.specs.ActMessages.{act_message}
-use Rattle.host_widgets.specs.HostActs.{Act, Trig, Free, fresh_in}
+use Rattle.host_widgets.specs.HostActs.{Act, Trig, Free, fresh_in, Unmake}
 use Rattle.host_widgets.specs.Host.{Outcome, IsRecordOf}
 use Rattle.host_widgets.specs.ActCalls.{next_of}
 use Rattle.host_widgets.specs.Walk.{walk}
@@ -30,10 +30,10 @@ use Rattle.host_widgets.proofs.WalksHold.{ByLink}
 use Rattle.host_pcm.specs.Asks.{is_closed}
 use Rattle.host_pcm.specs.StreamCalls.{shut}
 use Rattle.host_widgets.specs.Kept.{with_stream}
-use Rattle.host_dynamic.specs.DynamicActs.{DynamicAct, Ordinary, Unmake, making_acts, unmaking_acts, unmade_order}
+use Rattle.host_dynamic.specs.DynamicActs.{making_acts, unmaking_acts, unmade_order}
 use Rattle.host_dynamic.specs.There.{There, there_in, there_view, there_after, ids_there_of}
 use Rattle.host_dynamic.specs.Dynamic.{UpState, up_act_rules, lacking, after_unmaking, unmade, after_making, opening_by, parting, staying, with_stream_shut, after_closing, closing_by}
-use Rattle.host_dynamic.specs.Need.{need_in, pipe_indices, is_needed, HasBrought}
+use Rattle.host_dynamic.specs.Need.{need_in, is_needed, HasBrought}
 use Rattle.host_dynamic.specs.UpStates.{IsThere, IsThereBy, IsUpState}
 use Rattle.host_dynamic.proofs.StagePrepares.{up-amid}
 use Rattle.host_dynamic.proofs.Sublists.{AreOnce, once-filter, distinct-once}
@@ -50,12 +50,13 @@ use Rattle.host_dynamic.proofs.UpWalks.{Runs, Met, walk-runs, Steps, Came, walk-
 use Rattle.sof_session.proofs.UpPlainRows.{IsPlainly}
 use Rattle.sof_session.proofs.UpStandsWalks.{AreLed, LeadsBy, IsCutThen}
 use Rattle.sof_session.proofs.UpStandsLists.{PlaysAtStages, RowsAtStages, AllMay, at-plays, row-takes, making-led, unmaking-led}
+use Rattle.host_widgets.specs.Indices.{pipe_indices}
 
 -- an act that neither makes nor unmakes leaves what stood standing, where what is up is there before it and after it
 abbrev pub PlainRows : Plan → Type 0
-PlainRows plan = (act : Act) → IsPlainly act → (s : UpState) → IsRecordOf plan s.kept → IsServing plan s.kept s.up → IsThere plan s → IsRecordOf plan ((up_act_rules plan).after (Ordinary act) s).kept → IsThere plan ((up_act_rules plan).after (Ordinary act) s) →
-    (f g : FwState) → there_in f ≡ s.there → there_in g ≡ ((up_act_rules plan).after (Ordinary act) s).there → row f (act_message plan act) ≡ Ok g →
-    LeadsOn (Some f) (Some g) (Now (there_view ((up_act_rules plan).after (Ordinary act) s).there) (fresh_in plan act) ∷ [])
+PlainRows plan = (act : Act) → IsPlainly act → (s : UpState) → IsRecordOf plan s.kept → IsServing plan s.kept s.up → IsThere plan s → IsRecordOf plan ((up_act_rules plan).after act s).kept → IsThere plan ((up_act_rules plan).after act s) →
+    (f g : FwState) → there_in f ≡ s.there → there_in g ≡ ((up_act_rules plan).after act s).there → row f (act_message plan act) ≡ Ok g →
+    LeadsOn (Some f) (Some g) (Now (there_view ((up_act_rules plan).after act s).there) (fresh_in plan act) ∷ [])
 
 module _ (plan : Plan) (sound : IsSound plan) (plays : PlaysAtStages plan) (stage-rows : RowsAtStages plan) (plain-rows : PlainRows plan) where
   -- ---- acts that neither make nor unmake
@@ -80,23 +81,23 @@ module _ (plan : Plan) (sound : IsSound plan) (plays : PlaysAtStages plan) (stag
   ends-there u is on = let so = so-there u is on in record { record_is = so.record_is; there = so.there }
 
   -- the state at the beginning of such acts, or at their end
-  begins : (acts : List DynamicAct) (u : UpState) → Steps plan IsThereSo u acts EndsThereSo → EndsThereSo u
+  begins : (acts : List Act) (u : UpState) → Steps plan IsThereSo u acts EndsThereSo → EndsThereSo u
   begins [] u steps = steps
   begins (act ∷ acts) u steps = record { record_is = steps.0.record_is; there = steps.0.there }
 
-  pub plain-led : (xs : List Act) → AllByRecursion IsPlainly xs → (u : UpState) → AreAnswered plan u (map Ordinary xs) → Steps plan IsThereSo u (map Ordinary xs) EndsThereSo → AreLed plan false u (map Ordinary xs)
+  pub plain-led : (xs : List Act) → AllByRecursion IsPlainly xs → (u : UpState) → AreAnswered plan u xs → Steps plan IsThereSo u xs EndsThereSo → AreLed plan false u xs
   plain-led [] all u answered steps = tt
   plain-led (act ∷ xs) all u answered steps = (
     so-plays u steps.0,
     λ f g same staged free done.
-        (let is : there_in g ≡ there_after plan (Ordinary act) u.there = row-takes plan u (Ordinary act) f g (answered.1 f same staged) free done in
-        let next = begins (map Ordinary xs) ((up_act_rules plan).after (Ordinary act) u) (steps.1 free) in
+        (let is : there_in g ≡ there_after plan act u.there = row-takes plan u act f g (answered.1 f same staged) free done in
+        let next = begins xs ((up_act_rules plan).after act u) (steps.1 free) in
         record {
           there = is;
           leads = plain-rows act all.0 u steps.0.record_is steps.0.serves_now steps.0.there next.record_is next.there f g same is done;
           staged = answered.2 f g staged done;
         }),
-    λ free. plain-led xs all.1 ((up_act_rules plan).after (Ordinary act) u) (answered.3 free) (steps.1 free),
+    λ free. plain-led xs all.1 ((up_act_rules plan).after act u) (answered.3 free) (steps.1 free),
     λ on. absurd (false≢true on),
   )
 
@@ -152,7 +153,7 @@ module _ (plan : Plan) (sound : IsSound plan) (plays : PlaysAtStages plan) (stag
     abbrev End : There → Type 0
     End t = IsStage plan s.kept (up_stage plan (s.up ++ n)) t
 
-    runs : Runs plan Mid s (map Ordinary (making_acts plan s.kept n)) End
+    runs : Runs plan Mid s (making_acts plan s.kept n) End
     runs = makes-up plan sound s s.up n serves_it apart both once begun
 
     module _ (u : UpState) (same : u.kept ≡ s.kept) where
@@ -177,8 +178,8 @@ module _ (plan : Plan) (sound : IsSound plan) (plays : PlaysAtStages plan) (stag
       making-led plan plays stage-rows sound s s.up n serves_it is.record_is.each apart both once begun,
       making-loose plan sound s s.up n serves_it apart both once,
       λ ms.
-          (let w = walk (up_act_rules plan) false next_of s ms (map Ordinary (making_acts plan s.kept n)) in
-          let ended = walk-runs plan next_of Mid End (map Ordinary (making_acts plan s.kept n)) s ms runs in
+          (let w = walk (up_act_rules plan) false next_of s ms (making_acts plan s.kept n) in
+          let ended = walk-runs plan next_of Mid End (making_acts plan s.kept n) s ms runs in
           come w.kept ended.kept w.outcome ended.met),
     )
 
@@ -193,7 +194,7 @@ module _ (plan : Plan) (sound : IsSound plan) (plays : PlaysAtStages plan) (stag
     close-plain founds.Closed = tt
     close-plain founds.On = tt
 
-    close-loose : (stands : Found) (f : FwState) → StagedFirst (map Ordinary (close_by host stands)) f
+    close-loose : (stands : Found) (f : FwState) → StagedFirst (close_by host stands) f
     close-loose founds.Running f = tt
     close-loose founds.Paused f = tt
     close-loose founds.Prepared f = tt
@@ -211,10 +212,10 @@ module _ (plan : Plan) (sound : IsSound plan) (plays : PlaysAtStages plan) (stag
       there = stage-there plan sound u (subst (λ (l : List ℕ). IsStage plan u.kept (up_stage plan l) u.there) (sym h.up_is) h.stage);
     }
 
-    close-steps : (stands : Found) (u : UpState) → u.kept.power ≡ powers.On → Steps plan (IsUpState plan) u (map Ordinary (close_by host stands)) Freed → Steps plan IsThereSo u (map Ordinary (close_by host stands)) EndsThereSo
-    close-steps founds.Running u on_u x = (so-there u x.0 on_u, λ free. (let y = x.1 free in (so-there ((up_act_rules plan).after (Ordinary (Trig host triggers.Stop)) u) y.0 on_u, λ free'. freed-there ((up_act_rules plan).after (Ordinary (Free host)) ((up_act_rules plan).after (Ordinary (Trig host triggers.Stop)) u)) (y.1 free'))))
-    close-steps founds.Paused u on_u x = (so-there u x.0 on_u, λ free. (let y = x.1 free in (so-there ((up_act_rules plan).after (Ordinary (Trig host triggers.Stop)) u) y.0 on_u, λ free'. freed-there ((up_act_rules plan).after (Ordinary (Free host)) ((up_act_rules plan).after (Ordinary (Trig host triggers.Stop)) u)) (y.1 free'))))
-    close-steps founds.Prepared u on_u x = (so-there u x.0 on_u, λ free. freed-there ((up_act_rules plan).after (Ordinary (Free host)) u) (x.1 free))
+    close-steps : (stands : Found) (u : UpState) → u.kept.power ≡ powers.On → Steps plan (IsUpState plan) u (close_by host stands) Freed → Steps plan IsThereSo u (close_by host stands) EndsThereSo
+    close-steps founds.Running u on_u x = (so-there u x.0 on_u, λ free. (let y = x.1 free in (so-there ((up_act_rules plan).after (Trig host triggers.Stop) u) y.0 on_u, λ free'. freed-there ((up_act_rules plan).after (Free host) ((up_act_rules plan).after (Trig host triggers.Stop) u)) (y.1 free'))))
+    close-steps founds.Paused u on_u x = (so-there u x.0 on_u, λ free. (let y = x.1 free in (so-there ((up_act_rules plan).after (Trig host triggers.Stop) u) y.0 on_u, λ free'. freed-there ((up_act_rules plan).after (Free host) ((up_act_rules plan).after (Trig host triggers.Stop) u)) (y.1 free'))))
+    close-steps founds.Prepared u on_u x = (so-there u x.0 on_u, λ free. freed-there ((up_act_rules plan).after (Free host) u) (x.1 free))
     close-steps founds.Open u on_u x = freed-there u x
     close-steps founds.Closed u on_u x = freed-there u x
     close-steps founds.On u on_u x = freed-there u x
@@ -256,6 +257,6 @@ module _ (plan : Plan) (sound : IsSound plan) (plays : PlaysAtStages plan) (stag
       plain-led (close_by host p.1.found) (close-plain p.1.found) s (close-answered plan sound s is on host p found p.1.found refl) (close-steps p.1.found s on (steps plan sound s is on host p found open_yet p.1.found refl)),
       close-loose p.1.found,
       λ ms.
-          (let w = walk (up_act_rules plan) false next_of s ms (map Ordinary (close_by host p.1.found)) in
-          closed w.kept w.outcome (walk-steps plan next_of (IsUpState plan) Freed (map Ordinary (close_by host p.1.found)) s ms (steps plan sound s is on host p found open_yet p.1.found refl))),
+          (let w = walk (up_act_rules plan) false next_of s ms (close_by host p.1.found) in
+          closed w.kept w.outcome (walk-steps plan next_of (IsUpState plan) Freed (close_by host p.1.found) s ms (steps plan sound s is on host p found open_yet p.1.found refl))),
     )

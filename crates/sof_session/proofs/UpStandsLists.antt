@@ -21,14 +21,14 @@ use Rattle.host_widgets.specs.declared.kept.ControlRec.{ControlRec}
 use Rattle.host_widgets.specs.declared.kept.Record.{Record}
 use Rattle.host_widgets.specs.declared.kept.StreamRec.{StreamRec}
 use Rattle.host_widgets.specs.ActLists.{control_acts, control_acts_by}
-use Rattle.host_widgets.specs.HostActs.{Act, Make, Part, Finish}
+use Rattle.host_widgets.specs.HostActs.{Act, Make, Part, Finish, Unmake, fresh_in, after}
 use Rattle.host_widgets.specs.HostActs as acts
 use Rattle.host_widgets.specs.HostRecord.{may_have}
 use Rattle.host_widgets.specs.Kept.{controls_of}
 use Rattle.host_widgets.proofs.StandingOn.{LeadsOn}
-use Rattle.host_dynamic.specs.DynamicActs.{DynamicAct, Ordinary, Unmake, dynamic_message, dynamic_fresh, widgets_of, is_control_of, finish_ids, making_acts, unmade_order, unmaking_acts}
+use Rattle.host_dynamic.specs.DynamicActs.{widgets_of, making_acts, unmade_order, unmaking_acts}
 use Rattle.host_dynamic.specs.There.{There, there_in, there_view, there_after, ids_there_of}
-use Rattle.host_dynamic.specs.Dynamic.{UpState, up_own, kept_after, up_act_rules}
+use Rattle.host_dynamic.specs.Dynamic.{UpState, up_own, up_act_rules}
 use Rattle.host_dynamic.specs.Need.{HasBrought}
 use Rattle.host_dynamic.specs.Up.{buffer_joins, is_join_at}
 use Rattle.host_dynamic.proofs.Needs.{flat-in, in-among}
@@ -45,6 +45,8 @@ use Rattle.host_dynamic.proofs.UpWalks.{Runs, with_there}
 use Rattle.sof_session.proofs.UpStageRows.{Builds}
 use Rattle.sof_session.proofs.UpStandsWalks.{AreLed}
 use Rattle.sof_session.proofs.UpUnmakeStages.{unmakes-amid}
+use Rattle.host_widgets.specs.ActMessages.{act_message}
+use Rattle.host_widgets.specs.Groups.{is_control_of, finish_ids}
 
 -- each stream may have the parameters that it has
 abbrev pub AllMay : Record → Type 0
@@ -60,8 +62,8 @@ PlaysAtStages plan = (kept : Record) (up n : List ℕ) → IsServing plan kept u
 
 -- an act that leads from one stage to another leaves what stood standing
 abbrev pub RowsAtStages : Plan → Type 0
-RowsAtStages plan = (kept : Record) (up n : List ℕ) → IsServing plan kept up → AllMay kept → (act : DynamicAct) → Builds act → (f g : FwState) → IsAt plan kept up n (there_in f) → IsAt plan kept up n (there_in g) → row f (dynamic_message plan act) ≡ Ok g →
-    LeadsOn (Some f) (Some g) (Now (there_view (there_in g)) (dynamic_fresh plan act) ∷ [])
+RowsAtStages plan = (kept : Record) (up n : List ℕ) → IsServing plan kept up → AllMay kept → (act : Act) → Builds act → (f g : FwState) → IsAt plan kept up n (there_in f) → IsAt plan kept up n (there_in g) → row f (act_message plan act) ≡ Ok g →
+    LeadsOn (Some f) (Some g) (Now (there_view (there_in g)) (fresh_in plan act) ∷ [])
 
 -- ---- lists
 
@@ -78,9 +80,9 @@ all-flat P f [] each = tt
 all-flat P f (x ∷ xs) each = all-both P (f x) (flat_map f xs) (each x) (all-flat P f xs each)
 
 -- what the firmware does is what the rules say
-pub row-takes : (plan : Plan) (u : UpState) (act : DynamicAct) (f g : FwState) → SaysSo plan u act (up_own plan u act) (told (row f (dynamic_message plan act))) → up_own plan u act ≡ None → row f (dynamic_message plan act) ≡ Ok g → there_in g ≡ there_after plan act u.there
+pub row-takes : (plan : Plan) (u : UpState) (act : Act) (f g : FwState) → SaysSo plan u act (up_own plan u act) (told (row f (act_message plan act))) → up_own plan u act ≡ None → row f (act_message plan act) ≡ Ok g → there_in g ≡ there_after plan act u.there
 row-takes plan u act f g says free done =
-    let passed : told (row f (dynamic_message plan act)) ≡ Ok (there_after plan act u.there) = subst (λ (o : Option Errno). SaysSo plan u act o (told (row f (dynamic_message plan act)))) free says in
+    let passed : told (row f (act_message plan act)) ≡ Ok (there_after plan act u.there) = subst (λ (o : Option Errno). SaysSo plan u act o (told (row f (act_message plan act)))) free says in
     cc (sym (ap told done) ∙ passed)
 
 module _ (plan : Plan) (plays : PlaysAtStages plan) (rows : RowsAtStages plan) where
@@ -92,11 +94,11 @@ module _ (plan : Plan) (plays : PlaysAtStages plan) (rows : RowsAtStages plan) w
     at-plays t (st, amid, is) = subst IsPlayable (sym (ap there_view is.is)) (plays kept up n serving may st amid)
 
     -- what is there at the beginning of such acts, or at their end
-    mid-of : (End : There → Type 0) → ((t : There) → End t → Mid t) → (acts : List DynamicAct) (u : UpState) → Runs plan Mid u acts End → Mid u.there
+    mid-of : (End : There → Type 0) → ((t : There) → End t → Mid t) → (acts : List Act) (u : UpState) → Runs plan Mid u acts End → Mid u.there
     mid-of End ends [] u runs = ends u.there runs
     mid-of End ends (act ∷ acts) u runs = runs.0
 
-    pub runs-led : (End : There → Type 0) → ((t : There) → End t → Mid t) → (acts : List DynamicAct) → AllByRecursion Builds acts → (u : UpState) → AreAnswered plan u acts → Runs plan Mid u acts End → AreLed plan false u acts
+    pub runs-led : (End : There → Type 0) → ((t : There) → End t → Mid t) → (acts : List Act) → AllByRecursion Builds acts → (u : UpState) → AreAnswered plan u acts → Runs plan Mid u acts End → AreLed plan false u acts
     runs-led End ends [] all u answered runs = tt
     runs-led End ends (act ∷ acts) all u answered runs = (
       at-plays u.there runs.0,
@@ -105,7 +107,7 @@ module _ (plan : Plan) (plays : PlaysAtStages plan) (rows : RowsAtStages plan) w
           let next = mid-of End ends acts (with_there plan u (there_after plan act u.there)) (runs.2 free) in
           record {
             there = is;
-            leads = subst (λ (t : There). LeadsOn (Some f) (Some g) (Now (there_view t) (dynamic_fresh plan act) ∷ [])) is
+            leads = subst (λ (t : There). LeadsOn (Some f) (Some g) (Now (there_view t) (fresh_in plan act) ∷ [])) is
                 (rows kept up n serving may act all.0 f g (subst Mid (sym same) runs.0) (subst Mid (sym is) next) done);
             staged = answered.2 f g staged done;
           }),
@@ -115,7 +117,7 @@ module _ (plan : Plan) (plays : PlaysAtStages plan) (rows : RowsAtStages plan) w
     )
 
     -- and acts after them
-    pub runs-led-on : (End : There → Type 0) → ((t : There) → End t → Mid t) → (xs more : List DynamicAct) → AllByRecursion Builds xs → (u : UpState) → AreAnswered plan u (xs ++ more) → Runs plan Mid u xs End →
+    pub runs-led-on : (End : There → Type 0) → ((t : There) → End t → Mid t) → (xs more : List Act) → AllByRecursion Builds xs → (u : UpState) → AreAnswered plan u (xs ++ more) → Runs plan Mid u xs End →
         ((t : There) → End t → AreAnswered plan (with_there plan u t) more → AreLed plan false (with_there plan u t) more) → AreLed plan false u (xs ++ more)
     runs-led-on End ends [] more all u answered runs then = then u.there runs answered
     runs-led-on End ends (act ∷ xs) more all u answered runs then = (
@@ -125,12 +127,12 @@ module _ (plan : Plan) (plays : PlaysAtStages plan) (rows : RowsAtStages plan) w
           let next = mid-of End ends xs (with_there plan u (there_after plan act u.there)) (runs.2 free) in
           record {
             there = is;
-            leads = subst (λ (t : There). LeadsOn (Some f) (Some g) (Now (there_view t) (dynamic_fresh plan act) ∷ [])) is
+            leads = subst (λ (t : There). LeadsOn (Some f) (Some g) (Now (there_view t) (fresh_in plan act) ∷ [])) is
                 (rows kept up n serving may act all.0 f g (subst Mid (sym same) runs.0) (subst Mid (sym is) next) done);
             staged = answered.2 f g staged done;
           }),
       λ free.
-          (let same_kept : u.kept ≡ kept_after plan act u.kept = sym runs.1 in
+          (let same_kept : u.kept ≡ after plan act u.kept = sym runs.1 in
           runs-led-on End ends xs more all.1 ((up_act_rules plan).after act u) (answered.3 free)
           (subst (λ (x : UpState). Runs plan Mid x xs End) (λ i. record { kept = same_kept i; up = u.up; there = there_after plan act u.there }) (runs.2 free))
           (subst (λ (r : Record). (t : There) → End t → AreAnswered plan (record { kept = r; up = u.up; there = t }) more → AreLed plan false (record { kept = r; up = u.up; there = t }) more) same_kept then)),
@@ -140,9 +142,9 @@ module _ (plan : Plan) (plays : PlaysAtStages plan) (rows : RowsAtStages plan) w
   -- ---- making
 
   abbrev BuildsOne : Act → Type 0
-  BuildsOne act = Builds (Ordinary act)
+  BuildsOne act = Builds act
 
-  builds-ordinary : (xs : List Act) → AllByRecursion BuildsOne xs → AllByRecursion Builds (map Ordinary xs)
+  builds-ordinary : (xs : List Act) → AllByRecursion BuildsOne xs → AllByRecursion Builds xs
   builds-ordinary [] all = tt
   builds-ordinary (act ∷ xs) all = (all.0, builds-ordinary xs all.1)
 
@@ -152,7 +154,7 @@ module _ (plan : Plan) (plays : PlaysAtStages plan) (rows : RowsAtStages plan) w
   control-builds comp (kinds.Masks min max channels) c = (tt, tt)
   control-builds comp (kinds.Blob most initial) c = all-mapped BuildsOne (Part comp c.blob) (part_numbers c.blob) (λ k. tt)
 
-  pub making-builds : (kept : Record) (n : List ℕ) → AllByRecursion Builds (map Ordinary (making_acts plan kept n))
+  pub making-builds : (kept : Record) (n : List ℕ) → AllByRecursion Builds (making_acts plan kept n)
   making-builds kept n = builds-ordinary (making_acts plan kept n)
       (all-both BuildsOne (map Make (widgets_of plan n)) (map (λ (j : Join). acts.Join j.source j.sink) (flat_map (buffer_joins plan.graph) n) ++ (flat_map control_acts (filter (is_control_of plan n) (controls_of plan kept)) ++ map Finish (finish_ids plan.graph n)))
       (all-mapped BuildsOne Make (widgets_of plan n) (λ id. tt))
@@ -192,9 +194,9 @@ module _ (plan : Plan) (plays : PlaysAtStages plan) (rows : RowsAtStages plan) w
             let k = kept-in (is_join_at plan.graph r.0) plan.graph.joins j r.2 in
             (ap (λ (o : Option ℕ). option_map_or (is_among up) o false) (join-at plan sound r.0 j k.1) ∙ is r.0 r.1, each b xs is js (λ i there. within i (inr there)))
 
-    pub making-led : (s : UpState) (up n : List ℕ) → IsServing plan s.kept up → AllMay s.kept → AreApart up n → HasBrought plan.graph (is_among (up ++ n)) → AreOnce n → IsStage plan s.kept (up_stage plan up) s.there → AreLed plan false s (map Ordinary (making_acts plan s.kept n))
+    pub making-led : (s : UpState) (up n : List ℕ) → IsServing plan s.kept up → AllMay s.kept → AreApart up n → HasBrought plan.graph (is_among (up ++ n)) → AreOnce n → IsStage plan s.kept (up_stage plan up) s.there → AreLed plan false s (making_acts plan s.kept n)
     making-led s up n serving may apart more once is =
-        runs-led s.kept up n serving may (λ t. IsStage plan s.kept (up_stage plan (up ++ n)) t) (λ t at. (up_stage plan (up ++ n), both-amid up n apart more, at)) (map Ordinary (making_acts plan s.kept n)) (making-builds s.kept n) s
+        runs-led s.kept up n serving may (λ t. IsStage plan s.kept (up_stage plan (up ++ n)) t) (λ t at. (up_stage plan (up ++ n), both-amid up n apart more, at)) (making_acts plan s.kept n) (making-builds s.kept n) s
         (makes-answered plan sound s up n serving apart more once is) (makes-up plan sound s up n serving apart more once is)
 
     -- ---- unmaking

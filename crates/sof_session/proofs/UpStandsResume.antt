@@ -35,7 +35,7 @@ use Rattle.host_widgets.specs.IdleStreams.{idle_view}
 use Rattle.host_widgets.specs.Walk.{walk}
 use Rattle.host_widgets.proofs.StandingOn.{LeadsOn}
 use Rattle.host_widgets.proofs.WalksHold.{ByLink}
-use Rattle.host_dynamic.specs.DynamicActs.{Ordinary, making_acts}
+use Rattle.host_dynamic.specs.DynamicActs.{making_acts}
 use Rattle.host_dynamic.specs.There.{There, there_in, there_view, there_after, booted}
 use Rattle.host_dynamic.specs.Dynamic.{UpState, up_act_rules, after_resuming, resuming_job}
 use Rattle.host_dynamic.specs.UpStates.{IsUpState}
@@ -87,23 +87,23 @@ quiet-plays g before ss plays each = record {
 
 -- what leads on over the one does over the other, and so do those after it
 led-over : (plan : Plan) (kept : Record) (streams : List StreamRec) (up : List ℕ) (Mid End : There → Type 0) (xs more : List Act) → AllByRecursion LeavesStreams xs → (t : There) →
-    AreLed plan false (over plan kept streams up (other plan kept streams up) t) (map Ordinary xs) → Runs plan Mid (over plan kept streams up (other plan kept streams up) t) (map Ordinary xs) End →
-    ((f : FwState) → StagedFirst (map Ordinary more) f) → ((x : There) → End x → AreLed plan false (over plan kept streams up kept x) (map Ordinary more)) → AreLed plan false (over plan kept streams up kept t) (map Ordinary (xs ++ more))
+    AreLed plan false (over plan kept streams up (other plan kept streams up) t) xs → Runs plan Mid (over plan kept streams up (other plan kept streams up) t) xs End →
+    ((f : FwState) → StagedFirst more f) → ((x : There) → End x → AreLed plan false (over plan kept streams up kept x) more) → AreLed plan false (over plan kept streams up kept t) (xs ++ more)
 led-over plan kept streams up Mid End [] more leaves t led runs loose then = then t runs
 led-over plan kept streams up Mid End (act ∷ xs) more leaves t led runs loose then = (
   led.0,
   λ f g same staged free done.
-      (let r : RowLeads plan false (over plan kept streams up (other plan kept streams up) t) (Ordinary act) (map Ordinary xs) g f = led.1 f g same staged (own-over plan kept streams up act leaves.0 t ∙ free) done in
+      (let r : RowLeads plan false (over plan kept streams up (other plan kept streams up) t) act xs g f = led.1 f g same staged (own-over plan kept streams up act leaves.0 t ∙ free) done in
       record { there = r.there; leads = r.leads; staged = first xs g r.staged }),
   λ free.
-      subst (λ (r : Record). AreLed plan false (over plan kept streams up r (there_after plan (Ordinary act) t)) (map Ordinary (xs ++ more))) (sym (kept-over plan kept streams up act leaves.0 runs.1))
-      (led-over plan kept streams up Mid End xs more leaves.1 (there_after plan (Ordinary act) t)
-      (subst (λ (r : Record). AreLed plan false (over plan kept streams up r (there_after plan (Ordinary act) t)) (map Ordinary xs)) runs.1 (led.2 (own-over plan kept streams up act leaves.0 t ∙ free)))
+      subst (λ (r : Record). AreLed plan false (over plan kept streams up r (there_after plan act t)) (xs ++ more)) (sym (kept-over plan kept streams up act leaves.0 runs.1))
+      (led-over plan kept streams up Mid End xs more leaves.1 (there_after plan act t)
+      (subst (λ (r : Record). AreLed plan false (over plan kept streams up r (there_after plan act t)) xs) runs.1 (led.2 (own-over plan kept streams up act leaves.0 t ∙ free)))
       (runs.2 (own-over plan kept streams up act leaves.0 t ∙ free)) loose then),
   λ on. absurd (false≢true on),
 )
   where
-    first : (ys : List Act) (g : FwState) → StagedFirst (map Ordinary ys) g → StagedFirst (map Ordinary (ys ++ more)) g
+    first : (ys : List Act) (g : FwState) → StagedFirst ys g → StagedFirst (ys ++ more) g
     first [] g staged = loose g
     first (y ∷ ys) g staged = staged
 
@@ -148,9 +148,9 @@ module _ (plan : Plan) (sound : IsSound plan) (s : UpState) (is : IsUpState plan
     part-agrees done rest within f at = ap (λ (t : There). agree (there_view t)) at ∙ some-agree plan sound s is off (some_of done rest) (partly-in plan sound s is off done rest within)
 
     abbrev Next : List StreamPair → List StreamPair → StreamPair → Type 0
-    Next done rest q = (x : There) → x ≡ at_part (done ++ q ∷ []) rest → AreLed plan false (real plan sound s is off x) (map Ordinary (flat_map prepare_acts rest))
+    Next done rest q = (x : There) → x ≡ at_part (done ++ q ∷ []) rest → AreLed plan false (real plan sound s is off x) (flat_map prepare_acts rest)
 
-    prepares-led : (done rest : List StreamPair) (t : There) → zip plan.streams s.kept.streams ≡ done ++ rest → t ≡ at_part done rest → AreLed plan false (real plan sound s is off t) (map Ordinary (flat_map prepare_acts rest))
+    prepares-led : (done rest : List StreamPair) (t : There) → zip plan.streams s.kept.streams ≡ done ++ rest → t ≡ at_part done rest → AreLed plan false (real plan sound s is off t) (flat_map prepare_acts rest)
     prepares-led done [] t cut at = tt
     prepares-led done (q ∷ rest) t cut at = by q.1.found q.1.params refl refl (λ x x_at. prepares-led (done ++ q ∷ []) rest x (cut ∙ sym (append_assoc done (q ∷ []) rest)) x_at)
       where
@@ -160,16 +160,16 @@ module _ (plan : Plan) (sound : IsSound plan) (s : UpState) (is : IsUpState plan
         within : (p : StreamPair) → IsIn p done → IsIn p ps
         within p there = subst (IsIn p) (sym cut) (in-left done (q ∷ rest) p there)
 
-        idly : (f : Found) → q.1.found ≡ f → phase_of f ≡ phases.Idle → ((o : Option Params) → may_have f o ≡ true → o ≡ None) → Next done rest q → AreLed plan false (real plan sound s is off t) (map Ordinary (flat_map prepare_acts rest))
+        idly : (f : Found) → q.1.found ≡ f → phase_of f ≡ phases.Idle → ((o : Option Params) → may_have f o ≡ true → o ≡ None) → Next done rest q → AreLed plan false (real plan sound s is off t) (flat_map prepare_acts rest)
         idly f e at_rest none go =
             let same : stream_view q ≡ idle_view q.0.host = λ i. record { host = q.0.host; phase = (ap phase_of e ∙ at_rest) i; params = none q.1.params (ap (λ (x : Found). may_have x q.1.params) (sym e) ∙ may-be plan sound s is off q q-there) i } in
             go t (at ∙ (λ i. record { heap = h; graph = k; streams = stays-idle plan sound s is off done rest q same i }))
 
-        by : (f : Found) (o : Option Params) → q.1.found ≡ f → q.1.params ≡ o → Next done rest q → AreLed plan false (real plan sound s is off t) (map Ordinary (prepare_by q.0.host f o ++ flat_map prepare_acts rest))
+        by : (f : Found) (o : Option Params) → q.1.found ≡ f → q.1.params ≡ o → Next done rest q → AreLed plan false (real plan sound s is off t) (prepare_by q.0.host f o ++ flat_map prepare_acts rest)
         by founds.Prepared (Some params) e p go = (
           part-plays done (q ∷ rest) within t at,
           λ f g same staged free passed.
-              (let taken : there_in g ≡ there_after plan (Ordinary (Prepare q.0.host params)) t = row-takes plan (real plan sound s is off t) (Ordinary (Prepare q.0.host params)) f g (own-prepared plan sound s is off done rest q cut params e p h t at f same) free passed in
+              (let taken : there_in g ≡ there_after plan (Prepare q.0.host params) t = row-takes plan (real plan sound s is off t) (Prepare q.0.host params) f g (own-prepared plan sound s is off done rest q cut params e p h t at f same) free passed in
               let now : there_in g ≡ at_part (done ++ q ∷ []) rest = taken ∙ next-at in
               record {
                 there = taken;
@@ -178,16 +178,16 @@ module _ (plan : Plan) (sound : IsSound plan) (s : UpState) (is : IsUpState plan
                 staged = prepares-loose rest g;
               }),
           λ free.
-              subst (λ (kept : Record). AreLed plan false (record { kept = kept; up = s.up; there = there_after plan (Ordinary (Prepare q.0.host params)) t }) (map Ordinary (flat_map prepare_acts rest))) (sym (kept-same plan sound s is off done rest q cut params e p))
-              (go (there_after plan (Ordinary (Prepare q.0.host params)) t) next-at),
+              subst (λ (kept : Record). AreLed plan false (record { kept = kept; up = s.up; there = there_after plan (Prepare q.0.host params) t }) (flat_map prepare_acts rest)) (sym (kept-same plan sound s is off done rest q cut params e p))
+              (go (there_after plan (Prepare q.0.host params) t) next-at),
           λ on. absurd (false≢true on),
         )
           where
             within-then : (x : StreamPair) → IsIn x (done ++ q ∷ []) → IsIn x ps
             within-then = next-in plan sound s is off done rest q cut params e p
 
-            next-at : there_after plan (Ordinary (Prepare q.0.host params)) t ≡ at_part (done ++ q ∷ []) rest
-            next-at = ap (there_after plan (Ordinary (Prepare q.0.host params))) at ∙ prepared-there plan sound s is off done rest q cut params e p h
+            next-at : there_after plan (Prepare q.0.host params) t ≡ at_part (done ++ q ∷ []) rest
+            next-at = ap (there_after plan (Prepare q.0.host params)) at ∙ prepared-there plan sound s is off done rest q cut params e p h
         by founds.Prepared None e p go = absurd (false≢true ((λ i. may_have (sym e i) (sym p i)) ∙ may-be plan sound s is off q q-there))
         by founds.Closed o e p go = idly founds.Closed e refl none-closed go
         by founds.Open o e p go = idly founds.Open e refl none-open go
@@ -195,7 +195,7 @@ module _ (plan : Plan) (sound : IsSound plan) (s : UpState) (is : IsUpState plan
         by founds.Paused o e p go = absurd (true≢false (ap (λ (x : Found). is_live_phase (phase_of x)) (sym e) ∙ still plan sound s is off q q-there))
         by founds.On o e p go = absurd (false≢true (ap (λ (x : Found). may_have x q.1.params) (sym e) ∙ may-be plan sound s is off q q-there))
 
-  ready-led : (t : There) → Made plan sound s is off t → AreLed plan false (real plan sound s is off t) (map Ordinary (flat_map prepare_acts (zip plan.streams s.kept.streams)))
+  ready-led : (t : There) → Made plan sound s is off t → AreLed plan false (real plan sound s is off t) (flat_map prepare_acts (zip plan.streams s.kept.streams))
   ready-led t at = prepares-led t.heap [] ps t refl (at.is ∙ (λ i. record { heap = t.heap; graph = k; streams = rest-shown plan sound s is off plan.streams s.kept.streams is.record_is.streams i }))
 
   -- each stream may have no parameters
@@ -203,7 +203,7 @@ module _ (plan : Plan) (sound : IsSound plan) (s : UpState) (is : IsUpState plan
   all-closed [] = refl
   all-closed (x ∷ ss) = all-closed ss
 
-  all-led : (heap : ℕ) → AreLed plan false (real plan sound s is off (booted heap)) (map Ordinary (making_acts plan s.kept s.up ++ flat_map prepare_acts (zip plan.streams s.kept.streams)))
+  all-led : (heap : ℕ) → AreLed plan false (real plan sound s is off (booted heap)) (making_acts plan s.kept s.up ++ flat_map prepare_acts (zip plan.streams s.kept.streams))
   all-led heap =
       led-over plan s.kept (rested plan sound s is off) s.up (IsMaking plan sound bare_now [] s.up bare-now-serves (apart plan sound s is off) (brought plan sound s is off) (once plan sound s is off)) (Made plan sound s is off) (making_acts plan s.kept s.up) (flat_map prepare_acts (zip plan.streams s.kept.streams))
       (making-leaves plan s.kept s.up) (booted heap)
@@ -237,7 +237,7 @@ module _ (plan : Plan) (sound : IsSound plan) (s : UpState) (is : IsUpState plan
   resuming-leads heap = (
     all-led heap,
     resuming-loose plan sound s is off,
-    λ ms. let w = walk (up_act_rules plan) false next_of (real plan sound s is off (booted heap)) ms (map Ordinary (making_acts plan s.kept s.up ++ flat_map prepare_acts (zip plan.streams s.kept.streams))) in resuming-ends w.kept w.outcome,
+    λ ms. let w = walk (up_act_rules plan) false next_of (real plan sound s is off (booted heap)) ms (making_acts plan s.kept s.up ++ flat_map prepare_acts (zip plan.streams s.kept.streams)) in resuming-ends w.kept w.outcome,
   )
 
   -- over any device

@@ -1,5 +1,5 @@
 -- Commands on the stream of a name lead on, and so do those that send nothing.
-use Rattle.std.proofs.Common.{◌≡◌, refl, sym, ap, ◌∙◌, subst, ℕ, ◌<◌, Bool, true, false, not, List, [], ◌∷◌, map, length, get_or, inl, inr, ◌==◌, Some, None, Ok, Err, unwrap_or}
+use Rattle.std.proofs.Common.{◌≡◌, refl, sym, ap, ◌∙◌, subst, ℕ, ◌<◌, Bool, true, false, not, List, [], ◌∷◌, length, get_or, inl, inr, ◌==◌, Some, None, Ok, Err, unwrap_or}
 use Rattle.std.specs.Prelude.{Option, find}
 use Rattle.std.specs.List.{zip, AllByRecursion}
 use Rattle.std.proofs.lemmas.Bool.{false≢true}
@@ -36,7 +36,6 @@ use Rattle.host_pcm.specs.StreamOrders.{asking_order, stream_order}
 use Rattle.host_pcm.proofs.HostTests.{Found_place, found_place}
 use Rattle.host_pcm.proofs.StreamCalls.{ranges}
 use Rattle.host_ctl.proofs.ControlTests.{loaded}
-use Rattle.host_dynamic.specs.DynamicActs.{DynamicAct, Ordinary}
 use Rattle.host_dynamic.specs.There.{there_in, there_view}
 use Rattle.host_dynamic.specs.Dynamic.{UpState, settled, up_act_rules, plain_job, loading_job, unloading_job, lacking, opening_by, opening_job, closing_by, closing_job, unsent}
 use Rattle.host_dynamic.specs.UpDevices.{there_on}
@@ -56,7 +55,7 @@ use Rattle.sof_session.proofs.UpStandsJobs.{PlainRows, IsThereSo, EndsThereSo, s
 
 module _ (plan : Plan) (sound : IsSound plan) (plays : PlaysAtStages plan) (stage-rows : RowsAtStages plan) (plain-rows : PlainRows plan) (heap : ℕ) (device : Option FwState) (s : UpState) (is : IsUpState plan s)
     (there_is : s.there ≡ there_on device) (on_device : s.kept.power ≡ powers.On → (f : FwState) × (device ≡ Some f)) where
-  abbrev pub Leads : Job UpState DynamicAct → Type 0
+  abbrev pub Leads : Job UpState Act → Type 0
   Leads job = LeadsOver plan heap device job
 
   -- while the power is on, what is kept is there in the device
@@ -107,9 +106,9 @@ module _ (plan : Plan) (sound : IsSound plan) (plays : PlaysAtStages plan) (stag
   -- what acts that neither make nor unmake ask
   pub record AreSent (xs : List Act) : Type 0 where
     pub plainly : AllByRecursion IsPlainly xs
-    pub answered : AreAnswered plan s (map Ordinary xs)
-    pub loose : (f : FwState) → StagedFirst (map Ordinary xs) f
-    pub steps : Steps plan (IsThereSo plan sound plays stage-rows plain-rows) s (map Ordinary xs) (EndsThereSo plan sound plays stage-rows plain-rows)
+    pub answered : AreAnswered plan s xs
+    pub loose : (f : FwState) → StagedFirst xs f
+    pub steps : Steps plan (IsThereSo plan sound plays stage-rows plain-rows) s xs (EndsThereSo plan sound plays stage-rows plain-rows)
 
   pub sends-lead : (xs : List Act) (done : Record → Record) (answer : Answer) → (s.kept.power ≡ powers.On → AreSent xs) → Leads (plain_job plan s (sends s.kept.power xs done answer))
   sends-lead xs done answer sent = by s.kept.power refl
@@ -123,7 +122,7 @@ module _ (plan : Plan) (sound : IsSound plan) (plays : PlaysAtStages plan) (stag
             (
               plain-led plan sound plays stage-rows plain-rows xs x.plainly s x.answered x.steps,
               x.loose,
-              λ ms. (let w = walk (up_act_rules plan) false next_of s ms (map Ordinary xs) in plain-ends done w.kept w.outcome),
+              λ ms. (let w = walk (up_act_rules plan) false next_of s ms xs in plain-ends done w.kept w.outcome),
             ),
           )
       by powers.Off e = inr (inr (inr (inl refl, inl refl)))
@@ -184,7 +183,7 @@ module _ (plan : Plan) (sound : IsSound plan) (plays : PlaysAtStages plan) (stag
       plainly = (tt, tt);
       answered = params-answered plan sound s is on host p found params range takes;
       loose = λ f. tt;
-      steps = (so-there plan sound plays stage-rows plain-rows s is on, λ free. ends-there plan sound plays stage-rows plain-rows ((up_act_rules plan).after (Ordinary (Prepare host params)) s) (prepared-state plan sound s is on host p found takes params range free) on);
+      steps = (so-there plan sound plays stage-rows plain-rows s is on, λ free. ends-there plan sound plays stage-rows plain-rows ((up_act_rules plan).after (Prepare host params) s) (prepared-state plan sound s is on host p found takes params range free) on);
     })
 
   -- ---- the stream of a name

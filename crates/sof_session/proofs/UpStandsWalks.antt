@@ -16,7 +16,7 @@ use Rattle.mbox_link.specs.Meetings.{Meeting}
 use Rattle.tplg_plan.specs.declared.plans.Plan.{Plan}
 use Rattle.host_widgets.specs.declared.answers.HostFault.TheVariants.{NotLoaded, Loaded, NoSuch, State, Off, Range, Refused, LinkDown, Blob}
 use Rattle.host_widgets.specs.Host.{Outcome, verdict, errno}
-use Rattle.host_widgets.specs.HostActs.{Part}
+use Rattle.host_widgets.specs.HostActs.{Part, Act, fresh_in}
 use Rattle.host_widgets.specs.OneAct.{Performed, performed, lag_of, outcome_by}
 use Rattle.host_widgets.specs.Walk.{Walked, walk, followed_by, goes_past, first_of}
 use Rattle.host_widgets.specs.ActCalls.{ActDid, ActsDid, Onwards, next_of, calls_of, came_to}
@@ -26,35 +26,35 @@ use Rattle.host_widgets.proofs.Effects.{row-decoded}
 use Rattle.host_widgets.proofs.StandingOn.{StandsOn, ReadsOn, LeadsOn, LeavesAll, still-stands, stands-none, stands-by, reads-by, reads-of, one-tick, ticks-stand, ticks-leave, cut-stands, gained-none}
 use Rattle.host_widgets.proofs.WalksHold.{ByLink}
 use Rattle.host_ctl.proofs.ControlsTaken.{done-passes}
-use Rattle.host_dynamic.specs.DynamicActs.{DynamicAct, Ordinary, dynamic_message, dynamic_fresh}
 use Rattle.host_dynamic.specs.There.{there_in, there_view, there_after, booted}
 use Rattle.host_dynamic.specs.Dynamic.{UpState, up_own, up_act_rules}
 use Rattle.host_dynamic.proofs.UpExchanges.{ticks-there}
 use Rattle.host_dynamic.proofs.UpSending.{Staged, StagedFirst}
 use Rattle.host_dynamic.proofs.UpWalks.{passed-free}
 use Rattle.sof_session.proofs.JobWalks.{walk-front}
+use Rattle.host_widgets.specs.ActMessages.{act_message}
 
 -- ---- what acts ask
 
 module _ (plan : Plan) (goes_on : Bool) where
   -- an act that passes leaves what the rules say, and what stood stands a moment later
-  pub record RowLeads (u : UpState) (act : DynamicAct) (acts : List DynamicAct) (g f : FwState) : Type 0 where
+  pub record RowLeads (u : UpState) (act : Act) (acts : List Act) (g f : FwState) : Type 0 where
     pub there : there_in g ≡ there_after plan act u.there
-    pub leads : LeadsOn (Some f) (Some g) (Now (there_view (there_after plan act u.there)) (dynamic_fresh plan act) ∷ [])
+    pub leads : LeadsOn (Some f) (Some g) (Now (there_view (there_after plan act u.there)) (fresh_in plan act) ∷ [])
     pub staged : StagedFirst acts g
 
   -- Before each a tick may come; where the firmware does it, what stood stands then; and so it is of those after it, after one that was
   -- refused too, where acts go on.
-  abbrev pub AreLed : UpState → List DynamicAct → Type 0
+  abbrev pub AreLed : UpState → List Act → Type 0
   AreLed u [] = Unit {0}
   AreLed u (act ∷ acts) =
       IsPlayable (there_view u.there)
-      × ((f g : FwState) → there_in f ≡ u.there → Staged act f → up_own plan u act ≡ None → row f (dynamic_message plan act) ≡ Ok g → RowLeads u act acts g f)
+      × ((f g : FwState) → there_in f ≡ u.there → Staged act f → up_own plan u act ≡ None → row f (act_message plan act) ≡ Ok g → RowLeads u act acts g f)
       × (up_own plan u act ≡ None → AreLed ((up_act_rules plan).after act u) acts)
       × (goes_on ≡ true → ((f : FwState) → Staged act f → StagedFirst acts f) × AreLed u acts)
 
-staged-still : (act : DynamicAct) (f g : FwState) → g.staging ≡ f.staging → Staged act f → Staged act g
-staged-still (Ordinary (Part id blob k)) f g same staged = λ some. ap (λ (ss : List Staging). find (λ (s : Staging). s.eq == id) ss) same ∙ staged some
+staged-still : (act : Act) (f g : FwState) → g.staging ≡ f.staging → Staged act f → Staged act g
+staged-still (Part id blob k) f g same staged = λ some. ap (λ (ss : List Staging). find (λ (s : Staging). s.eq == id) ss) same ∙ staged some
 staged-still act f g same staged = tt
 
 -- ---- outcomes
@@ -106,13 +106,13 @@ module _ {D : Type 0} (means : Meaning D) (plan : Plan) (goes_on : Bool) where
 
   -- ---- one act
 
-  module _ (u : UpState) (act : DynamicAct) (acts : List DynamicAct) (led : AreLed plan goes_on u (act ∷ acts)) (m : Meeting) (w v : World D) (did : ActDid means (up_act_rules plan) u act m w v)
+  module _ (u : UpState) (act : Act) (acts : List Act) (led : AreLed plan goes_on u (act ∷ acts)) (m : Meeting) (w v : World D) (did : ActDid means (up_act_rules plan) u act m w v)
       (f : FwState) (on : means.on w.device ≡ Some f) (there : there_in f ≡ u.there) (staged : Staged act f) where
     abbrev after_it : UpState
     after_it = (up_act_rules plan).after act u
 
     abbrev now : List Moment
-    now = Now (there_view (there_after plan act u.there)) (dynamic_fresh plan act) ∷ []
+    now = Now (there_view (there_after plan act u.there)) (fresh_in plan act) ∷ []
 
     record Holds (So : FwState → Type 0) (then : UpState) (moments : List Moment) : Type 0 where
       held : HeldSo f w v then moments
@@ -162,7 +162,7 @@ module _ {D : Type 0} (means : Meaning D) (plan : Plan) (goes_on : Bool) where
     }
 
     -- one that passed
-    passes : up_own plan u act ≡ None → (next : FwState) → means.on v.device ≡ Some next → v.io ≡ at_message.1 → row at_message.0 (dynamic_message plan act) ≡ Ok next → Holds PassedSo after_it (replicate m.lag Tick ++ now)
+    passes : up_own plan u act ≡ None → (next : FwState) → means.on v.device ≡ Some next → v.io ≡ at_message.1 → row at_message.0 (act_message plan act) ≡ Ok next → Holds PassedSo after_it (replicate m.lag Tick ++ now)
     passes free next is_on io done =
         let l : RowLeads plan goes_on u act acts next at_message.0 = led.1 at_message.0 next there-before staged-before free done in
         record {
@@ -181,15 +181,15 @@ module _ {D : Type 0} (means : Meaning D) (plan : Plan) (goes_on : Bool) where
 
     act-leads : Then (outcome_by m.fate (up_own plan u act))
     act-leads =
-        let c = came means (message_spelling (dynamic_message plan act)) did.answer w v f on did.exchanged in
+        let c = came means (message_spelling (act_message plan act)) did.answer w v f on did.exchanged in
         let io = c.endpoints ∙ ap (λ (p : FwState × Io). p.1) at-message-is in
         ⊎_elim
         (λ took.
-        let said = ap (λ (a : Option (List ℕ)). came_to (verdict a)) took.said ∙ done-passes (body_of (ticks (means.pending w.device - means.pending v.device) (f, w.io)).0 (decoded (message_spelling (dynamic_message plan act)))) in
+        let said = ap (λ (a : Option (List ℕ)). came_to (verdict a)) took.said ∙ done-passes (body_of (ticks (means.pending w.device - means.pending v.device) (f, w.io)).0 (decoded (message_spelling (act_message plan act)))) in
         let passed : Ok tt ≡ outcome_by m.fate (up_own plan u act) = sym said ∙ did.came in
         subst by_said passed
         (passes (passed-free m.fate (up_own plan u act) (sym passed)) took.next took.on io
-        (sym (row-decoded at_message.0 (dynamic_message plan act) did.message) ∙ ap (λ (p : FwState × Io). row_of p.0 (decoded (message_spelling (dynamic_message plan act)))) (sym at-message-is) ∙ took.row)))
+        (sym (row-decoded at_message.0 (act_message plan act) did.message) ∙ ap (λ (p : FwState × Io). row_of p.0 (decoded (message_spelling (act_message plan act)))) (sym at-message-is) ∙ took.row)))
         (λ rest. ⊎_elim
         (λ it. subst by_said (let o : Err (Refused (errno it.error)) ≡ outcome_by m.fate (up_own plan u act) = sym (ap came_to (ap verdict it.said ∙ verdict-number it.error it.number)) ∙ did.came in o)
         (stays (it.on ∙ ap (λ (p : FwState × Io). Some p.0) at-message-is) io))
@@ -221,13 +221,13 @@ module _ {D : Type 0} (means : Meaning D) (plan : Plan) (goes_on : Bool) where
   abbrev ReadSo : FwState → World D → World D → List Moment → Type 0
   ReadSo f w v moments = ReadsOn (Some f) w.io v.io moments
 
-  abbrev pub HeldBy : FwState → World D → World D → Walked UpState DynamicAct (List Meeting) → Type 0
+  abbrev pub HeldBy : FwState → World D → World D → Walked UpState Act (List Meeting) → Type 0
   HeldBy f w v walked = ByLink walked.outcome (HeldSo f w v walked.kept walked.moments) (ReadsOn (Some f) w.io v.io walked.moments)
 
-  abbrev met_walk : UpState → List Meeting → List DynamicAct → Walked UpState DynamicAct (List Meeting)
+  abbrev met_walk : UpState → List Meeting → List Act → Walked UpState Act (List Meeting)
   met_walk u ms acts = walk (up_act_rules plan) goes_on next_of u ms acts
 
-  module _ (act : DynamicAct) (acts : List DynamicAct) (u : UpState) (ms : List Meeting) (ticks : List Moment) (f : FwState) (w mid v : World D) where
+  module _ (act : Act) (acts : List Act) (u : UpState) (ms : List Meeting) (ticks : List Moment) (f : FwState) (w mid v : World D) where
     abbrev Behind : Performed UpState → Bool → Type 0
     Behind a b = Onwards b ms mid v (ActsDid means (up_act_rules plan) goes_on a.kept acts ms mid v)
 
@@ -255,7 +255,7 @@ module _ {D : Type 0} (means : Meaning D) (plan : Plan) (goes_on : Bool) where
         let w' = met_walk now ms acts in
         later now ms' first w'.outcome w'.kept w'.moments (rest did)
 
-  module _ (u : UpState) (act : DynamicAct) (acts : List DynamicAct) (led : AreLed plan goes_on u (act ∷ acts)) (m : Meeting) (w mid : World D) (did : ActDid means (up_act_rules plan) u act m w mid)
+  module _ (u : UpState) (act : Act) (acts : List Act) (led : AreLed plan goes_on u (act ∷ acts)) (m : Meeting) (w mid : World D) (did : ActDid means (up_act_rules plan) u act m w mid)
       (f : FwState) (on : means.on w.device ≡ Some f) (there : there_in f ≡ u.there) (staged : Staged act f) where
     abbrev ThenOf : Outcome → Type 0
     ThenOf o = Then u act acts led m w mid did f on there staged o
@@ -268,7 +268,7 @@ module _ {D : Type 0} (means : Meaning D) (plan : Plan) (goes_on : Bool) where
         Behind act acts u ms (lag_of m) f w mid v (performed (up_act_rules plan) act u (lag_of m) o) (goes_past goes_on (performed (up_act_rules plan) act u (lag_of m) o).outcome) →
         Left act acts u ms (lag_of m) f w mid v (performed (up_act_rules plan) act u (lag_of m) o) (goes_past goes_on (performed (up_act_rules plan) act u (lag_of m) o).outcome)
     by_outcome v ms on_passed on_refused (Ok done) h more =
-        let moments : List Moment = lag_of m ++ Now (there_view (there_after plan act u.there)) (dynamic_fresh plan act) ∷ [] in
+        let moments : List Moment = lag_of m ++ Now (there_view (there_after plan act u.there)) (fresh_in plan act) ∷ [] in
         passed act acts u ms (lag_of m) f w mid v ((up_act_rules plan).after act u) moments h.held more (λ did. on_passed h.so.0 did h.held.state h.held.is_on h.held.there h.so.1)
     by_outcome v ms on_passed on_refused (Err (Refused e)) h more =
         refused act acts u ms (lag_of m) f w mid v e goes_on h.held more (λ goes did. on_refused goes did h.held.state h.held.is_on h.held.there (h.so goes))
@@ -281,7 +281,7 @@ module _ {D : Type 0} (means : Meaning D) (plan : Plan) (goes_on : Bool) where
     by_outcome v ms on_passed on_refused (Err (Range n)) h more = subst (λ (x : World D). HeldSo f w x u (lag_of m)) (sym more.1) h.held
     by_outcome v ms on_passed on_refused (Err (Blob n)) h more = subst (λ (x : World D). HeldSo f w x u (lag_of m)) (sym more.1) h.held
 
-  pub walk-leads : (acts : List DynamicAct) (ms : List Meeting) (u : UpState) (w v : World D) → ActsDid means (up_act_rules plan) goes_on u acts ms w v → AreLed plan goes_on u acts →
+  pub walk-leads : (acts : List Act) (ms : List Meeting) (u : UpState) (w v : World D) → ActsDid means (up_act_rules plan) goes_on u acts ms w v → AreLed plan goes_on u acts →
       (f : FwState) → means.on w.device ≡ Some f → there_in f ≡ u.there → StagedFirst acts f → HeldBy f w v (met_walk u ms acts)
   walk-leads [] ms u w v did led f on there staged = none u f w v on there did.1
   walk-leads (act ∷ acts) [] u w v did led f on there staged = absurd did
@@ -307,28 +307,28 @@ abbrev pub Ends : List Moment → Type 0
 Ends moments = (moments ≡ []) ⊎ (moments ≡ Cut ∷ [])
 
 -- it is finished, and the device is cut
-abbrev pub IsCutThen : Routine UpState DynamicAct → Type 0
+abbrev pub IsCutThen : Routine UpState Act → Type 0
 IsCutThen (Finished end moments) = moments ≡ Cut ∷ []
 IsCutThen (Sending acts goes_on then) = ⊥
 
 -- Where each act leads on, whatever its message meets; and after a failed link the device is cut.
-abbrev pub LeadsBy : Plan → UpState → Routine UpState DynamicAct → Type 0
+abbrev pub LeadsBy : Plan → UpState → Routine UpState Act → Type 0
 LeadsBy plan u (Finished end moments) = Ends moments
 LeadsBy plan u (Sending acts goes_on then) =
     AreLed plan goes_on u acts × ((f : FwState) → StagedFirst acts f)
     × ((ms : List Meeting) → let w = walk (up_act_rules plan) goes_on next_of u ms acts in ByLink w.outcome (LeadsBy plan w.kept (then w.kept w.outcome)) (IsCutThen (then w.kept w.outcome)))
 
 -- a routine that sends nothing
-abbrev pub SendsNone : UpState → Routine UpState DynamicAct → Type 0
+abbrev pub SendsNone : UpState → Routine UpState Act → Type 0
 SendsNone u (Finished end moments) = Ends moments
 SendsNone u (Sending [] goes_on then) = SendsNone u (then u (Ok tt))
 SendsNone u (Sending (act ∷ acts) goes_on then) = ⊥
 
-abbrev so_far : {Q : Type 0} → Outcome → UpState → List Moment → List DynamicAct → Q → Walked UpState DynamicAct Q
+abbrev so_far : {Q : Type 0} → Outcome → UpState → List Moment → List Act → Q → Walked UpState Act Q
 so_far outcome kept moments sent q = record { outcome = outcome; kept = kept; moments = moments; sent = sent; queue = q }
 
 module _ {D : Type 0} (means : Meaning D) (plan : Plan) (heap : ℕ) (f0 : Option FwState) (io0 : Io) where
-  abbrev Ended : Outcome → UpState → List Moment → List DynamicAct → List Meeting → World D → Routine UpState DynamicAct → Type 0
+  abbrev Ended : Outcome → UpState → List Moment → List Act → List Meeting → World D → Routine UpState Act → Type 0
   Ended o u before sent ms v routine = StandsOn f0 io0 (means.on v.device) v.io (walk_on (up_act_rules plan) next_of (so_far o u before sent ms) routine).moments
 
   -- the device is cut then
@@ -346,13 +346,13 @@ module _ {D : Type 0} (means : Meaning D) (plan : Plan) (heap : ℕ) (f0 : Optio
       subst (λ (ms : List Moment). StandsOn f0 io0 (means.on v.device) v.io (before ++ ms)) (sym cut)
       (cut-ends mid v before (reads-of f0 (means.on mid.device) io0 mid.io before stands) (subst (λ (ms : List Moment). Led means mid (calls_of heap ms) v) cut led))
 
-  down-ends : (routine : Routine UpState DynamicAct) (o : Outcome) (u : UpState) (before : List Moment) (sent : List DynamicAct) (ms : List Meeting) (mid v : World D) → IsCutThen routine → RoutineDid means (up_act_rules plan) heap u routine ms mid v →
+  down-ends : (routine : Routine UpState Act) (o : Outcome) (u : UpState) (before : List Moment) (sent : List Act) (ms : List Meeting) (mid v : World D) → IsCutThen routine → RoutineDid means (up_act_rules plan) heap u routine ms mid v →
       ReadsOn f0 io0 mid.io before → Ended o u before sent ms v routine
   down-ends (Finished end moments) o u before sent ms mid v cut did reads =
       subst (λ (ms : List Moment). StandsOn f0 io0 (means.on v.device) v.io (before ++ ms)) (sym cut) (cut-ends mid v before reads (subst (λ (ms : List Moment). Led means mid (calls_of heap ms) v) cut did.1))
   down-ends (Sending acts goes_on then) o u before sent ms mid v cut did reads = absurd cut
 
-  pub routine-leads : (routine : Routine UpState DynamicAct) (o : Outcome) (u : UpState) (before : List Moment) (sent : List DynamicAct) (ms : List Meeting) (w v : World D) → RoutineDid means (up_act_rules plan) heap u routine ms w v →
+  pub routine-leads : (routine : Routine UpState Act) (o : Outcome) (u : UpState) (before : List Moment) (sent : List Act) (ms : List Meeting) (w v : World D) → RoutineDid means (up_act_rules plan) heap u routine ms w v →
       (f : FwState) → means.on w.device ≡ Some f → there_in f ≡ u.there → LeadsBy plan u routine → StandsOn f0 io0 (Some f) w.io before → Ended o u before sent ms v routine
   routine-leads (Finished end moments) o u before sent ms w v did f on there leads stands =
       ended w v before moments leads (subst (λ (x : Option FwState). StandsOn f0 io0 x w.io before) (sym on) stands) did.1
@@ -364,20 +364,20 @@ module _ {D : Type 0} (means : Meaning D) (plan : Plan) (heap : ℕ) (f0 : Optio
       (λ reads cut. down-ends (then met.kept met.outcome) (first_of o met.outcome) met.kept (before ++ met.moments) (sent ++ met.sent) late mid v cut rest_did (reads-by f0 (Some f) io0 w.io mid.io before met.moments stands reads))
       (walk-leads means plan goes_on acts early u w mid acts_did leads.0 f on there (leads.1 f)) (leads.2 early))
     where
-      met : Walked UpState DynamicAct (List Meeting)
+      met : Walked UpState Act (List Meeting)
       met = walk (up_act_rules plan) goes_on next_of u early acts
 
-      left : Walked UpState DynamicAct (List Meeting) → Walked UpState DynamicAct (List Meeting)
+      left : Walked UpState Act (List Meeting) → Walked UpState Act (List Meeting)
       left x = record { outcome = x.outcome; kept = x.kept; moments = x.moments; sent = x.sent; queue = late }
 
-      Goal : Walked UpState DynamicAct (List Meeting) → Type 0
+      Goal : Walked UpState Act (List Meeting) → Type 0
       Goal now = StandsOn f0 io0 (means.on v.device) v.io (walk_on (up_act_rules plan) next_of (followed (so_far o u before sent ms) now) (then now.kept now.outcome)).moments
 
       met-is : walk (up_act_rules plan) goes_on next_of u ms acts ≡ left met
       met-is = ap (λ (xs : List Meeting). walk (up_act_rules plan) goes_on next_of u xs acts) split ∙ walk-front means (up_act_rules plan) goes_on late acts early u w mid acts_did
 
   -- one that sends nothing, over a device that is on or not
-  pub none-leads : (routine : Routine UpState DynamicAct) (o : Outcome) (u : UpState) (before : List Moment) (sent : List DynamicAct) (ms : List Meeting) (w v : World D) → RoutineDid means (up_act_rules plan) heap u routine ms w v →
+  pub none-leads : (routine : Routine UpState Act) (o : Outcome) (u : UpState) (before : List Moment) (sent : List Act) (ms : List Meeting) (w v : World D) → RoutineDid means (up_act_rules plan) heap u routine ms w v →
       SendsNone u routine → StandsOn f0 io0 (means.on w.device) w.io before → Ended o u before sent ms v routine
   none-leads (Finished end moments) o u before sent ms w v did none stands = ended w v before moments none stands did.1
   none-leads (Sending [] goes_on then) o u before sent ms w v (early, late, mid, split, acts_did, rest_did) none stands =
@@ -390,14 +390,14 @@ module _ {D : Type 0} (means : Meaning D) (plan : Plan) (heap : ℕ) (f0 : Optio
 
 -- A job leads on over a device: what is there is what its routine begins from, or the device is booted first; or it sends nothing, and no
 -- more comes than a tick or a cut.
-abbrev pub LeadsOver : Plan → ℕ → Option FwState → Job UpState DynamicAct → Type 0
+abbrev pub LeadsOver : Plan → ℕ → Option FwState → Job UpState Act → Type 0
 LeadsOver plan heap device job =
     ((job.first ≡ []) × ((f : FwState) × (device ≡ Some f) × (there_in f ≡ job.from.there)) × LeadsBy plan job.from job.routine)
     ⊎ (((job.first ≡ Boot ∷ []) × (job.from.there ≡ booted heap) × LeadsBy plan job.from job.routine)
     ⊎ (((job.first ≡ Tick ∷ []) × ((f : FwState) × (device ≡ Some f) × IsPlayable (view_of f)) × SendsNone job.from job.routine)
     ⊎ (Ends job.first × SendsNone job.from job.routine)))
 
-module _ {D : Type 0} (means : Meaning D) (plan : Plan) (heap : ℕ) (job : Job UpState DynamicAct) (new : UpState) (w v : World D) (result : Outcome) (j : JobDone means (up_act_rules plan) heap job new w v result) where
+module _ {D : Type 0} (means : Meaning D) (plan : Plan) (heap : ℕ) (job : Job UpState Act) (new : UpState) (w v : World D) (result : Outcome) (j : JobDone means (up_act_rules plan) heap job new w v result) where
   -- the moments of the device
   abbrev pub met_moments : List Moment
   met_moments = job.first ++ (walk_routine (up_act_rules plan) next_of job.from j.meetings job.routine).moments

@@ -9,7 +9,6 @@ use Rattle.host_widgets.specs.declared.answers.HostFault.{HostFault}
 use Rattle.host_widgets.specs.declared.kept.Record.{Record}
 use Rattle.host_widgets.specs.Host.{Outcome}
 use Rattle.host_widgets.specs.Routines.{Job, JobTested}
-use Rattle.host_dynamic.specs.DynamicActs.{DynamicAct}
 use Rattle.host_dynamic.specs.Dynamic.{UpState, up_act_rules}
 use Rattle.host_dynamic.specs.UpDevices.{up_state_in, UpAgrees}
 use Rattle.host_dynamic.specs.UpStates.{IsUpState}
@@ -21,6 +20,7 @@ use Rattle.sof_session.proofs.JobPorts.{job-io, job-ends, job-moves, job-led}
 use Rattle.sof_session.proofs.StillJobs.{StillJob}
 use Rattle.sof_session.proofs.UpAgreement.{from-use}
 use Rattle.sof_session.proofs.Writings.{bound_ends}
+use Rattle.host_widgets.specs.HostActs.{Act}
 
 -- ---- both sides
 
@@ -40,7 +40,7 @@ module _ {P : Type 0} (means : Meaning P) (old : SessionView P) (wire : Wire P) 
   })
 
   -- by a test and a job
-  module _ (test : Option HostFault) (job : Job UpState DynamicAct) (s s' : UpState) (result : Outcome) (tested : JobTested (link means) (up_act_rules old.plan) old.heap test job s s' (at old.link io) (at wire io') result)
+  module _ (test : Option HostFault) (job : Job UpState Act) (s s' : UpState) (result : Outcome) (tested : JobTested (link means) (up_act_rules old.plan) old.heap test job s s' (at old.link io) (at wire io') result)
       (still : StillJob (link means) old.plan old.heap job) where
     calls : CallsKept means old.link wire io io'
     calls = by test refl

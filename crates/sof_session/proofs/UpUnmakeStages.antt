@@ -29,10 +29,9 @@ use Rattle.host_widgets.proofs.ControlLists.{Pair}
 use Rattle.host_widgets.proofs.Joined.{edge_with}
 use Rattle.host_widgets.proofs.NamedIds.{named-at, buffer-found, pipeline-found, each-comp, each-edge, each-pipe}
 use Rattle.host_widgets.proofs.PutsTaken.{comp_while}
-use Rattle.host_dynamic.specs.DynamicActs.{Unmake, pipe_ids, unmade_order, unmaking_acts}
+use Rattle.host_dynamic.specs.DynamicActs.{pipe_ids, unmade_order, unmaking_acts}
 use Rattle.host_dynamic.specs.There.{There, there_after, ids_there, ids_there_of, silent_state}
 use Rattle.host_dynamic.specs.Dynamic.{UpState}
-use Rattle.host_dynamic.specs.Need.{index_at}
 use Rattle.host_dynamic.specs.Up.{buffer_joins}
 use Rattle.host_dynamic.proofs.Needs.{in-among, in-map}
 use Rattle.host_dynamic.proofs.Between.{same-bools, member-found, found-member, comp-named, edge-named}
@@ -45,6 +44,8 @@ use Rattle.host_dynamic.proofs.Sublists.{filter-same, filter-both, filter-append
 use Rattle.host_dynamic.proofs.UpContext.{IsServing, AreApart, own-index, JoinEnds, join-ends, ends-up}
 use Rattle.host_dynamic.proofs.UpStages.{Stage, StreamPair, comps_left, edges_left, stage_graph, stage_streams, at_stage, IsStage, index_of_id, is_join_of, up_stage, IsAmid}
 use Rattle.host_dynamic.proofs.UpWalks.{Runs, with_there}
+use Rattle.host_widgets.specs.HostActs.{Unmake}
+use Rattle.host_widgets.specs.Indices.{index_at}
 
 module _ (plan : Plan) (sound : IsSound plan) (s : UpState) (up n : List ℕ) (serving : IsServing plan s.kept up) (apart : AreApart up n) where
   abbrev g : Graph

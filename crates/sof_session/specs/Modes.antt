@@ -7,7 +7,6 @@ use Rattle.tplg_plan.specs.declared.plans.Plan.{Plan}
 use Rattle.host_widgets.specs.declared.answers.Answer.{Answer}
 use Rattle.host_widgets.specs.declared.kept.Record.{Record}
 use Rattle.host_widgets.specs.HostActs.{Act}
-use Rattle.host_dynamic.specs.DynamicActs.{DynamicAct}
 use Rattle.host_dynamic.specs.Dynamic.{UpState}
 use Rattle.host_dynamic.specs.UpDevices.{up_state_in}
 use Rattle.sof_script.specs.declared.script.Command.{Command}
@@ -35,7 +34,7 @@ abbrev pub up_state_of : {P : Type 0} → Meaning P → SessionView P → UpStat
 up_state_of means seat = up_state_in means seat.kept (unwrap_or seat.up []) seat.link.device
 
 -- each is made on use
-abbrev pub made_on_use : {P : Type 0} → Meaning P → Mode P UpState DynamicAct
+abbrev pub made_on_use : {P : Type 0} → Meaning P → Mode P UpState Act
 made_on_use means = record { rules = up_rules; sees = up_state_of means; on_use = true }
 
 -- a session is of a mode

@@ -16,7 +16,6 @@ use Rattle.host_widgets.specs.Kept.{first_record}
 use Rattle.host_widgets.specs.Orders.{Procedure, fault_of_load, loading, resuming}
 use Rattle.host_widgets.specs.TestedOrders.{Tested}
 use Rattle.host_widgets.specs.Routines.{Job, JobTested}
-use Rattle.host_dynamic.specs.DynamicActs.{DynamicAct}
 use Rattle.host_dynamic.specs.Dynamic.{UpState, up_act_rules}
 use Rattle.host_pm.specs.PowerTests.{resume_fault}
 use Rattle.host_pm.specs.Resumed.{ResumeLeft}
@@ -25,6 +24,7 @@ use Rattle.sof_session.specs.Commands.{answer_by}
 use Rattle.sof_session.specs.Fills.{input_ends}
 use Rattle.sof_session.specs.Modes.{up_state_of}
 use Rattle.sof_session.specs.SessionView.{SessionView}
+use Rattle.host_widgets.specs.HostActs.{Act}
 
 -- the endpoints' bytes
 abbrev pub ports : List InputView → List OutputView → Io
@@ -50,7 +50,7 @@ pub record CallRan {P : Type 0} (means : Meaning P) (test : Option HostFault) (o
   pub up : new.up ≡ old.up
 
 -- what a call did that makes pipelines on use, by its test and its job, and its job's answer
-pub record JobRan {P : Type 0} (means : Meaning P) (test : Option HostFault) (job : Job UpState DynamicAct) (old new : SessionView P) (before after : Io) (answer : Answer) : Type 0 where
+pub record JobRan {P : Type 0} (means : Meaning P) (test : Option HostFault) (job : Job UpState Act) (old new : SessionView P) (before after : Io) (answer : Answer) : Type 0 where
   pub outcome : Outcome
   pub tested : JobTested (link means) (up_act_rules old.plan) old.heap test job (up_state_of means old) (up_state_of means new) (record { device = old.link; io = before }) (record { device = new.link; io = after }) outcome
   pub said : answer ≡ answer_by job.answer outcome

@@ -11,7 +11,6 @@ use Rattle.host_widgets.specs.declared.kept.Power.TheVariants as powers
 use Rattle.host_widgets.specs.Routines.{Job}
 use Rattle.host_pcm.specs.Asks.{stream_place, stream_at}
 use Rattle.host_pcm.specs.StreamCalls.{host_at}
-use Rattle.host_dynamic.specs.DynamicActs.{DynamicAct}
 use Rattle.host_dynamic.specs.There.{shown_ids}
 use Rattle.host_dynamic.specs.Dynamic.{UpState, first_state, up_act_rules, plain_job, loading_job, unloading_job, opening_job, closing_job, resuming_job, control_order, read_up_fault}
 use Rattle.sof_script.specs.declared.script.Command.{Command}
@@ -21,6 +20,7 @@ use Rattle.sof_session.specs.CommandTests.{fault_of}
 use Rattle.sof_session.specs.Commands.{order_of}
 use Rattle.sof_session.specs.Show.{power_words, widget_line, edge_line}
 use Rattle.sof_session.specs.StateLines.{state_lines}
+use Rattle.host_widgets.specs.HostActs.{Act}
 
 -- ---- all commands
 
@@ -32,7 +32,7 @@ up_fault plan s command = fault_of plan s.kept command
 abbrev pub place_named : Plan → List ℕ → ℕ
 place_named plan name = unwrap_or (stream_place plan name) 0
 
-abbrev pub up_job : Plan → ℕ → UpState → Command → Job UpState DynamicAct
+abbrev pub up_job : Plan → ℕ → UpState → Command → Job UpState Act
 up_job plan heap s commands.Load = loading_job heap s
 up_job plan heap s commands.Unload = unloading_job plan s
 up_job plan heap s commands.Resume = resuming_job plan heap s
@@ -69,7 +69,7 @@ up_shown plan s commands.Show = up_show_lines plan s.kept s.up
 up_shown plan s command = []
 
 -- a host that makes pipelines on use
-abbrev pub up_rules : Plan → ℕ → CommandRules UpState DynamicAct
+abbrev pub up_rules : Plan → ℕ → CommandRules UpState Act
 up_rules plan heap = record {
   acts = up_act_rules plan;
   first = first_state plan;

@@ -13,8 +13,7 @@ ghost use Rattle.sof_session.specs.ShownLines as shown_lines;
 ghost use Rattle.sof_session.specs.UpCommands as up_commands;
 
 use crate::words::{say_end, say_found, say_params, write_power};
-use host_dynamic::{has, widget_index};
-use host_widgets::{ControlRec, Power, Record, StreamRec};
+use host_widgets::{ControlRec, Power, Record, StreamRec, has, widget_index};
 use sof_script::{Line, kind_words, say_bytes, say_values};
 use stream_law::{Comp, Edge, Pipe};
 use tplg_plan::{ControlKind, ControlPlan, Plan, StreamPlan};

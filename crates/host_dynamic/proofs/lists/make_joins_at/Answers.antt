@@ -6,8 +6,9 @@ use Rattle.host_widgets.specs.ActCarried.{ActsSent}
 use Rattle.host_widgets.proofs.Walks.{passing, sent-on, sent-room, sent-more, sent-ends, handed_on}
 use Rattle.host_dynamic.specs.declared.making.Ends.{Ends}
 use Rattle.host_dynamic.specs.Up.{buffer_joins}
-use Rattle.host_dynamic.proofs.ListsSent.{ends_act, join_act, ends-acts}
+use Rattle.host_dynamic.proofs.ListsSent.{ends_act, ends-acts}
 use Rattle.host_dynamic.proofs.lists.make_joins_at.Goals as goal
+use Rattle.host_widgets.proofs.MadeSent.{join_act}
 
 abbrev no_ends : Ends
 no_ends = record { source = 0; sink = 0 }

@@ -1,68 +1,27 @@
-use Rattle.std.proofs.Common.{◌≡◌, ap, subst, ◌∙◌, ℕ, ◌<◌, List, [], ◌∷◌, ◌++◌, map, take, length, get_or, sym, arith, append_assoc}
-use Rattle.std.proofs.lemmas.List.{take_all, take_more}
-use Rattle.ipc3_model.specs.declared.message.Message.{Message}
-use Rattle.ipc3_model.specs.Messages.{message_spelling}
+use Rattle.std.proofs.Common.{◌≡◌, sym, ap, subst, ◌∙◌, ℕ, ◌<◌, List, map, length, arith}
+use Rattle.std.specs.List.{AllByRecursion}
 use Rattle.mbox_link.specs.Calls.{world}
-use Rattle.tplg_plan.specs.declared.plans.WidgetPlan.{WidgetPlan}
-use Rattle.host_widgets.specs.Bringing.{Sent}
-use Rattle.host_widgets.specs.Acts.{no_words, make_message}
-use Rattle.host_widgets.proofs.Walks.{passing, handed_on}
-use Rattle.host_dynamic.specs.DynamicActs.{dynamic_message, widgets_at}
-use Rattle.host_dynamic.specs.ListCalls.{DynamicSent}
-use Rattle.host_dynamic.proofs.ListsSent.{making, widget-low, listed-on, listed-room, one-more, one-ends, listed-so}
+use Rattle.host_widgets.specs.HostActs.{Make}
+use Rattle.host_widgets.specs.MadeLists.{MadeListed}
+use Rattle.host_dynamic.specs.DynamicActs.{widgets_at}
+use Rattle.host_dynamic.proofs.ListsSent.{widgets-low}
 use Rattle.host_dynamic.proofs.lists.make_widgets_at.Goals as goal
 
-pub bounds-items-id : goal.bounds-items-id
-bounds-items-id g c =
-    let plan = c.args.plan.now in let ids : List ℕ = widgets_at plan c.args.index in let i = c.loop-id.id-index in
-    let same : c.items-id-items.result.now ≡ ids = c.items-id-items.ensures.value ∙ c.widgets_at-ids.ensures in
-    let inside : i < length ids = omega (arith, c.loop-id-test.true, ap length same) in
-    omega (arith, widget-low plan c.args.index i inside, ap (λ (xs : List ℕ). get_or xs i 0) same, ap length c.items.ensures)
+pub make_widgets-requires-clause-few : goal.make_widgets-requires-clause-few
+make_widgets-requires-clause-few g c =
+    let same : c.items.result.now ≡ widgets_at c.args.plan.now c.args.index = c.items.ensures.value ∙ c.widgets_at-ids.ensures in
+    omega (arith, c.requires.few, ap length same)
 
-pub send-requires-clause-on : goal.send-requires-clause-on
-send-requires-clause-on g c = listed-on g.P.Dsp.means c.args.plan.now _ _ _ _ passing c.loop-id.invariant.sent c.requires.on
-
-pub send-requires-clause-room : goal.send-requires-clause-room
-send-requires-clause-room g c = listed-room g.P.Dsp.means c.args.plan.now _ _ _ _ passing c.loop-id.invariant.sent c.requires.room
-
-pub returns-in_err-send : goal.returns-in_err-send
-returns-in_err-send g c =
-    let means = g.P.Dsp.means in let plan = c.args.plan.now in let ids : List ℕ = widgets_at plan c.args.index in let i = c.loop-id.id-index in
-    let w = world c.args.dsp.now c.args.io.now c.args.out.now in let m = world c.loop-id.dsp c.loop-id.io c.loop-id.out in let v = world c.send.new.dsp c.send.new.io c.send.new.out in
-    let same : c.items-id-items.result.now ≡ ids = c.items-id-items.ensures.value ∙ c.widgets_at-ids.ensures in
-    let inside : i < length ids = omega (arith, c.loop-id-test.true, ap length same) in
-    let message : c.make_message.result ≡ dynamic_message plan (making (get_or ids i 0)) =
-    c.make_message.ensures ∙ ap (λ (xs : List ℕ). make_message plan (get_or xs i 0) (get_or c.items.result.now (get_or xs i 0) no_words)) same ∙ ap (λ (ws : List WidgetPlan). make_message plan (get_or ids i 0) (get_or ws (get_or ids i 0) no_words)) c.items.ensures in
-    let sent = subst (λ (x : Message). Sent means (message_spelling x) m v c.send.result) message c.send.ensures in
-    listed-so means plan ids (take i ids) c.args.made.now.items c.loop-id.made.items w v c.from_residual.result
-    (one-ends means plan making ids i 0 inside w m v c.send.result c.loop-id.invariant.sent sent c.in_err-send.field-0.0 c.from_residual.result c.in_err-send.was (handed_on c.from_residual.result c.in_err-send.field-0.0 c.from_residual.ensures))
-    c.loop-id.invariant.made
-
-pub loop-id-preserved : goal.loop-id-preserved
-loop-id-preserved g c =
-    let means = g.P.Dsp.means in let plan = c.args.plan.now in let ids : List ℕ = widgets_at plan c.args.index in let i = c.loop-id.id-index in
-    let old : List ℕ = c.args.made.now.items in
-    let w = world c.args.dsp.now c.args.io.now c.args.out.now in let m = world c.loop-id.dsp c.loop-id.io c.loop-id.out in let v = world c.send.new.dsp c.send.new.io c.send.new.out in
-    let same : c.items-id-items.result.now ≡ ids = c.items-id-items.ensures.value ∙ c.widgets_at-ids.ensures in
-    let inside : i < length ids = omega (arith, c.loop-id-test.true, ap length same) in
-    let message : c.make_message.result ≡ dynamic_message plan (making (get_or ids i 0)) =
-    c.make_message.ensures ∙ ap (λ (xs : List ℕ). make_message plan (get_or xs i 0) (get_or c.items.result.now (get_or xs i 0) no_words)) same ∙ ap (λ (ws : List WidgetPlan). make_message plan (get_or ids i 0) (get_or ws (get_or ids i 0) no_words)) c.items.ensures in
-    let sent = subst (λ (x : Message). Sent means (message_spelling x) m v c.send.result) message c.send.ensures in
-    record {
-      sent = one-more means plan making ids i 0 inside w m v c.send.result c.loop-id.invariant.sent sent c.in_ok-send.field-0 c.in_ok-send.was;
-      made =
-          c.push.ensures.items
-          ∙ (λ j. c.loop-id.invariant.made j ++ get_or (same j) i 0 ∷ [])
-          ∙ append_assoc old (take i ids) (get_or ids i 0 ∷ [])
-          ∙ ap (λ (xs : List ℕ). old ++ xs) (sym (take_more ids i 0 inside));
-    }
+pub make_widgets-requires-clause-low : goal.make_widgets-requires-clause-low
+make_widgets-requires-clause-low g c =
+    let plan = c.args.plan.now in
+    let same : c.items.result.now ≡ widgets_at plan c.args.index = c.items.ensures.value ∙ c.widgets_at-ids.ensures in
+    subst (λ (ids : List ℕ). AllByRecursion (λ id. id < length plan.widgets) ids) (sym same) (widgets-low plan c.args.index)
 
 pub returns : goal.returns
 returns g c =
-    let means = g.P.Dsp.means in let plan = c.args.plan.now in let ids : List ℕ = widgets_at plan c.args.index in let i = c.loop-id.id-index in
-    let old : List ℕ = c.args.made.now.items in
-    let w = world c.args.dsp.now c.args.io.now c.args.out.now in let v = world c.loop-id.dsp c.loop-id.io c.loop-id.out in
-    let same : c.items-id-items.result.now ≡ ids = c.items-id-items.ensures.value ∙ c.widgets_at-ids.ensures in
-    let all : take i ids ≡ ids = take_all i ids (omega (arith, c.loop-id-test.false, ap length same)) in
-    listed-so means plan ids ids old c.loop-id.made.items w v passing (subst (λ (xs : List ℕ). DynamicSent means plan (map making xs) (map making xs) w v passing) all c.loop-id.invariant.sent)
-    (c.loop-id.invariant.made ∙ ap (λ (xs : List ℕ). old ++ xs) all)
+    let plan = c.args.plan.now in
+    let same : c.items.result.now ≡ widgets_at plan c.args.index = c.items.ensures.value ∙ c.widgets_at-ids.ensures in
+    subst
+    (λ (ids : List ℕ). MadeListed g.P.Dsp.means plan (map Make ids) c.args.made.now.items c.make_widgets.new.made.items (world c.args.dsp.now c.args.io.now c.args.out.now) (world c.make_widgets.new.dsp c.make_widgets.new.io c.make_widgets.new.out) c.make_widgets.result)
+    same c.make_widgets.ensures

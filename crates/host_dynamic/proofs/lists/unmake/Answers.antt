@@ -5,10 +5,12 @@ use Rattle.ipc3_model.specs.Messages.{message_spelling}
 use Rattle.mbox_link.specs.Calls.{world}
 use Rattle.host_widgets.specs.Bringing.{Sent}
 use Rattle.host_widgets.proofs.Walks.{passing, handed_on}
-use Rattle.host_dynamic.specs.DynamicActs.{Unmake, dynamic_message, unmade_order}
-use Rattle.host_dynamic.specs.ListCalls.{DynamicSent}
-use Rattle.host_dynamic.proofs.ListsSent.{listed-on, listed-room, one-more, one-ends}
+use Rattle.host_dynamic.specs.DynamicActs.{unmade_order}
 use Rattle.host_dynamic.proofs.lists.unmake.Goals as goal
+use Rattle.host_widgets.specs.HostActs.{Unmake}
+use Rattle.host_widgets.specs.ActMessages.{act_message}
+use Rattle.host_widgets.specs.MadeLists.{ActsPassed}
+use Rattle.host_widgets.proofs.MadeSent.{listed-on, listed-room, one-more, one-ends}
 
 pub send-requires-clause-on : goal.send-requires-clause-on
 send-requires-clause-on g c = listed-on g.P.Dsp.means c.args.plan.now _ _ _ _ passing c.loop-id.invariant c.requires.on
@@ -25,7 +27,7 @@ returns-in_err-send g c =
     let ids : List ℕ = unmade_order plan.graph c.args.made.now in let i = c.loop-id.id-index in
     let same : c.items-id-items.result.now ≡ ids = c.items-id-items.ensures.value ∙ c.unmade_order-ids.ensures in
     let inside : i < length ids = omega (arith, c.loop-id-test.true, ap length same) in
-    let message : c.unmake_message.result ≡ dynamic_message plan (Unmake (get_or ids i 0)) = c.unmake_message.ensures ∙ ap (λ (xs : List ℕ). dynamic_message plan (Unmake (get_or xs i 0))) same in
+    let message : c.unmake_message.result ≡ act_message plan (Unmake (get_or ids i 0)) = c.unmake_message.ensures ∙ ap (λ (xs : List ℕ). act_message plan (Unmake (get_or xs i 0))) same in
     let sent = subst (λ (x : Message). Sent g.P.Dsp.means (message_spelling x) m v c.send.result) message c.send.ensures in (
       map Unmake (take i ids),
       one-ends g.P.Dsp.means plan Unmake ids i 0 inside w m v c.send.result c.loop-id.invariant sent c.in_err-send.field-0.0 c.from_residual.result c.in_err-send.was
@@ -41,7 +43,7 @@ loop-id-preserved g c =
     let ids : List ℕ = unmade_order plan.graph c.args.made.now in let i = c.loop-id.id-index in
     let same : c.items-id-items.result.now ≡ ids = c.items-id-items.ensures.value ∙ c.unmade_order-ids.ensures in
     let inside : i < length ids = omega (arith, c.loop-id-test.true, ap length same) in
-    let message : c.unmake_message.result ≡ dynamic_message plan (Unmake (get_or ids i 0)) = c.unmake_message.ensures ∙ ap (λ (xs : List ℕ). dynamic_message plan (Unmake (get_or xs i 0))) same in
+    let message : c.unmake_message.result ≡ act_message plan (Unmake (get_or ids i 0)) = c.unmake_message.ensures ∙ ap (λ (xs : List ℕ). act_message plan (Unmake (get_or xs i 0))) same in
     let sent = subst (λ (x : Message). Sent g.P.Dsp.means (message_spelling x) m v c.send.result) message c.send.ensures in
     one-more g.P.Dsp.means plan Unmake ids i 0 inside w m v c.send.result c.loop-id.invariant sent c.in_ok-send.field-0 c.in_ok-send.was
 
@@ -51,6 +53,6 @@ returns g c =
     let ids : List ℕ = unmade_order plan.graph c.args.made.now in
     let same : c.items-id-items.result.now ≡ ids = c.items-id-items.ensures.value ∙ c.unmade_order-ids.ensures in (
       map Unmake ids,
-      subst (λ (xs : List ℕ). DynamicSent g.P.Dsp.means plan (map Unmake xs) (map Unmake xs) (world c.args.dsp.now c.args.io.now c.args.out.now) (world c.loop-id.dsp c.loop-id.io c.loop-id.out) passing)
+      subst (λ (xs : List ℕ). ActsPassed g.P.Dsp.means plan (map Unmake xs) (map Unmake xs) (world c.args.dsp.now c.args.io.now c.args.out.now) (world c.loop-id.dsp c.loop-id.io c.loop-id.out) passing)
           (take_all c.loop-id.id-index ids (omega (arith, c.loop-id-test.false, ap length same))) c.loop-id.invariant,
     )

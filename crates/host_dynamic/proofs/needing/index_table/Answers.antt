@@ -1,6 +1,5 @@
-use Rattle.std.proofs.Common.{◌≡◌, refl, sym, ap, subst, ◌∙◌, ℕ, ◌<◌, ◌≤◌, zero, suc, length, get_or, replicate, List, Some, None, ◌==◌, arith}
+use Rattle.std.proofs.Common.{◌≡◌, refl, sym, ap, subst, ◌∙◌, ℕ, ◌<◌, ◌≤◌, zero, suc, length, get_or, replicate, List, None, ◌==◌, arith}
 use Rattle.stream_law.specs.Ways.{comp_of}
-use Rattle.host_dynamic.specs.Need.{named_index}
 use Rattle.std.specs.Prelude.{Option, find}
 use Rattle.std.proofs.lemmas.List.{length-replicate, take_all, get_or_default}
 use Rattle.stream_law.specs.declared.graph.Comp.{Comp}
@@ -8,6 +7,7 @@ use Rattle.stream_law.specs.declared.graph.Edge.{Edge}
 use Rattle.stream_law.proofs.Members.{IsIn, in-all}
 use Rattle.host_dynamic.proofs.Spreading.{at-in, put-size, comp-turn, edge-turn}
 use Rattle.host_dynamic.proofs.needing.index_table.Goals as goal
+use Rattle.host_widgets.specs.Indices.{named_index}
 
 abbrev none : Option ℕ
 none = None

@@ -1,8 +1,8 @@
 use Rattle.std.proofs.Common.{◌≡◌, ℕ, get_or, length, take, None, ◌==◌}
 use Rattle.std.specs.Prelude.{find}
 use Rattle.stream_law.specs.Ways.{comp_of}
-use Rattle.host_dynamic.specs.Need.{named_index}
 use Rattle.host_dynamic.proofs.needing.index_table.Given as goal
+use Rattle.host_widgets.specs.Indices.{named_index}
 
 abbrev pub invariant-loop-comp : goal.invariant-loop-comp
 invariant-loop-comp l = record {

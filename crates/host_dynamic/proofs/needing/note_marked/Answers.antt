@@ -1,12 +1,13 @@
-use Rattle.std.proofs.Common.{◌≡◌, sym, ap, subst, ◌∙◌, ℕ, ◌<◌, ◌≤◌, length, get_or, refl, zero, suc, ◌+◌, Bool, [], ◌∷◌, true, false, inl, inr, ◌⊎◌, List, arith}
+use Rattle.std.proofs.Common.{◌≡◌, sym, ap, subst, ℕ, ◌<◌, length, get_or, refl, zero, suc, ◌+◌, Bool, [], ◌∷◌, true, false, inl, inr, ◌⊎◌, List, arith}
 use Rattle.std.proofs.lemmas.Bool.{false≢true}
 use Rattle.host_dynamic.specs.Spreading.{NotesMore, HasAll, mark_noted}
 use Rattle.host_dynamic.proofs.Noted.{has-more}
 use Rattle.host_dynamic.proofs.Searchable.{index-among}
 use Rattle.stream_law.specs.Order.{is_among}
 use Rattle.host_dynamic.proofs.Spreading.{notes-start, cond-keeps, cond-there, cond-more}
-use Rattle.host_dynamic.specs.Need.{HasAt, index_at}
+use Rattle.host_dynamic.specs.Need.{HasAt}
 use Rattle.host_dynamic.proofs.needing.note_marked.Goals as goal
+use Rattle.host_widgets.specs.Indices.{index_at}
 
 pub loop-id-init : goal.loop-id-init
 loop-id-init c = record { more = notes-start c.args.plan.now.graph (λ p. (x : ℕ) → get_or c.args.marks.now x false ≡ true → HasAt p (index_at c.args.plan.now.graph x)) c.args.needed.now.items c.requires.once; marked = λ x low. absurd (omega (arith, low)) }

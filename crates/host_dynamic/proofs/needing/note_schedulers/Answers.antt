@@ -1,16 +1,15 @@
-use Rattle.std.proofs.Common.{◌≡◌, sym, ap, subst, ◌∙◌, ℕ, ◌<◌, ◌≤◌, length, get_or, true, false, List, arith}
+use Rattle.std.proofs.Common.{sym, ap, subst, ℕ, ◌<◌, ◌≤◌, length, get_or, true, false, List, arith}
 use Rattle.std.specs.Prelude.{⊤}
 use Rattle.std.specs.List.{AllByRecursion}
 use Rattle.std.proofs.lemmas.List.{take_all}
 use Rattle.stream_law.specs.declared.graph.Pipe.{Pipe}
 use Rattle.stream_law.specs.Order.{is_among}
-use Rattle.stream_law.proofs.Members.{in-all}
-use Rattle.host_dynamic.specs.Need.{index_at, HasAt}
+use Rattle.host_dynamic.specs.Need.{HasAt}
 use Rattle.host_dynamic.specs.Spreading.{NotesMore, BringsScheduler, HasAll}
 use Rattle.host_dynamic.proofs.Noted.{has-more}
-use Rattle.host_dynamic.proofs.Searchable.{index-among}
 use Rattle.host_dynamic.proofs.Spreading.{in-get, all-turn, notes-start, sched-keeps, sched-there, sched-more, kept-by}
 use Rattle.host_dynamic.proofs.needing.note_schedulers.Goals as goal
+use Rattle.host_widgets.specs.Indices.{index_at}
 
 pub loop-pipe-init : goal.loop-pipe-init
 loop-pipe-init c = record { more = notes-start c.args.plan.now.graph (λ p. ⊤) c.args.needed.now.items c.requires.once; brought = tt }

@@ -1,5 +1,4 @@
-use Rattle.std.proofs.Common.{◌≡◌, refl, sym, ap, subst, ◌∙◌, ℕ, List, [], ◌++◌, get_or, Bool, true, false}
-use Rattle.std.specs.List.{AllByRecursion}
+use Rattle.std.proofs.Common.{◌≡◌, sym, ap, subst, ◌∙◌, ℕ, List, [], ◌++◌, get_or, Bool, true, false}
 use Rattle.std.proofs.lemmas.Bool.{or_cases}
 use Rattle.std.proofs.Common.{inl, inr, ◌⊎◌}
 use Rattle.stream_law.specs.declared.graph.Comp.{Comp}
@@ -8,13 +7,14 @@ use Rattle.stream_law.specs.declared.graph.Pipe.{Pipe}
 use Rattle.stream_law.specs.declared.graph.Graph.{Graph}
 use Rattle.stream_law.specs.Ways.{splits, reaches}
 use Rattle.stream_law.specs.Order.{is_among}
-use Rattle.stream_law.proofs.Members.{IsIn, in-all, in-each}
-use Rattle.host_dynamic.specs.Need.{index_at, end_index, HasAt, is_joined_to}
+use Rattle.stream_law.proofs.Members.{in-all, in-each}
+use Rattle.host_dynamic.specs.Need.{end_index, HasAt, is_joined_to}
 use Rattle.host_dynamic.specs.Spreading.{AllAllowed, HasAll, BringsScheduler, BringsEnds, IsSplitMarked}
 use Rattle.host_dynamic.proofs.Noted.{has-more}
 use Rattle.host_dynamic.proofs.Searchable.{comps-low, joins-low}
 use Rattle.host_dynamic.proofs.Spreading.{again, kept-by, allowed-at, closed-allows}
 use Rattle.host_dynamic.proofs.needing.spread.Goals as goal
+use Rattle.host_widgets.specs.Indices.{index_at}
 
 pub mark_splits-requires-clause-comps : goal.mark_splits-requires-clause-comps
 mark_splits-requires-clause-comps c = comps-low c.args.plan.now c.requires.plan

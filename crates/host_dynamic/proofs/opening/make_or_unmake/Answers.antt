@@ -1,12 +1,12 @@
-use Rattle.std.proofs.Common.{refl, ap, subst, List, ℕ, length, map, Ok, Err, arith}
+use Rattle.std.proofs.Common.{refl, ap, subst, List, ℕ, length, Ok, Err, arith}
 use Rattle.mbox_link.specs.Calls.{world}
 use Rattle.host_widgets.specs.Host.{Outcome}
 use Rattle.host_widgets.specs.Sides.{world_of}
-use Rattle.host_dynamic.specs.DynamicActs.{Ordinary, making_acts}
-use Rattle.host_dynamic.specs.ListCalls.{Listed}
+use Rattle.host_dynamic.specs.DynamicActs.{making_acts}
 use Rattle.host_dynamic.specs.UpCalls.{AfterMaking}
-use Rattle.host_dynamic.proofs.ListsSent.{listed-on, listed-room}
 use Rattle.host_dynamic.proofs.opening.make_or_unmake.Goals as goal
+use Rattle.host_widgets.specs.MadeLists.{MadeListed}
+use Rattle.host_widgets.proofs.MadeSent.{listed-on, listed-room}
 
 pub make-requires-clause-controls : goal.make-requires-clause-controls
 make-requires-clause-controls g c = c.requires.kept.controls
@@ -28,7 +28,7 @@ returns-in-Ok-clause-did g c =
       made = c.make.new.made.items;
       outcome = Ok tt;
       mid = m;
-      listed = subst (λ (x : List ℕ × Outcome). Listed means plan (map Ordinary (making_acts plan kept n)) x.0 c.make.new.made.items w m x.1) (λ i. (c.new-made.ensures i, c.in-Ok.is i)) c.make.ensures;
+      listed = subst (λ (x : List ℕ × Outcome). MadeListed means plan (making_acts plan kept n) x.0 c.make.new.made.items w m x.1) (λ i. (c.new-made.ensures i, c.in-Ok.is i)) c.make.ensures;
       rest = (refl, refl, refl);
     }
 
@@ -45,6 +45,6 @@ returns-in-Err-clause-did g c =
       made = c.make.new.made.items;
       outcome = Err c.in-Err.fault;
       mid = m;
-      listed = subst (λ (x : List ℕ × Outcome). Listed means plan (map Ordinary (making_acts plan kept n)) x.0 c.make.new.made.items w m x.1) (λ i. (c.new-made.ensures i, c.in-Err.is i)) c.make.ensures;
+      listed = subst (λ (x : List ℕ × Outcome). MadeListed means plan (making_acts plan kept n) x.0 c.make.new.made.items w m x.1) (λ i. (c.new-made.ensures i, c.in-Err.is i)) c.make.ensures;
       rest = subst (λ (xs : List ℕ). AfterMaking means plan c.args.side.now.heap xs (Err c.in-Err.fault) kept c.unmake_after.new.side.kept.now m (world_of c.unmake_after.new.side) c.unmake_after.result) c.as_slice.ensures.value c.unmake_after.ensures.did;
     }

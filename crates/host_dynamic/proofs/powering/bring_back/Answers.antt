@@ -7,8 +7,9 @@ use Rattle.host_widgets.specs.Host.{Outcome}
 use Rattle.host_widgets.specs.HostActs.{Act}
 use Rattle.host_widgets.proofs.Walks.{sent-then, sent-ended, handed_on}
 use Rattle.host_dynamic.specs.DynamicActs.{making_acts}
-use Rattle.host_dynamic.proofs.ListsSent.{listed-on, listed-room, listed-sent, turn-sent}
+use Rattle.host_dynamic.proofs.ListsSent.{turn-sent}
 use Rattle.host_dynamic.proofs.powering.bring_back.Goals as goal
+use Rattle.host_widgets.proofs.MadeSent.{listed-on, listed-room, listed-sent}
 
 pub prepare_all-requires-clause-on : goal.prepare_all-requires-clause-on
 prepare_all-requires-clause-on g c = listed-on g.P.Dsp.means c.args.plan.now _ _ _ _ _ c.make.ensures.sent c.requires.on

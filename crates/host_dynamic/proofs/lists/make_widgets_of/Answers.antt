@@ -4,10 +4,11 @@ use Rattle.mbox_link.specs.Calls.{world}
 use Rattle.host_widgets.specs.Host.{Outcome}
 use Rattle.host_widgets.proofs.Walks.{passing, handed_on}
 use Rattle.host_dynamic.specs.DynamicActs.{widgets_at, widgets_of}
-use Rattle.host_dynamic.specs.ListCalls.{DynamicSent, Listed}
-use Rattle.host_dynamic.proofs.ListsSent.{making, listed-on, listed-room, listed-so}
 use Rattle.host_dynamic.proofs.MakesListed.{flat-few, index-made, index-failed}
-use Rattle.host_dynamic.proofs.lists.make_widgets.Goals as goal
+use Rattle.host_dynamic.proofs.lists.make_widgets_of.Goals as goal
+use Rattle.host_widgets.specs.MadeLists.{ActsPassed, MadeListed}
+use Rattle.host_widgets.specs.HostActs.{Make}
+use Rattle.host_widgets.proofs.MadeSent.{listed-on, listed-room, listed-so}
 
 pub make_widgets_at-requires-clause-few : goal.make_widgets_at-requires-clause-few
 make_widgets_at-requires-clause-few g c =
@@ -26,7 +27,7 @@ returns-in_err-make_widgets_at g c =
     let old : List ℕ = c.args.made.now.items in let new : List ℕ = c.make_widgets_at.new.made.items in
     let w = world c.args.dsp.now c.args.io.now c.args.out.now in let m = world c.loop-index.dsp c.loop-index.io c.loop-index.out in let v = world c.make_widgets_at.new.dsp c.make_widgets_at.new.io c.make_widgets_at.new.out in
     let fault = c.in_err-make_widgets_at.field-0.0 in
-    subst (λ (r : Outcome). Listed means plan (map making (widgets_of plan is)) old new w v r) (sym (handed_on c.from_residual.result fault c.from_residual.ensures))
+    subst (λ (r : Outcome). MadeListed means plan (map Make (widgets_of plan is)) old new w v r) (sym (handed_on c.from_residual.result fault c.from_residual.ensures))
     (index-failed means plan is k c.loop-index-test.true old c.loop-index.made.items new w m v c.loop-index.invariant.sent c.loop-index.invariant.made fault c.make_widgets_at.result c.in_err-make_widgets_at.was c.make_widgets_at.ensures)
 
 pub loop-index-preserved : goal.loop-index-preserved
@@ -43,5 +44,5 @@ returns g c =
     let old : List ℕ = c.args.made.now.items in
     let w = world c.args.dsp.now c.args.io.now c.args.out.now in let v = world c.loop-index.dsp c.loop-index.io c.loop-index.out in
     let all : widgets_of plan (take k is) ≡ widgets_of plan is = ap (widgets_of plan) (take_all k is (omega (arith, c.loop-index-test.false))) in
-    listed-so means plan (widgets_of plan is) (widgets_of plan is) old c.loop-index.made.items w v passing (subst (λ (xs : List ℕ). DynamicSent means plan (map making xs) (map making xs) w v passing) all c.loop-index.invariant.sent)
+    listed-so means plan (widgets_of plan is) (widgets_of plan is) old c.loop-index.made.items w v passing (subst (λ (xs : List ℕ). ActsPassed means plan (map Make xs) (map Make xs) w v passing) all c.loop-index.invariant.sent)
     (c.loop-index.invariant.made ∙ ap (λ (xs : List ℕ). old ++ xs) all)

@@ -60,7 +60,8 @@ use Rattle.host_ctl.specs.ControlAnswers.{HasBlob, HasSet, IsSetAt}
 use Rattle.host_ctl.specs.ControlPlaces.{control_here, record_here}
 use Rattle.host_ctl.proofs.ControlActs.{still-taken}
 use Rattle.host_ctl.proofs.ControlShown.{IsThere, before, before-there, left-set, state}
-use Rattle.host_ctl.proofs.ControlsTaken.{done-passes, found-in, id-low, shown-here}
+use Rattle.host_ctl.proofs.ControlsTaken.{found-in, id-low, shown-here}
+use Rattle.host_widgets.proofs.DonePasses.{done-passes}
 use Rattle.host_ctl.proofs.ControlsThere.{Was, live, of-comp, was-here}
 use Rattle.host_ctl.proofs.PartsTold.{of-blob}
 use Rattle.host_ctl.proofs.PutAnswers.{used-comp}

@@ -1,19 +1,15 @@
 -- The acts on the control at a place of a sound plan: both laws of one act hold of values that are put there, and of one that asks
 -- for them.
-use Rattle.std.proofs.Common.{◌≡◌, refl, sym, ap, subst, ◌∙◌, ℕ, ◌<◌, ◌≤◌, ◌^◌, zero, suc, Bool, true, false, not, cond, List, [], ◌∷◌, length, map, Some, Result, Ok, Err, ℤ, ◌==◌, ◌||◌, arith}
+use Rattle.std.proofs.Common.{◌≡◌, refl, sym, ap, subst, ◌∙◌, ℕ, ◌<◌, ◌≤◌, ◌^◌, zero, suc, Bool, true, false, not, cond, List, [], ◌∷◌, length, map, Some, Ok, Err, ◌==◌, ◌||◌, arith}
 use Rattle.std.specs.Prelude.{is_some}
 use Rattle.std.specs.List.{AllByRecursion}
 use Rattle.std.proofs.lemmas.List.{length-map}
 use Rattle.sof_base.specs.Slots.{AreSlots, IsSlot}
 use Rattle.stream_law.specs.State.{FwState, view_of}
 use Rattle.stream_law.specs.Ways.{comp_of}
-use Rattle.ipc3_model.specs.declared.fault.CodecFault.{CodecFault}
 use Rattle.ipc3_model.specs.declared.message.Message.TheVariants.{GetValue}
-use Rattle.ipc3_model.specs.declared.reply.Body.{Body}
-use Rattle.ipc3_model.specs.declared.reply.Reply.{Reply}
 use Rattle.ipc3_model.specs.Messages.{message_spelling, decoded}
 use Rattle.ipc3_model.specs.Meanings.{IsMessage}
-use Rattle.ipc3_model.specs.Replies.{decoded_reply}
 use Rattle.mbox_link.specs.Step as fw
 use Rattle.mbox_link.specs.Step.{row, body_of, no_device, invalid}
 use Rattle.tplg_plan.specs.declared.plans.Plan.{Plan}
@@ -22,16 +18,16 @@ use Rattle.tplg_plan.specs.declared.plans.ControlKind.{ControlKind}
 use Rattle.tplg_plan.specs.declared.plans.ControlKind.TheVariants.{Volume, Choice, Blob, Masks}
 use Rattle.tplg_plan.specs.GainOf.{control_gain}
 use Rattle.tplg_plan.specs.Sound.{IsSound, IsControlOf, IsLive}
-use Rattle.host_widgets.specs.declared.answers.HostFault.TheVariants.{Refused}
 use Rattle.host_widgets.specs.declared.kept.Record.{Record}
 use Rattle.host_widgets.specs.declared.kept.ControlRec.{ControlRec}
 use Rattle.host_widgets.specs.Controls.{control_of}
 use Rattle.host_widgets.specs.Kept.{control_at, with_control}
-use Rattle.host_widgets.specs.Host.{IsRecordOf, IsControlSet, AreControls, verdict, judged, errno, is_negative}
+use Rattle.host_widgets.specs.Host.{IsRecordOf, IsControlSet, AreControls, verdict}
 use Rattle.host_widgets.specs.HostActs.{Put, Ask, with_values}
 use Rattle.host_widgets.specs.ActMessages.{act_message, set_message, put_message, get_message, ask_message}
 use Rattle.host_widgets.specs.ViewOf.{record_view, set_comp, record_setting}
 use Rattle.host_widgets.specs.ActCalls.{came_to}
+use Rattle.host_widgets.proofs.DonePasses.{done-passes}
 use Rattle.host_widgets.proofs.ActsCome.{IsAnswered}
 use Rattle.host_widgets.proofs.ControlLists.{bare-one}
 use Rattle.host_widgets.proofs.PartFacts.{none-empty}
@@ -42,7 +38,7 @@ use Rattle.host_widgets.specs.Controls.{eight_masks}
 use Rattle.host_widgets.proofs.LookedUp.{found-is, each-found}
 use Rattle.host_widgets.proofs.NamedIds.{component-found, id-fits}
 use Rattle.host_widgets.proofs.OneActLaws.{IsTaken, IsShown}
-use Rattle.host_widgets.proofs.ReplyErrors.{done_reply, read-zero}
+use Rattle.host_widgets.proofs.ReplyErrors.{done_reply}
 use Rattle.host_ctl.specs.ControlAnswers.{MaySet, value_command}
 use Rattle.host_ctl.specs.ControlPlaces.{control_here, record_here}
 use Rattle.host_ctl.proofs.PutShows.{found, put-shows}
@@ -99,14 +95,6 @@ few-values (Choice items) values may kind of =
 few-values (Masks min max channels) values may kind of =
     let long = (may [] refl).0 in (omega (arith, long, of.3), omega (arith, long, of.4), (λ items is. absurd (cc is)), λ least most n is. (let same : max ≡ most = cc is in omega (arith, same, of.2)))
 few-values (Blob most initial) values may kind of = absurd (none-empty (may [] refl).2)
-
--- a reply with error 0 passes, whatever its body
-pub done-passes : (said : Body) → came_to (verdict (Some (done_reply said))) ≡ Ok tt
-done-passes said = by (decoded_reply (done_reply said)) refl
-  where
-    by : (d : Result Reply CodecFault) → decoded_reply (done_reply said) ≡ d → came_to (judged d) ≡ Ok tt
-    by (Ok reply) is = ap (λ (e : ℤ). came_to (cond (is_negative e) (Err (Refused (errno reply.error))) (Ok reply))) (read-zero said reply is)
-    by (Err fault) is = refl
 
 -- one that asked and was done leaves the state
 asked-stays : (f f' : FwState) (id command : ℕ) → row f (GetValue id command) ≡ Ok f' → f' ≡ f

@@ -7,9 +7,9 @@ use Rattle.stream_law.specs.declared.graph.Join.{Join}
 use Rattle.stream_law.proofs.Members.{IsIn, find-in}
 use Rattle.tplg_plan.specs.declared.plans.Plan.{Plan}
 use Rattle.tplg_plan.specs.Sound.{IsSound}
-use Rattle.host_dynamic.proofs.Needs.{in-flat}
+use Rattle.host_widgets.proofs.Needs.{in-flat}
 use Rattle.host_dynamic.proofs.NotedOnce.{few-once}
-use Rattle.host_dynamic.proofs.UpContext.{join-ends, whole-once}
+use Rattle.host_widgets.proofs.UpContext.{join-ends, whole-once}
 
 -- the joins that may be at a buffer
 sides : Edge → List Join

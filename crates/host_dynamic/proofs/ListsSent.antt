@@ -16,11 +16,11 @@ use Rattle.host_widgets.specs.Host.{Outcome, verdict}
 use Rattle.host_widgets.specs.Walk.{goes_past}
 use Rattle.host_pm.specs.InTurn.{Behind, InTurn}
 use Rattle.host_pm.proofs.Turns.{none-past}
-use Rattle.host_dynamic.specs.DynamicActs.{widgets_at}
+use Rattle.host_widgets.specs.UpActs.{widgets_at}
 use Rattle.host_dynamic.specs.declared.making.Ends.{Ends}
 use Rattle.host_dynamic.specs.JoinEnds.{ends_joins}
-use Rattle.host_dynamic.specs.Up.{buffer_joins}
-use Rattle.host_dynamic.proofs.Sublists.{range-low}
+use Rattle.host_widgets.specs.Up.{buffer_joins}
+use Rattle.host_widgets.proofs.Sublists.{range-low}
 use Rattle.host_widgets.proofs.MadeSent.{join_act}
 
 -- the widgets of an index are of the plan

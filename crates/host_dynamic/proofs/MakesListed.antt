@@ -10,7 +10,7 @@ use Rattle.host_widgets.specs.declared.answers.HostFault.{HostFault}
 use Rattle.host_widgets.specs.Host.{Outcome}
 use Rattle.host_widgets.specs.HostActs.{Act, Make}
 use Rattle.host_widgets.proofs.Walks.{passing, flat_map-append}
-use Rattle.host_dynamic.specs.DynamicActs.{widgets_at, widgets_of}
+use Rattle.host_widgets.specs.UpActs.{widgets_at, widgets_of}
 use Rattle.host_widgets.specs.MadeLists.{ActsPassed, MadeListed, widget_made}
 use Rattle.host_widgets.proofs.MadeSent.{making-made, listed-then, listed-ended, listed-all}
 

@@ -8,7 +8,7 @@ use Rattle.stream_law.specs.declared.graph.Graph.{Graph}
 use Rattle.stream_law.proofs.Members.{IsIn, in-all, find-in}
 use Rattle.stream_law.proofs.Walking.{Path}
 use Rattle.host_dynamic.specs.Noting.{IsLowJoin, walk_from, walk_to, is_unwalked, led_to}
-use Rattle.host_dynamic.proofs.Between.{reach-walk}
+use Rattle.host_widgets.proofs.Between.{reach-walk}
 
 -- ---- marks
 

@@ -12,7 +12,7 @@ use Rattle.host_widgets.specs.Acts.{widget_words}
 use Rattle.host_widgets.specs.Named.{is_named}
 use Rattle.host_ctl.specs.ControlAsks.{named_control}
 use Rattle.host_dynamic.specs.Dynamic.{is_control_up}
-use Rattle.host_dynamic.proofs.UpContext.{comp-up-by}
+use Rattle.host_widgets.proofs.UpContext.{comp-up-by}
 use Rattle.host_widgets.specs.Indices.{is_up}
 
 -- none before it passes, and this one does

@@ -18,18 +18,18 @@ use Rattle.host_widgets.specs.declared.kept.StreamRec.{StreamRec}
 use Rattle.host_widgets.specs.declared.kept.Record.{Record}
 use Rattle.host_pcm.specs.Asks.{is_closed}
 use Rattle.host_dynamic.specs.Dynamic.{needed, need_of_stream}
-use Rattle.host_dynamic.specs.Need.{end_index, HasAt, HasBrought, IsEnough, IsPiped, is_joined_to, need_in}
+use Rattle.host_widgets.specs.Need.{end_index, HasAt, HasBrought, IsEnough, IsPiped, is_joined_to, need_in}
 use Rattle.host_dynamic.specs.Noting.{led_to}
 use Rattle.host_dynamic.specs.Spreading.{AllAllowed, AreKept, HasAll, Holds, host_onward, host_back, stream_onward, stream_back}
-use Rattle.host_dynamic.proofs.Between.{same-bools}
-use Rattle.host_dynamic.proofs.HostStreams.{in-zip}
+use Rattle.host_widgets.proofs.Between.{same-bools}
+use Rattle.host_widgets.proofs.HostStreams.{in-zip}
 use Rattle.host_dynamic.proofs.Marked.{set-keeps, set-there, unmarked-at}
 use Rattle.host_dynamic.proofs.NeededWalks.{led-needed, way-led}
-use Rattle.host_dynamic.proofs.Needs.{in-flat, flat-in, among-in, in-among, enough, need-least}
+use Rattle.host_widgets.proofs.Needs.{in-flat, flat-in, among-in, in-among, enough, need-least}
 use Rattle.host_dynamic.proofs.Noted.{has-more}
 use Rattle.host_dynamic.proofs.Searchable.{searchable}
 use Rattle.host_dynamic.proofs.Spreading.{set-allows, all-turn}
-use Rattle.host_dynamic.proofs.UpStages.{StreamPair}
+use Rattle.host_widgets.proofs.UpStages.{StreamPair}
 use Rattle.host_widgets.specs.Indices.{index_at}
 
 zip-get : (ss : List StreamPlan) (rs : List StreamRec) (k : ℕ) (s : StreamPlan) (r : StreamRec) → k < length ss → length rs ≡ length ss → get_or (zip ss rs) k (s, r) ≡ (get_or ss k s, get_or rs k r)

@@ -14,11 +14,11 @@ use Rattle.stream_law.proofs.Walking.{Path, Walks, walk-on, walk-in}
 use Rattle.tplg_plan.specs.declared.plans.Plan.{Plan}
 use Rattle.tplg_plan.specs.Sound.{IsSound, FillsBuffer, DrainsBuffer}
 use Rattle.host_widgets.proofs.NamedIds.{component-found}
-use Rattle.host_dynamic.specs.Need.{end_index, HasAt, is_joined_to, IsEnough}
+use Rattle.host_widgets.specs.Need.{end_index, HasAt, is_joined_to, IsEnough}
 use Rattle.host_dynamic.specs.Noting.{led_to}
-use Rattle.host_dynamic.proofs.Needs.{has-at}
-use Rattle.host_dynamic.proofs.Between.{echo-by, kind-at, comp-named, edge-named, side-of, source-walk, join-outof, reach-walk, walk-reach, never-echo}
-use Rattle.host_dynamic.proofs.BetweenWays.{ways-walk, walk-ways, in-way, way-in, on-by, echo-edge, echo-splits}
+use Rattle.host_widgets.proofs.Needs.{has-at}
+use Rattle.host_widgets.proofs.Between.{echo-by, kind-at, comp-named, edge-named, side-of, source-walk, join-outof, reach-walk, walk-reach, never-echo}
+use Rattle.host_widgets.proofs.BetweenWays.{ways-walk, walk-ways, in-way, way-in, on-by, echo-edge, echo-splits}
 use Rattle.host_widgets.specs.Indices.{index_at}
 
 -- an echo edge has a source

@@ -6,9 +6,9 @@ use Rattle.stream_law.specs.declared.graph.Graph.{Graph}
 use Rattle.stream_law.specs.Order.{is_among}
 use Rattle.stream_law.proofs.Members.{IsIn, in-all}
 use Rattle.stream_law.proofs.Among.{is_among-filter}
-use Rattle.host_dynamic.specs.Need.{HasAt, IsEnough, is_needed, need_in, IsPiped}
-use Rattle.host_dynamic.proofs.Between.{same-bools}
-use Rattle.host_dynamic.proofs.Needs.{among-in, in-among, need-least}
+use Rattle.host_widgets.specs.Need.{HasAt, IsEnough, is_needed, need_in, IsPiped}
+use Rattle.host_widgets.proofs.Between.{same-bools}
+use Rattle.host_widgets.proofs.Needs.{among-in, in-among, need-least}
 use Rattle.host_widgets.specs.Indices.{pipe_indices}
 
 -- ---- one more among these

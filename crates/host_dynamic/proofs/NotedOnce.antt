@@ -10,12 +10,12 @@ use Rattle.stream_law.proofs.Members.{IsIn, in-all, kept-in}
 use Rattle.tplg_plan.specs.declared.plans.Plan.{Plan}
 use Rattle.tplg_plan.specs.Sound.{IsSound}
 use Rattle.host_widgets.specs.Acts.{widget_ids}
-use Rattle.host_dynamic.specs.DynamicActs.{widgets_at, widgets_of}
-use Rattle.host_dynamic.specs.Need.{need_in, is_needed}
+use Rattle.host_widgets.specs.UpActs.{widgets_at, widgets_of}
+use Rattle.host_widgets.specs.Need.{need_in, is_needed}
 use Rattle.host_dynamic.specs.Noting.{with_index}
-use Rattle.host_dynamic.proofs.Needs.{among-in, in-among, in-left, in-right, in-either, flat-in}
-use Rattle.host_dynamic.proofs.Sublists.{AreOnce, in-split, once-append, once-flat, once-filter, once-distinct, distinct-once, range-once}
-use Rattle.host_dynamic.proofs.UpStages.{index_of_id}
+use Rattle.host_widgets.proofs.Needs.{among-in, in-among, in-left, in-right, in-either, flat-in}
+use Rattle.host_widgets.proofs.Sublists.{AreOnce, in-split, once-append, once-flat, once-filter, once-distinct, distinct-once, range-once}
+use Rattle.host_widgets.proofs.UpStages.{index_of_id}
 use Rattle.host_widgets.specs.Indices.{pipe_indices}
 
 -- ---- as many as there are

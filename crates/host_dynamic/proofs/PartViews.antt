@@ -9,7 +9,7 @@ use Rattle.host_widgets.specs.declared.kept.Record.{Record}
 use Rattle.host_widgets.specs.declared.kept.StreamRec.{StreamRec}
 use Rattle.host_widgets.specs.Expected.{stream_view}
 use Rattle.host_widgets.specs.ViewOf.{record_view, graph_by, set_comp}
-use Rattle.host_dynamic.specs.Up.{is_host_up, graph_of_up, up_view}
+use Rattle.host_widgets.specs.Up.{is_host_up, graph_of_up, up_view}
 use Rattle.host_dynamic.specs.Parts.{up_part, part_record}
 use Rattle.host_widgets.specs.Indices.{is_up}
 

@@ -18,7 +18,8 @@ use Rattle.host_widgets.specs.Walk.{Walked, walk, followed_by, goes_past, first_
 use Rattle.host_widgets.specs.ActCalls.{ActDid, ActsDid, Onwards, next_of, calls_of}
 use Rattle.host_widgets.specs.Orders.{Procedure, Carried, goes_on_after_refusal, end_by}
 use Rattle.host_widgets.specs.Routines.{JobDone, walk_routine}
-use Rattle.host_dynamic.specs.Dynamic.{UpState, up_own, up_act_rules, plain_job}
+use Rattle.host_dynamic.specs.Dynamic.{plain_job}
+use Rattle.host_widgets.specs.UpState.{UpState, up_own, up_act_rules}
 
 -- an act that makes no widget
 abbrev pub MakesNone : Act → Type 0

@@ -15,9 +15,9 @@ use Rattle.tplg_plan.specs.Sound.{IsSound, IsSideOf, FillsBuffer, DrainsBuffer}
 use Rattle.host_widgets.proofs.NamedIds.{few-widgets}
 use Rattle.host_widgets.proofs.ReadyWays.{has_host, host-there}
 use Rattle.std.specs.Prelude.{Option}
-use Rattle.host_dynamic.specs.Need.{end_index}
+use Rattle.host_widgets.specs.Need.{end_index}
 use Rattle.host_dynamic.specs.Noting.{IsLowJoin, IsSearchable}
-use Rattle.host_dynamic.proofs.Needs.{in-map, among-in, in-among}
+use Rattle.host_widgets.proofs.Needs.{in-map, among-in, in-among}
 use Rattle.host_widgets.specs.Indices.{named_index, index_at, pipe_indices}
 
 complete-among : (ps : List Pipe) (i : ℕ) → list_any (λ p. p.index == i && p.complete) ps ≡ true → is_among (map (λ (p : Pipe). p.index) ps) i ≡ true

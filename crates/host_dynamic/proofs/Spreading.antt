@@ -17,11 +17,11 @@ use Rattle.stream_law.proofs.Members.{IsIn, in-all, in-each}
 use Rattle.stream_law.proofs.Walking.{walk-on}
 use Rattle.tplg_plan.specs.declared.plans.Plan.{Plan}
 use Rattle.tplg_plan.specs.Sound.{IsSound}
-use Rattle.host_dynamic.specs.Need.{end_index, HasAt, HasBrought, is_joined_to}
+use Rattle.host_widgets.specs.Need.{end_index, HasAt, HasBrought, is_joined_to}
 use Rattle.host_dynamic.specs.Noting.{IsLowJoin, walk_from, walk_to, is_unwalked, led_to}
 use Rattle.host_dynamic.specs.Spreading.{Allows, AllAllowed, AreKept, passed, split_marked, with_at, AreOnceNoted, HasAll, NotesMore, IsTable, put_index, scheduler_noted, end_noted}
-use Rattle.host_dynamic.proofs.Needs.{in-among, among-in, in-left}
-use Rattle.host_dynamic.proofs.Between.{reach-walk, walk-reach}
+use Rattle.host_widgets.proofs.Needs.{in-among, among-in, in-left}
+use Rattle.host_widgets.proofs.Between.{reach-walk, walk-reach}
 use Rattle.host_dynamic.proofs.Marked.{still_unmarked, set-get, set-keeps, set-there, all-marked}
 use Rattle.host_dynamic.proofs.NotedOnce.{with-once, with-each, room-for}
 use Rattle.host_dynamic.proofs.Noted.{among-push}

@@ -16,14 +16,14 @@ use Rattle.host_widgets.specs.ActRules.{ActRules}
 use Rattle.host_widgets.specs.Host.{Outcome, SidesBy}
 use Rattle.host_widgets.specs.Routines.{Job, JobDone, JobTested}
 use Rattle.host_widgets.specs.Walk.{walk}
-use Rattle.host_dynamic.specs.Dynamic.{UpState, up_act_rules}
-use Rattle.host_dynamic.specs.There.{there_in, there_view}
-use Rattle.host_dynamic.specs.Up.{up_view}
+use Rattle.host_widgets.specs.UpState.{UpState, up_act_rules}
+use Rattle.host_widgets.specs.There.{there_in, there_view}
+use Rattle.host_widgets.specs.Up.{up_view}
 use Rattle.host_dynamic.specs.UpDevices.{there_on, up_state_in, UpAgrees}
 use Rattle.host_dynamic.specs.UpStates.{IsThereBy, IsUpState}
 use Rattle.host_dynamic.proofs.JobLegs.{HasGone}
-use Rattle.host_dynamic.proofs.UpSending.{StagedFirst, HasSent}
-use Rattle.host_dynamic.proofs.UpWalks.{Keeps, routine-keeps}
+use Rattle.host_widgets.proofs.UpSending.{StagedFirst, HasSent}
+use Rattle.host_widgets.proofs.UpWalks.{Keeps, routine-keeps}
 use Rattle.host_widgets.specs.HostActs.{Act, Unmake}
 
 -- a device is on where the power is, and else off

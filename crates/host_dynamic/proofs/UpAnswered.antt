@@ -26,10 +26,11 @@ use Rattle.host_widgets.specs.Walk.{walk}
 use Rattle.host_widgets.proofs.AnsweredActs.{Answering}
 use Rattle.host_widgets.proofs.Exchanges.{state_of}
 use Rattle.host_widgets.proofs.PlainOrders.{same-end}
-use Rattle.host_dynamic.specs.Dynamic.{UpState, plain_job, settled, there_by, up_act_rules}
-use Rattle.host_dynamic.specs.There.{nowhere, there_in}
+use Rattle.host_dynamic.specs.Dynamic.{plain_job}
+use Rattle.host_widgets.specs.UpState.{UpState, settled, there_by, up_act_rules}
+use Rattle.host_widgets.specs.There.{nowhere, there_in}
 use Rattle.host_dynamic.specs.UpDevices.{there_on, up_state_in}
-use Rattle.host_dynamic.proofs.UpSending.{AreAnswered, EndsThere, HasSent, StagedFirst, after_all, sent-did}
+use Rattle.host_widgets.proofs.UpSending.{AreAnswered, EndsThere, HasSent, StagedFirst, after_all, sent-did}
 use Rattle.host_widgets.specs.MadeLists.{ActsPassed}
 
 module _ (plan : Plan) where

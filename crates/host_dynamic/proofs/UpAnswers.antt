@@ -42,16 +42,16 @@ use Rattle.host_ctl.proofs.ControlsTaken.{puts, asks}
 use Rattle.host_ctl.proofs.ControlsThere.{live, at-here, was-here}
 use Rattle.host_ctl.proofs.PutAnswers.{used-comp, values_by, values-at, asked-answers}
 use Rattle.host_pcm.specs.Asks.{is_closed}
-use Rattle.host_dynamic.specs.There.{There, there_in, by_row, by_part, there_after, silent_state}
-use Rattle.host_dynamic.specs.Dynamic.{UpState, up_own}
+use Rattle.host_widgets.specs.There.{There, there_in, by_row, by_part, there_after, silent_state}
+use Rattle.host_widgets.specs.UpState.{UpState, up_own}
 use Rattle.host_dynamic.specs.UpStates.{IsUpState}
-use Rattle.host_dynamic.proofs.RowsTold.{told}
-use Rattle.host_dynamic.proofs.RowsThere.{IsNoPart}
-use Rattle.host_dynamic.proofs.StageBetween.{comp-at}
-use Rattle.host_dynamic.proofs.StageStreams.{free-told, trigger-told}
+use Rattle.host_widgets.proofs.RowsTold.{told}
+use Rattle.host_widgets.proofs.RowsThere.{IsNoPart}
+use Rattle.host_widgets.proofs.StageBetween.{comp-at}
+use Rattle.host_widgets.proofs.StageStreams.{free-told, trigger-told}
 use Rattle.host_dynamic.proofs.UpControls.{asks-stay, put-told}
-use Rattle.host_dynamic.proofs.UpExchanges.{IsOwn, own-told}
-use Rattle.host_dynamic.proofs.UpStages.{Stage, StreamPair, at_stage, index_of_id, up_stage}
+use Rattle.host_widgets.proofs.UpExchanges.{IsOwn, own-told}
+use Rattle.host_widgets.proofs.UpStages.{Stage, StreamPair, at_stage, index_of_id, up_stage}
 use Rattle.host_dynamic.proofs.UpStreams.{begun, has, whole}
 use Rattle.host_dynamic.proofs.UpTriggers.{takes-open}
 

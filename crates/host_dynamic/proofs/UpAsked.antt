@@ -36,16 +36,16 @@ use Rattle.host_ctl.proofs.BlobCalls.{a-blob}
 use Rattle.host_ctl.proofs.BlobTaken.{part-taken}
 use Rattle.host_ctl.proofs.ControlParts.{part-is}
 use Rattle.host_ctl.proofs.ControlsTaken.{put-is, ask-fits}
-use Rattle.host_dynamic.specs.There.{There, by_part}
-use Rattle.host_dynamic.specs.Dynamic.{UpState}
+use Rattle.host_widgets.specs.There.{There, by_part}
+use Rattle.host_widgets.specs.UpState.{UpState}
 use Rattle.host_dynamic.specs.UpStates.{IsUpState}
-use Rattle.host_dynamic.proofs.HostStreams.{in-zip}
-use Rattle.host_dynamic.proofs.StageStreams.{changed_one}
+use Rattle.host_widgets.proofs.HostStreams.{in-zip}
+use Rattle.host_widgets.proofs.StageStreams.{changed_one}
 use Rattle.host_dynamic.proofs.UpAnswers.{own-trigger, own-free, own-put, own-ask, own-ask-part, own-part}
 use Rattle.host_dynamic.proofs.UpControls.{asks-stay}
 use Rattle.host_dynamic.proofs.UpPreparing.{own-prepare}
-use Rattle.host_dynamic.proofs.UpSending.{StagedFirst, AreAnswered}
-use Rattle.host_dynamic.proofs.UpStages.{StreamPair, index_of_id}
+use Rattle.host_widgets.proofs.UpSending.{StagedFirst, AreAnswered}
+use Rattle.host_widgets.proofs.UpStages.{StreamPair, index_of_id}
 use Rattle.host_dynamic.proofs.UpTriggers.{triggered, triggered-state, triggered-pair, stands-then}
 
 module _ (plan : Plan) (sound : IsSound plan) (s : UpState) (is : IsUpState plan s) (on : s.kept.power ≡ powers.On) where

@@ -34,19 +34,20 @@ use Rattle.host_pcm.specs.Asks.{early_fault, is_closed, stream_at, stream_place}
 use Rattle.host_pcm.specs.StreamCalls.{host_at, opened_stream, place_order, shut, with_stream_at}
 use Rattle.host_pcm.proofs.HostTests.{Found_place}
 use Rattle.host_pcm.proofs.Places.{place-changed}
-use Rattle.host_dynamic.specs.Dynamic.{UpState, lacking, needed, up_act_rules, opening_job, opening_by, closing_job, closing_by, with_stream_open, with_stream_shut, without_stream}
-use Rattle.host_dynamic.specs.There.{shown_ids}
+use Rattle.host_dynamic.specs.Dynamic.{lacking, needed, opening_job, opening_by, closing_job, closing_by, with_stream_open, with_stream_shut, without_stream}
+use Rattle.host_widgets.specs.UpState.{UpState, up_act_rules}
+use Rattle.host_widgets.specs.There.{shown_ids}
 use Rattle.host_dynamic.specs.UpCalls.{AfterMaking, MadeWhereOn, UnmadeWhereOn}
 use Rattle.host_dynamic.specs.UpDevices.{there_on, up_state_in, UpAgrees}
 use Rattle.host_dynamic.specs.UpStates.{IsUpState}
-use Rattle.host_dynamic.proofs.HostStreams.{stream-comp}
+use Rattle.host_widgets.proofs.HostStreams.{stream-comp}
 use Rattle.host_dynamic.proofs.JobLegs.{none-sent}
 use Rattle.host_dynamic.proofs.UpAgreeing.{IsSwitched, switched-of, done-state, IsCalled, called-early, called-late}
 use Rattle.host_dynamic.proofs.UpAnswered.{Split, split}
 use Rattle.host_dynamic.proofs.UpCloses.{closes-not, closes-so, on-now, power-left}
 use Rattle.host_dynamic.proofs.UpNamed.{found-at, open-keeps, close-keeps}
 use Rattle.host_dynamic.proofs.UpOpens.{HasOpened, opens-on}
-use Rattle.host_dynamic.proofs.UpStages.{StreamPair}
+use Rattle.host_widgets.proofs.UpStages.{StreamPair}
 use Rattle.host_dynamic.proofs.UpTriggers.{in-pairs}
 use Rattle.host_widgets.specs.HostActs.{Act}
 

@@ -34,27 +34,28 @@ use Rattle.host_widgets.specs.Routines.{Finished, Sending, JobDone}
 use Rattle.host_widgets.specs.Walk.{Walked, walk, followed_by, goes_past}
 use Rattle.host_pcm.specs.Asks.{is_closed}
 use Rattle.host_pcm.specs.StreamCalls.{shut}
-use Rattle.host_dynamic.specs.DynamicActs.{unmaking_acts}
-use Rattle.host_dynamic.specs.Dynamic.{UpState, needed, cut_off, up_act_rules, without_stream, parting, staying, with_stream_shut, after_unmaking, after_closing, closing_by, closing_job}
-use Rattle.host_dynamic.specs.Need.{HasBrought}
-use Rattle.host_dynamic.specs.There.{There, there_in, ids_there_of, shown_ids}
+use Rattle.host_widgets.specs.UpActs.{unmaking_acts}
+use Rattle.host_dynamic.specs.Dynamic.{needed, without_stream, parting, staying, with_stream_shut, after_unmaking, after_closing, closing_by, closing_job}
+use Rattle.host_widgets.specs.UpState.{UpState, cut_off, up_act_rules}
+use Rattle.host_widgets.specs.Need.{HasBrought}
+use Rattle.host_widgets.specs.There.{There, there_in, ids_there_of, shown_ids}
 use Rattle.host_dynamic.specs.UpCalls.{WasCut, Unmade}
 use Rattle.host_dynamic.specs.UpDevices.{there_on}
 use Rattle.host_dynamic.specs.UpStates.{IsUpState}
 use Rattle.host_dynamic.proofs.JobLegs.{HasGone, once-done, twice-done}
-use Rattle.host_dynamic.proofs.Sublists.{filter-same, filter-both}
+use Rattle.host_widgets.proofs.Sublists.{filter-same, filter-both}
 use Rattle.host_dynamic.proofs.UpAgreeing.{IsSwitched, unmakes-loose, gone-of, cut-none, there-then}
 use Rattle.host_dynamic.proofs.UpAnswered.{Split, all-power, all-up}
 use Rattle.host_dynamic.proofs.UpAsked.{close-answered}
 use Rattle.host_dynamic.proofs.UpClosing.{parts-apart, shut-amid, gone-serves, serves}
-use Rattle.host_dynamic.proofs.UpContext.{IsServing, AreApart}
+use Rattle.host_widgets.proofs.UpContext.{IsServing, AreApart}
 use Rattle.host_dynamic.proofs.UpNeeds.{IsAsked, up-brought}
-use Rattle.host_dynamic.proofs.UpSending.{StagedFirst, EndsThere, HasSent, sent-did}
+use Rattle.host_widgets.proofs.UpSending.{StagedFirst, EndsThere, HasSent, sent-did}
 use Rattle.host_dynamic.proofs.UpShutting.{Ended, steps}
-use Rattle.host_dynamic.proofs.UpStages.{StreamPair, IsAmid, IsStage, index_of_id, up_stage}
+use Rattle.host_widgets.proofs.UpStages.{StreamPair, IsAmid, IsStage, index_of_id, up_stage}
 use Rattle.host_dynamic.proofs.UpStreams.{HasFreed}
 use Rattle.host_dynamic.proofs.UpUnmaking.{unmakes, unmakes-answered}
-use Rattle.host_dynamic.proofs.UpWalks.{HasEnded, Came, walk-runs, walk-steps}
+use Rattle.host_widgets.proofs.UpWalks.{HasEnded, Came, walk-runs, walk-steps}
 use Rattle.host_widgets.specs.HostActs.{Act}
 use Rattle.host_widgets.specs.MadeLists.{ActsPassed}
 

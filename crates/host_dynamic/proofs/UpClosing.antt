@@ -23,19 +23,20 @@ use Rattle.host_widgets.specs.IdleStreams.{idle_view}
 use Rattle.host_widgets.specs.Kept.{with_stream}
 use Rattle.host_widgets.proofs.RecordsStay.{record-less}
 use Rattle.host_pcm.specs.StreamCalls.{shut}
-use Rattle.host_dynamic.specs.Dynamic.{UpState, needed, cut_off, parting, staying, with_stream_shut, unmade}
-use Rattle.host_dynamic.specs.Need.{HasBrought, IsEnough}
-use Rattle.host_dynamic.specs.Up.{is_join_at, buffer_joins}
+use Rattle.host_dynamic.specs.Dynamic.{needed, parting, staying, with_stream_shut, unmade}
+use Rattle.host_widgets.specs.UpState.{UpState, cut_off}
+use Rattle.host_widgets.specs.Need.{HasBrought, IsEnough}
+use Rattle.host_widgets.specs.Up.{is_join_at, buffer_joins}
 use Rattle.host_dynamic.specs.UpStates.{IsThereBy, IsUpState}
-use Rattle.host_dynamic.proofs.Needs.{in-map, in-among, flat-in}
-use Rattle.host_dynamic.proofs.Sublists.{filter-append, filter-all, filter-none, once-filter, distinct-once, once-distinct}
-use Rattle.host_dynamic.proofs.StageStreams.{changed_one, zip-changed, streams-changed, other-stays}
-use Rattle.host_dynamic.proofs.UpContext.{IsServing, AreApart, join-at, ends-up}
+use Rattle.host_widgets.proofs.Needs.{in-map, in-among, flat-in}
+use Rattle.host_widgets.proofs.Sublists.{filter-append, filter-all, filter-none, once-filter, distinct-once, once-distinct}
+use Rattle.host_widgets.proofs.StageStreams.{changed_one, zip-changed, streams-changed, other-stays}
+use Rattle.host_widgets.proofs.UpContext.{IsServing, AreApart, join-at, ends-up}
 use Rattle.host_dynamic.proofs.UpNeeds.{IsAsked, needed-asked, serving}
 use Rattle.host_dynamic.proofs.UpOpening.{all-at, rests-changed, down-state, unmade-keeps}
-use Rattle.host_dynamic.proofs.UpStages.{Stage, StreamPair, stage_streams, at_stage, IsStage, index_of_id, is_join_of, up_stage, IsAmid}
+use Rattle.host_widgets.proofs.UpStages.{Stage, StreamPair, stage_streams, at_stage, IsStage, index_of_id, is_join_of, up_stage, IsAmid}
 use Rattle.host_dynamic.proofs.UpStanding.{stage-there}
-use Rattle.host_dynamic.proofs.UpWalks.{Keeps}
+use Rattle.host_widgets.proofs.UpWalks.{Keeps}
 use Rattle.host_widgets.specs.Indices.{is_up}
 
 -- ---- joins of some of these indices

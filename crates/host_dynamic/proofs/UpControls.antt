@@ -61,18 +61,19 @@ use Rattle.host_ctl.proofs.ControlsThere.{Was, lost-here, live, at-here, was-her
 use Rattle.host_ctl.proofs.PutAnswers.{control, gains-new}
 use Rattle.host_ctl.proofs.PutShows.{AreKind, there-at, elsewhere-at, all-set}
 use Rattle.host_ctl.proofs.PutStands.{put-record}
-use Rattle.host_dynamic.specs.There.{There, there_after, row_left, silent_state, by_part}
-use Rattle.host_dynamic.specs.Dynamic.{UpState, settled, plain_job, unsent, control_order}
+use Rattle.host_widgets.specs.There.{There, there_after, row_left, silent_state, by_part}
+use Rattle.host_dynamic.specs.Dynamic.{plain_job, unsent, control_order}
+use Rattle.host_widgets.specs.UpState.{UpState, settled}
 use Rattle.host_dynamic.specs.UpStates.{IsThereBy, IsUpState}
-use Rattle.host_dynamic.proofs.RowsTold.{told, left-told}
-use Rattle.host_dynamic.proofs.StageBetween.{comp-at}
-use Rattle.host_dynamic.proofs.StageJoins.{used-comp}
-use Rattle.host_dynamic.proofs.UpContext.{comp-up-by}
+use Rattle.host_widgets.proofs.RowsTold.{told, left-told}
+use Rattle.host_widgets.proofs.StageBetween.{comp-at}
+use Rattle.host_widgets.proofs.StageJoins.{used-comp}
+use Rattle.host_widgets.proofs.UpContext.{comp-up-by}
 use Rattle.host_dynamic.proofs.UpPlain.{settled-state, sends-keeps, unsent-keeps, quiet-keeps}
-use Rattle.host_dynamic.proofs.UpStages.{Stage, pipe_as, comps_left, edges_left, pipes_left, stage_graph, stage_streams, at_stage, IsStage, index_of_id, up_stage}
+use Rattle.host_widgets.proofs.UpStages.{Stage, pipe_as, comps_left, edges_left, pipes_left, stage_graph, stage_streams, at_stage, IsStage, index_of_id, up_stage}
 use Rattle.host_dynamic.proofs.UpStanding.{there-stage, stage-there}
 use Rattle.host_dynamic.proofs.UpStreams.{begun, whole}
-use Rattle.host_dynamic.proofs.UpWalks.{Keeps, Steps}
+use Rattle.host_widgets.proofs.UpWalks.{Keeps, Steps}
 use Rattle.host_widgets.specs.Indices.{is_up}
 
 -- ---- a control is changed

@@ -42,16 +42,17 @@ use Rattle.host_ctl.proofs.BlobTests.{bytes-pass, installable}
 use Rattle.host_ctl.proofs.ControlTests.{loaded, place-low, settable, set-passes}
 use Rattle.host_ctl.proofs.ControlsThere.{lost-here, live, at-here, named-here}
 use Rattle.host_widgets.specs.Named.{is_named, off_fault}
-use Rattle.host_dynamic.specs.Dynamic.{UpState, up_act_rules, plain_job, unsent, is_control_up, control_order, read_up_fault}
+use Rattle.host_dynamic.specs.Dynamic.{plain_job, unsent, is_control_up, control_order, read_up_fault}
+use Rattle.host_widgets.specs.UpState.{UpState, up_act_rules}
 use Rattle.host_dynamic.specs.UpDevices.{up_state_in}
 use Rattle.host_dynamic.specs.UpStates.{IsUpState}
 use Rattle.host_dynamic.proofs.UpAgreeing.{IsSwitched}
 use Rattle.host_dynamic.proofs.UpAsked.{trigger-answered, params-answered, put-answered, install-answered, ask-answered}
-use Rattle.host_dynamic.proofs.UpContext.{comp-up-by}
+use Rattle.host_widgets.proofs.UpContext.{comp-up-by}
 use Rattle.host_dynamic.proofs.UpNamed.{found-at}
 use Rattle.host_dynamic.proofs.UpOrders.{IsDoneSo, order-done, unsent-done}
-use Rattle.host_dynamic.proofs.UpSending.{StagedFirst}
-use Rattle.host_dynamic.proofs.UpStages.{index_of_id}
+use Rattle.host_widgets.proofs.UpSending.{StagedFirst}
+use Rattle.host_widgets.proofs.UpStages.{index_of_id}
 use Rattle.host_widgets.specs.Indices.{is_up}
 
 module _ {D : Type 0} (means : Meaning D) (plan : Plan) (sound : IsSound plan) (heap : ℕ) (kept : Record) (up : List ℕ) (w : World D) (is : IsUpState plan (up_state_in means kept up w.device)) (switched : IsSwitched kept.power (means.on w.device)) where

@@ -11,14 +11,15 @@ use Rattle.tplg_plan.specs.Sound.{IsSound}
 use Rattle.host_widgets.specs.declared.kept.Record.{Record}
 use Rattle.host_widgets.proofs.NamedIds.{few-widgets}
 use Rattle.host_pcm.specs.Asks.{is_closed}
-use Rattle.host_dynamic.specs.DynamicActs.{widgets_of}
-use Rattle.host_dynamic.specs.Dynamic.{UpState, lacking, needed, need_of_stream}
-use Rattle.host_dynamic.specs.Need.{need_in, is_needed}
+use Rattle.host_widgets.specs.UpActs.{widgets_of}
+use Rattle.host_dynamic.specs.Dynamic.{lacking, needed, need_of_stream}
+use Rattle.host_widgets.specs.UpState.{UpState}
+use Rattle.host_widgets.specs.Need.{need_in, is_needed}
 use Rattle.host_dynamic.specs.UpStates.{IsUpState}
-use Rattle.host_dynamic.proofs.Needs.{among-in, in-among, in-either, flat-in}
+use Rattle.host_widgets.proofs.Needs.{among-in, in-among, in-either, flat-in}
 use Rattle.host_dynamic.proofs.NotedOnce.{few-once, need-indices, few-widgets-of}
-use Rattle.host_dynamic.proofs.Sublists.{AreOnce, once-append, once-filter, distinct-once}
-use Rattle.host_dynamic.proofs.UpStages.{StreamPair}
+use Rattle.host_widgets.proofs.Sublists.{AreOnce, once-append, once-filter, distinct-once}
+use Rattle.host_widgets.proofs.UpStages.{StreamPair}
 use Rattle.host_widgets.specs.Indices.{pipe_indices}
 
 module _ (plan : Plan) (sound : IsSound plan) where

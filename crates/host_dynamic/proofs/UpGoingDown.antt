@@ -42,18 +42,19 @@ use Rattle.host_widgets.proofs.StreamFits.{trigger-fits}
 use Rattle.host_widgets.proofs.StreamPlaces.{streams-ascend}
 use Rattle.host_pm.specs.InTurn.{Behind, InTurn, WentDown}
 use Rattle.host_pm.proofs.GoingDown.{AreDown, going-down}
-use Rattle.host_dynamic.specs.Dynamic.{UpState, plain_job, up_own, up_act_rules}
-use Rattle.host_dynamic.specs.There.{nowhere, there_in}
+use Rattle.host_dynamic.specs.Dynamic.{plain_job}
+use Rattle.host_widgets.specs.UpState.{UpState, up_own, up_act_rules}
+use Rattle.host_widgets.specs.There.{nowhere, there_in}
 use Rattle.host_dynamic.specs.UpDevices.{there_on, up_state_in}
 use Rattle.host_dynamic.specs.UpStates.{IsUpState}
-use Rattle.host_dynamic.proofs.HostStreams.{in-zip}
-use Rattle.host_dynamic.proofs.StageMakes.{zip-ascends}
-use Rattle.host_dynamic.proofs.StageStreams.{changed_one, zip-changed}
+use Rattle.host_widgets.proofs.HostStreams.{in-zip}
+use Rattle.host_widgets.proofs.StageMakes.{zip-ascends}
+use Rattle.host_widgets.proofs.StageStreams.{changed_one, zip-changed}
 use Rattle.host_dynamic.proofs.UpAnswers.{own-save, own-trigger}
-use Rattle.host_dynamic.proofs.UpExchanges.{ticks-there, IsOwn, before, Left, IsMet, act-met}
-use Rattle.host_dynamic.proofs.UpStages.{StreamPair}
+use Rattle.host_widgets.proofs.UpExchanges.{ticks-there, IsOwn, before, Left, IsMet, act-met}
+use Rattle.host_widgets.proofs.UpStages.{StreamPair}
 use Rattle.host_dynamic.proofs.UpTriggers.{triggered-state}
-use Rattle.host_dynamic.proofs.UpWalks.{passed-free}
+use Rattle.host_widgets.proofs.UpWalks.{passed-free}
 use Rattle.host_widgets.specs.ActMessages.{act_message}
 
 module _ (plan : Plan) where

@@ -19,14 +19,15 @@ use Rattle.host_widgets.proofs.Joined.{edge_with}
 use Rattle.host_widgets.proofs.PutsTaken.{comp_while}
 use Rattle.host_widgets.proofs.Records.{closed-record}
 use Rattle.host_pcm.specs.Asks.{is_closed}
-use Rattle.host_dynamic.specs.There.{booted}
-use Rattle.host_dynamic.specs.Dynamic.{UpState, first_state, needed}
+use Rattle.host_widgets.specs.There.{booted}
+use Rattle.host_dynamic.specs.Dynamic.{needed}
+use Rattle.host_widgets.specs.UpState.{UpState, first_state}
 use Rattle.host_dynamic.specs.UpStates.{IsThereBy, IsUpState}
-use Rattle.host_dynamic.proofs.HostStreams.{in-zip}
-use Rattle.host_dynamic.proofs.Sublists.{filter-none}
+use Rattle.host_widgets.proofs.HostStreams.{in-zip}
+use Rattle.host_widgets.proofs.Sublists.{filter-none}
 use Rattle.host_dynamic.proofs.UpNeeds.{IsAsked, needed-asked}
 use Rattle.host_dynamic.proofs.UpOpening.{mapped-in}
-use Rattle.host_dynamic.proofs.UpStages.{pipe_as, IsStage, up_stage}
+use Rattle.host_widgets.proofs.UpStages.{pipe_as, IsStage, up_stage}
 use Rattle.host_dynamic.proofs.UpStanding.{stage-there}
 
 -- nothing passes a test that none passes

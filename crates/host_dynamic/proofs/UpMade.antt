@@ -37,18 +37,18 @@ use Rattle.host_widgets.specs.Controls.{control_of}
 use Rattle.host_widgets.specs.Host.{Outcome, verdict}
 use Rattle.host_widgets.specs.HostActs.{Act, Make, Join, Put, Part, Finish, Prepare, Trig, Free, Save, Ask, Unmake}
 use Rattle.host_widgets.specs.Kept.{controls_of}
-use Rattle.host_dynamic.specs.DynamicActs.{widgets_at, widgets_of, making_acts, pipe_ids, unmaking_acts}
-use Rattle.host_dynamic.specs.There.{There, there_in, silent_state, by_part, there_after, ids_there, ids_there_of, shown_ids}
-use Rattle.host_dynamic.specs.Dynamic.{UpState, up_own, up_act_rules}
-use Rattle.host_dynamic.specs.Up.{buffer_joins}
-use Rattle.host_dynamic.proofs.Needs.{among-in, in-among, in-either, flat-in}
-use Rattle.host_dynamic.proofs.RowsTold.{told}
-use Rattle.host_dynamic.proofs.Sublists.{filter-same}
-use Rattle.host_dynamic.proofs.UpContext.{AreApart}
-use Rattle.host_dynamic.proofs.UpExchanges.{SaysSo, IsOwn}
+use Rattle.host_widgets.specs.UpActs.{widgets_at, widgets_of, making_acts, pipe_ids, unmaking_acts}
+use Rattle.host_widgets.specs.There.{There, there_in, silent_state, by_part, there_after, ids_there, ids_there_of, shown_ids}
+use Rattle.host_widgets.specs.UpState.{UpState, up_own, up_act_rules}
+use Rattle.host_widgets.specs.Up.{buffer_joins}
+use Rattle.host_widgets.proofs.Needs.{among-in, in-among, in-either, flat-in}
+use Rattle.host_widgets.proofs.RowsTold.{told}
+use Rattle.host_widgets.proofs.Sublists.{filter-same}
+use Rattle.host_widgets.proofs.UpContext.{AreApart}
+use Rattle.host_widgets.proofs.UpExchanges.{SaysSo, IsOwn}
 use Rattle.host_dynamic.proofs.UpOpening.{mapped-in}
-use Rattle.host_dynamic.proofs.UpSending.{Staged, AreAnswered, after_all, AreFree}
-use Rattle.host_dynamic.proofs.UpStages.{index_of_id}
+use Rattle.host_widgets.proofs.UpSending.{Staged, AreAnswered, after_all, AreFree}
+use Rattle.host_widgets.proofs.UpStages.{index_of_id}
 use Rattle.host_widgets.specs.Groups.{is_control_of, finish_ids}
 use Rattle.host_widgets.specs.MadeLists.{ActsPassed, widget_made}
 

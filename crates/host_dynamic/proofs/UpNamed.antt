@@ -31,18 +31,19 @@ use Rattle.host_pcm.specs.StreamOrders.{asking_order, stream_order}
 use Rattle.host_pcm.proofs.HostTests.{Found_place, found_place}
 use Rattle.host_pcm.proofs.StreamCalls.{ranges}
 use Rattle.host_ctl.proofs.ControlTests.{loaded}
-use Rattle.host_dynamic.specs.Dynamic.{UpState, up_act_rules, plain_job, lacking, opening_by, opening_job, closing_by, closing_job}
+use Rattle.host_dynamic.specs.Dynamic.{plain_job, lacking, opening_by, opening_job, closing_by, closing_job}
+use Rattle.host_widgets.specs.UpState.{UpState, up_act_rules}
 use Rattle.host_dynamic.specs.UpStates.{IsUpState}
-use Rattle.host_dynamic.proofs.HostStreams.{IsHostKind, stream-comp}
-use Rattle.host_dynamic.proofs.StageMakes.{zip-ascends}
+use Rattle.host_widgets.proofs.HostStreams.{IsHostKind, stream-comp}
+use Rattle.host_widgets.proofs.StageMakes.{zip-ascends}
 use Rattle.host_dynamic.proofs.UpNeeds.{closed-none}
 use Rattle.host_dynamic.proofs.UpOpening.{opening-keeps, opening-off}
 use Rattle.host_dynamic.proofs.UpPlain.{settled-state, sends-keeps}
 use Rattle.host_dynamic.proofs.UpPreparing.{prepared-state}
 use Rattle.host_dynamic.proofs.UpShutting.{closing-keeps, closing-off}
-use Rattle.host_dynamic.proofs.UpStages.{StreamPair}
+use Rattle.host_widgets.proofs.UpStages.{StreamPair}
 use Rattle.host_dynamic.proofs.UpTriggers.{one-pair, may-be, trigger-keeps}
-use Rattle.host_dynamic.proofs.UpWalks.{Keeps}
+use Rattle.host_widgets.proofs.UpWalks.{Keeps}
 
 -- the stream at a place goes with the record there
 zip-at : (ss : List StreamPlan) (rs : List StreamRec) (k : ℕ) → k < length ss → length rs ≡ length ss → IsIn (get_or ss k no_stream, get_or rs k closed) (zip ss rs)

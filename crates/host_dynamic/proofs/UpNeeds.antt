@@ -23,14 +23,14 @@ use Rattle.host_widgets.specs.Expected.{stream_view, phase_of}
 use Rattle.host_widgets.specs.Host.{IsRecordOf}
 use Rattle.host_widgets.specs.IdleStreams.{idle_view}
 use Rattle.host_pcm.specs.Asks.{is_closed}
-use Rattle.host_dynamic.specs.Need.{HasAt, end_index, is_joined_to, HasBrought, IsEnough, need_in, IsPiped}
+use Rattle.host_widgets.specs.Need.{HasAt, end_index, is_joined_to, HasBrought, IsEnough, need_in, IsPiped}
 use Rattle.host_dynamic.specs.Dynamic.{need_of_stream, needed, lacking}
-use Rattle.host_dynamic.proofs.Needs.{in-flat, flat-in, among-in, in-among, in-map, has-at, host-on, enough}
-use Rattle.host_dynamic.proofs.Between.{found-member, comp-named, named-up}
-use Rattle.host_dynamic.proofs.HostStreams.{stream-comp, in-zip}
-use Rattle.host_dynamic.proofs.StageStays.{pass-each}
-use Rattle.host_dynamic.proofs.UpContext.{IsServing, among-both}
-use Rattle.host_dynamic.proofs.UpStages.{StreamPair}
+use Rattle.host_widgets.proofs.Needs.{in-flat, flat-in, among-in, in-among, in-map, has-at, host-on, enough}
+use Rattle.host_widgets.proofs.Between.{found-member, comp-named, named-up}
+use Rattle.host_widgets.proofs.HostStreams.{stream-comp, in-zip}
+use Rattle.host_widgets.proofs.StageStays.{pass-each}
+use Rattle.host_widgets.proofs.UpContext.{IsServing, among-both}
+use Rattle.host_widgets.proofs.UpStages.{StreamPair}
 use Rattle.host_widgets.specs.Indices.{index_at, pipe_indices, is_up}
 
 -- ---- records of streams

@@ -29,21 +29,22 @@ use Rattle.host_widgets.proofs.Records.{down-record, down-rests}
 use Rattle.host_widgets.proofs.RecordsStay.{AllAt, record-less}
 use Rattle.host_pcm.specs.Asks.{is_closed}
 use Rattle.host_pcm.specs.StreamCalls.{opened_stream}
-use Rattle.host_dynamic.specs.DynamicActs.{making_acts, unmaking_acts}
-use Rattle.host_dynamic.specs.There.{There, ids_there_of}
-use Rattle.host_dynamic.specs.Dynamic.{UpState, needed, lacking, cut_off, up_act_rules, with_stream_open, after_unmaking, unmade, after_making, opening_by}
-use Rattle.host_dynamic.specs.Need.{need_in, is_needed}
+use Rattle.host_widgets.specs.UpActs.{making_acts, unmaking_acts}
+use Rattle.host_widgets.specs.There.{There, ids_there_of}
+use Rattle.host_dynamic.specs.Dynamic.{needed, lacking, with_stream_open, after_unmaking, unmade, after_making, opening_by}
+use Rattle.host_widgets.specs.UpState.{UpState, cut_off, up_act_rules}
+use Rattle.host_widgets.specs.Need.{need_in, is_needed}
 use Rattle.host_dynamic.specs.UpStates.{IsThere, IsThereBy, IsUpState}
-use Rattle.host_dynamic.proofs.Needs.{in-map, in-among}
-use Rattle.host_dynamic.proofs.Sublists.{AreOnce, once-filter, once-append, distinct-once, once-distinct}
-use Rattle.host_dynamic.proofs.UpContext.{IsServing, AreApart, among-both}
-use Rattle.host_dynamic.proofs.UpMaking.{IsMaking, makes-up}
+use Rattle.host_widgets.proofs.Needs.{in-map, in-among}
+use Rattle.host_widgets.proofs.Sublists.{AreOnce, once-filter, once-append, distinct-once, once-distinct}
+use Rattle.host_widgets.proofs.UpContext.{IsServing, AreApart, among-both}
+use Rattle.host_widgets.proofs.UpMaking.{IsMaking, makes-up}
 use Rattle.host_dynamic.proofs.UpNeeds.{IsAsked, needed-asked, asked-needed, serving, lacking-need, need-in-both, both-brought}
-use Rattle.host_dynamic.proofs.UpStages.{Stage, StreamPair, stage_streams, at_stage, IsStage, up_stage, IsAmid}
-use Rattle.host_dynamic.proofs.StageStreams.{changed_one, zip-changed}
+use Rattle.host_widgets.proofs.UpStages.{Stage, StreamPair, stage_streams, at_stage, IsStage, up_stage, IsAmid}
+use Rattle.host_widgets.proofs.StageStreams.{changed_one, zip-changed}
 use Rattle.host_dynamic.proofs.UpStanding.{there-stage, stage-there}
 use Rattle.host_dynamic.proofs.UpUnmaking.{unmakes}
-use Rattle.host_dynamic.proofs.UpWalks.{with_there, Runs, Met, HasEnded, walk-runs, Keeps}
+use Rattle.host_widgets.proofs.UpWalks.{with_there, Runs, Met, HasEnded, walk-runs, Keeps}
 use Rattle.host_widgets.specs.HostActs.{Act}
 use Rattle.host_widgets.specs.Indices.{pipe_indices}
 

@@ -22,25 +22,26 @@ use Rattle.host_widgets.specs.Host.{Outcome}
 use Rattle.host_widgets.specs.Kept.{went_down}
 use Rattle.host_widgets.specs.Routines.{Finished, Sending, JobDone}
 use Rattle.host_widgets.specs.Walk.{Walked, walk, first_of}
-use Rattle.host_dynamic.specs.DynamicActs.{making_acts, unmaking_acts}
-use Rattle.host_dynamic.specs.Dynamic.{UpState, lacking, cut_off, up_act_rules, with_stream_open, after_unmaking, after_making, opening_by, opening_job}
-use Rattle.host_dynamic.specs.Need.{need_in, is_needed}
-use Rattle.host_dynamic.specs.There.{There, there_in, ids_there_of}
+use Rattle.host_widgets.specs.UpActs.{making_acts, unmaking_acts}
+use Rattle.host_dynamic.specs.Dynamic.{lacking, with_stream_open, after_unmaking, after_making, opening_by, opening_job}
+use Rattle.host_widgets.specs.UpState.{UpState, cut_off, up_act_rules}
+use Rattle.host_widgets.specs.Need.{need_in, is_needed}
+use Rattle.host_widgets.specs.There.{There, there_in, ids_there_of}
 use Rattle.host_dynamic.specs.UpCalls.{WasCut, Unmade, AfterMaking, MadeOrCut}
 use Rattle.host_dynamic.specs.UpDevices.{there_on}
 use Rattle.host_dynamic.specs.UpStates.{IsThere, IsThereBy, IsUpState}
 use Rattle.host_dynamic.proofs.JobLegs.{HasGone, once-done, twice-done}
-use Rattle.host_dynamic.proofs.Sublists.{AreOnce, once-filter, distinct-once}
+use Rattle.host_widgets.proofs.Sublists.{AreOnce, once-filter, distinct-once}
 use Rattle.host_dynamic.proofs.UpAgreeing.{IsSwitched, unmakes-loose, gone-of, cut-none, there-then}
-use Rattle.host_dynamic.proofs.UpContext.{IsServing, AreApart}
+use Rattle.host_widgets.proofs.UpContext.{IsServing, AreApart}
 use Rattle.host_dynamic.proofs.UpMade.{unmakes-same, passed-begins}
-use Rattle.host_dynamic.proofs.UpMaking.{IsMaking, makes-up, makes-answered, making-loose}
+use Rattle.host_widgets.proofs.UpMaking.{IsMaking, makes-up, makes-answered, making-loose}
 use Rattle.host_dynamic.proofs.UpNeeds.{serving, lacking-need, both-brought}
-use Rattle.host_dynamic.proofs.UpSending.{AreAnswered, EndsThere, HasSent, sent-did}
-use Rattle.host_dynamic.proofs.UpStages.{IsStage, up_stage}
+use Rattle.host_widgets.proofs.UpSending.{AreAnswered, EndsThere, HasSent, sent-did}
+use Rattle.host_widgets.proofs.UpStages.{IsStage, up_stage}
 use Rattle.host_dynamic.proofs.UpStanding.{there-stage}
 use Rattle.host_dynamic.proofs.UpUnmaking.{unmakes, unmakes-answered}
-use Rattle.host_dynamic.proofs.UpWalks.{with_there, Runs, HasEnded, Met, walk-runs}
+use Rattle.host_widgets.proofs.UpWalks.{with_there, Runs, HasEnded, Met, walk-runs}
 use Rattle.host_widgets.specs.HostActs.{Act}
 use Rattle.host_widgets.specs.MadeLists.{ActsPassed, widget_made}
 use Rattle.host_widgets.specs.Indices.{pipe_indices}

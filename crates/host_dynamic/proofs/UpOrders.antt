@@ -15,14 +15,15 @@ use Rattle.host_widgets.specs.Host.{Outcome}
 use Rattle.host_widgets.specs.HostActs.{Act}
 use Rattle.host_widgets.specs.Orders.{Procedure, Plain, plain_end, sends}
 use Rattle.host_widgets.specs.Routines.{Routine, Finished, JobDone}
-use Rattle.host_dynamic.specs.Dynamic.{UpState, there_by, settled, up_act_rules, plain_job, unsent}
-use Rattle.host_dynamic.specs.There.{there_in}
+use Rattle.host_dynamic.specs.Dynamic.{plain_job, unsent}
+use Rattle.host_widgets.specs.UpState.{UpState, there_by, settled, up_act_rules}
+use Rattle.host_widgets.specs.There.{there_in}
 use Rattle.host_dynamic.specs.UpDevices.{there_on, up_state_in}
 use Rattle.host_dynamic.specs.UpStates.{IsThereBy, IsUpState}
 use Rattle.host_dynamic.proofs.JobLegs.{HasGone, once-done}
 use Rattle.host_dynamic.proofs.UpAgreeing.{IsSwitched, cut-none}
 use Rattle.host_dynamic.proofs.UpAnswered.{Split, split, all-power, sends-job}
-use Rattle.host_dynamic.proofs.UpSending.{StagedFirst, AreAnswered, EndsThere, HasSent, after_all, sent-did}
+use Rattle.host_widgets.proofs.UpSending.{StagedFirst, AreAnswered, EndsThere, HasSent, after_all, sent-did}
 
 -- the job of an order was done, and the device is on then where the power is
 pub record IsDoneSo {D : Type 0} (means : Meaning D) (plan : Plan) (heap : ℕ) (up : List ℕ) (o : Procedure) (kept kept' : Record) (w v : World D) (result : Outcome) : Type 0 where

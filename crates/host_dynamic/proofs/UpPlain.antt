@@ -14,10 +14,11 @@ use Rattle.host_widgets.specs.HostActs.{Act}
 use Rattle.host_widgets.specs.Orders.{plain_end, quiet, sends}
 use Rattle.host_widgets.specs.Routines.{Finished, Sending}
 use Rattle.host_widgets.specs.Walk.{walk}
-use Rattle.host_dynamic.specs.Dynamic.{UpState, there_by, settled, up_act_rules, plain_job, unsent}
+use Rattle.host_dynamic.specs.Dynamic.{plain_job, unsent}
+use Rattle.host_widgets.specs.UpState.{UpState, there_by, settled, up_act_rules}
 use Rattle.host_dynamic.specs.UpStates.{IsThereBy, IsUpState}
 use Rattle.host_dynamic.proofs.UpOpening.{down-state}
-use Rattle.host_dynamic.proofs.UpWalks.{Keeps, Steps, Came, walk-steps}
+use Rattle.host_widgets.proofs.UpWalks.{Keeps, Steps, Came, walk-steps}
 
 module _ (plan : Plan) (sound : IsSound plan) where
   -- what is there by the power of its record is there

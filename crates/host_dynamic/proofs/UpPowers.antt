@@ -17,9 +17,10 @@ use Rattle.host_pm.specs.PowerTests.{resume_fault}
 use Rattle.host_widgets.specs.Host.{Outcome}
 use Rattle.host_widgets.specs.Kept.{first_record, with_power}
 use Rattle.host_widgets.specs.Orders.{fault_of_load, unload_fault, where_on}
-use Rattle.host_dynamic.specs.DynamicActs.{making_acts}
-use Rattle.host_dynamic.specs.Dynamic.{UpState, first_state, loading_job, unloading_job, resuming_job}
-use Rattle.host_dynamic.specs.There.{booted}
+use Rattle.host_widgets.specs.UpActs.{making_acts}
+use Rattle.host_dynamic.specs.Dynamic.{loading_job, unloading_job, resuming_job}
+use Rattle.host_widgets.specs.UpState.{UpState, first_state}
+use Rattle.host_widgets.specs.There.{booted}
 use Rattle.host_dynamic.specs.UpDevices.{there_on, up_state_in, UpAgrees}
 use Rattle.host_dynamic.specs.UpStates.{IsUpState}
 use Rattle.host_dynamic.proofs.UpAgreeing.{IsSwitched, done-state, IsCalled, called-late}

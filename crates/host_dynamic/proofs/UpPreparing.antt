@@ -35,24 +35,24 @@ use Rattle.host_widgets.proofs.RecordsStay.{AllAt, record-with}
 use Rattle.host_widgets.proofs.StreamAnswers.{rests}
 use Rattle.host_widgets.proofs.StreamRows.{agrees}
 use Rattle.host_pcm.specs.Asks.{is_closed}
-use Rattle.host_dynamic.specs.There.{There, there_in, there_after, silent_state}
-use Rattle.host_dynamic.specs.Dynamic.{UpState, up_own, up_act_rules}
-use Rattle.host_dynamic.specs.Need.{IsEnough}
+use Rattle.host_widgets.specs.There.{There, there_in, there_after, silent_state}
+use Rattle.host_widgets.specs.UpState.{UpState, up_own, up_act_rules}
+use Rattle.host_widgets.specs.Need.{IsEnough}
 use Rattle.host_dynamic.specs.UpStates.{IsThereBy, IsUpState}
-use Rattle.host_dynamic.proofs.HostStreams.{IsHostKind, stream-comp, in-zip}
-use Rattle.host_dynamic.proofs.RowsThere.{row-told}
-use Rattle.host_dynamic.proofs.RowsTold.{told}
-use Rattle.host_dynamic.proofs.StagePrepares.{up-placed, up-amid, one-of-host, prepare-told, prepare-is}
-use Rattle.host_dynamic.proofs.StageStreams.{changed_one, zip-changed, other-stays}
-use Rattle.host_dynamic.proofs.UpContext.{IsServing}
-use Rattle.host_dynamic.proofs.UpExchanges.{SaysSo, IsOwn}
+use Rattle.host_widgets.proofs.HostStreams.{IsHostKind, stream-comp, in-zip}
+use Rattle.host_widgets.proofs.RowsThere.{row-told}
+use Rattle.host_widgets.proofs.RowsTold.{told}
+use Rattle.host_widgets.proofs.StagePrepares.{up-placed, up-amid, one-of-host, prepare-told, prepare-is}
+use Rattle.host_widgets.proofs.StageStreams.{changed_one, zip-changed, other-stays}
+use Rattle.host_widgets.proofs.UpContext.{IsServing}
+use Rattle.host_widgets.proofs.UpExchanges.{SaysSo, IsOwn}
 use Rattle.host_dynamic.proofs.UpNeeds.{serving, stream-enough}
 use Rattle.host_dynamic.proofs.UpOpening.{all-at}
 use Rattle.host_dynamic.proofs.UpTriggers.{pairs-at}
-use Rattle.host_dynamic.proofs.UpStages.{StreamPair, at_stage, IsStage, up_stage}
+use Rattle.host_widgets.proofs.UpStages.{StreamPair, at_stage, IsStage, up_stage}
 use Rattle.host_dynamic.proofs.UpStanding.{there-stage, stage-there}
 use Rattle.host_dynamic.proofs.UpStreams.{changed-state}
-use Rattle.host_dynamic.proofs.UpWalks.{Steps}
+use Rattle.host_widgets.proofs.UpWalks.{Steps}
 
 -- what takes parameters is not closed
 takes-open : (found : Found) → takes_params found ≡ true → is_closed found ≡ false

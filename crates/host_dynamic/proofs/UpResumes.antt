@@ -20,16 +20,17 @@ use Rattle.host_widgets.specs.HostActs.{Act}
 use Rattle.host_widgets.specs.Kept.{with_power}
 use Rattle.host_widgets.specs.Routines.{JobDone}
 use Rattle.host_widgets.specs.Walk.{Walked, walk}
-use Rattle.host_dynamic.specs.DynamicActs.{making_acts}
-use Rattle.host_dynamic.specs.Dynamic.{UpState, up_act_rules, after_resuming, resuming_job}
-use Rattle.host_dynamic.specs.There.{booted}
+use Rattle.host_widgets.specs.UpActs.{making_acts}
+use Rattle.host_dynamic.specs.Dynamic.{after_resuming, resuming_job}
+use Rattle.host_widgets.specs.UpState.{UpState, up_act_rules}
+use Rattle.host_widgets.specs.There.{booted}
 use Rattle.host_dynamic.specs.UpDevices.{there_on}
 use Rattle.host_dynamic.specs.UpStates.{IsThereBy, IsUpState}
 use Rattle.host_dynamic.proofs.JobLegs.{HasGone, once-done}
 use Rattle.host_dynamic.proofs.UpAgreeing.{IsSwitched, gone-of, cut-none, there-then}
 use Rattle.host_dynamic.proofs.UpResuming.{AnyThere, real, Ready, all-runs, resuming-answered, resuming-loose}
-use Rattle.host_dynamic.proofs.UpSending.{EndsThere, HasSent, sent-did}
-use Rattle.host_dynamic.proofs.UpWalks.{HasEnded, walk-runs}
+use Rattle.host_widgets.proofs.UpSending.{EndsThere, HasSent, sent-did}
+use Rattle.host_widgets.proofs.UpWalks.{HasEnded, walk-runs}
 use Rattle.host_widgets.proofs.MadeSent.{sent-listed}
 
 module _ {D : Type 0} (means : Meaning D) (plan : Plan) (sound : IsSound plan) (heap : ℕ) (s : UpState) (is : IsUpState plan s) (off : s.kept.power ≡ powers.Off) where

@@ -53,30 +53,31 @@ use Rattle.tplg_plan.specs.declared.plans.ControlKind.{ControlKind}
 use Rattle.tplg_plan.specs.declared.plans.ControlKind.TheVariants as kinds
 use Rattle.host_widgets.specs.declared.kept.ControlRec.{ControlRec}
 use Rattle.host_pcm.specs.Asks.{is_closed}
-use Rattle.host_dynamic.specs.DynamicActs.{widgets_of, making_acts}
-use Rattle.host_dynamic.specs.There.{There, there_in, there_after, silent_state, booted}
-use Rattle.host_dynamic.specs.Dynamic.{UpState, up_own, up_act_rules, after_resuming, resuming_job}
-use Rattle.host_dynamic.specs.Need.{HasAt, end_index, is_joined_to, HasBrought, IsEnough}
-use Rattle.host_dynamic.specs.Up.{buffer_joins}
+use Rattle.host_widgets.specs.UpActs.{widgets_of, making_acts}
+use Rattle.host_widgets.specs.There.{There, there_in, there_after, silent_state, booted}
+use Rattle.host_dynamic.specs.Dynamic.{after_resuming, resuming_job}
+use Rattle.host_widgets.specs.UpState.{UpState, up_own, up_act_rules}
+use Rattle.host_widgets.specs.Need.{HasAt, end_index, is_joined_to, HasBrought, IsEnough}
+use Rattle.host_widgets.specs.Up.{buffer_joins}
 use Rattle.host_dynamic.specs.UpStates.{IsThereBy, IsUpState}
-use Rattle.host_dynamic.proofs.Needs.{in-left, in-right, in-either, in-map}
-use Rattle.host_dynamic.proofs.Between.{IsBetween}
-use Rattle.host_dynamic.proofs.HostStreams.{IsHostKind, stream-comp, in-zip}
-use Rattle.host_dynamic.proofs.StageBetween.{stage-between}
-use Rattle.host_dynamic.proofs.StageMakes.{zip-ascends}
-use Rattle.host_dynamic.proofs.RowsTold.{told}
-use Rattle.host_dynamic.proofs.StagePrepares.{up-placed, up-amid, own-found, one-of-host, none-one, host-has, prepare-row, prepare-row-told}
-use Rattle.host_dynamic.proofs.StageStays.{all-pass, pass-each, from-map, streams-agree}
-use Rattle.host_dynamic.proofs.Sublists.{filter-append, AreOnce, distinct-once}
-use Rattle.host_dynamic.proofs.UpContext.{IsServing, AreApart}
+use Rattle.host_widgets.proofs.Needs.{in-left, in-right, in-either, in-map}
+use Rattle.host_widgets.proofs.Between.{IsBetween}
+use Rattle.host_widgets.proofs.HostStreams.{IsHostKind, stream-comp, in-zip}
+use Rattle.host_widgets.proofs.StageBetween.{stage-between}
+use Rattle.host_widgets.proofs.StageMakes.{zip-ascends}
+use Rattle.host_widgets.proofs.RowsTold.{told}
+use Rattle.host_widgets.proofs.StagePrepares.{up-placed, up-amid, own-found, one-of-host, none-one, host-has, prepare-row, prepare-row-told}
+use Rattle.host_widgets.proofs.StageStays.{all-pass, pass-each, from-map, streams-agree}
+use Rattle.host_widgets.proofs.Sublists.{filter-append, AreOnce, distinct-once}
+use Rattle.host_widgets.proofs.UpContext.{IsServing, AreApart}
 use Rattle.host_dynamic.proofs.UpLoading.{empty-stage}
-use Rattle.host_dynamic.proofs.UpExchanges.{SaysSo, IsOwn, own-told}
-use Rattle.host_dynamic.proofs.UpMaking.{IsMaking, makes-up, makes-answered, making-loose}
+use Rattle.host_widgets.proofs.UpExchanges.{SaysSo, IsOwn, own-told}
+use Rattle.host_widgets.proofs.UpMaking.{IsMaking, makes-up, makes-answered, making-loose}
 use Rattle.host_dynamic.proofs.UpNeeds.{serving, stream-enough, up-brought}
-use Rattle.host_dynamic.proofs.UpStages.{Stage, StreamPair, stage_graph, stage_streams, IsHeapAt, at_stage, IsStage, up_stage, IsAmid}
+use Rattle.host_widgets.proofs.UpStages.{Stage, StreamPair, stage_graph, stage_streams, IsHeapAt, at_stage, IsStage, up_stage, IsAmid}
 use Rattle.host_dynamic.proofs.UpStanding.{stage-there}
-use Rattle.host_dynamic.proofs.UpSending.{StagedFirst, AreAnswered}
-use Rattle.host_dynamic.proofs.UpWalks.{Runs, runs-on, Met, walk-runs, Keeps}
+use Rattle.host_widgets.proofs.UpSending.{StagedFirst, AreAnswered}
+use Rattle.host_widgets.proofs.UpWalks.{Runs, runs-on, Met, walk-runs, Keeps}
 use Rattle.host_widgets.specs.ActMessages.{act_message}
 use Rattle.host_widgets.specs.Groups.{is_control_of, finish_ids}
 use Rattle.host_widgets.specs.Indices.{index_at}

@@ -26,17 +26,18 @@ use Rattle.host_widgets.specs.StreamStands.{takes_trigger}
 use Rattle.host_widgets.specs.Walk.{walk}
 use Rattle.host_pcm.specs.Asks.{is_closed}
 use Rattle.host_pcm.specs.StreamCalls.{shut}
-use Rattle.host_dynamic.specs.Dynamic.{UpState, up_act_rules, cut_off, after_closing, closing_by}
-use Rattle.host_dynamic.specs.Need.{need_in}
+use Rattle.host_dynamic.specs.Dynamic.{after_closing, closing_by}
+use Rattle.host_widgets.specs.UpState.{UpState, up_act_rules, cut_off}
+use Rattle.host_widgets.specs.Need.{need_in}
 use Rattle.host_dynamic.specs.UpStates.{IsThereBy, IsUpState}
-use Rattle.host_dynamic.proofs.StageStreams.{changed_one, zip-changed}
+use Rattle.host_widgets.proofs.StageStreams.{changed_one, zip-changed}
 use Rattle.host_dynamic.proofs.UpClosing.{shut-off}
 use Rattle.host_dynamic.proofs.UpNeeds.{IsAsked, asked-needed, up-brought}
 use Rattle.host_dynamic.proofs.UpOpening.{mapped-in, down-state}
-use Rattle.host_dynamic.proofs.UpStages.{StreamPair}
+use Rattle.host_widgets.proofs.UpStages.{StreamPair}
 use Rattle.host_dynamic.proofs.UpStreams.{HasFreed, freed-keeps, begun, freed-so}
 use Rattle.host_dynamic.proofs.UpTriggers.{one-pair, may-be, triggered, triggered-state, triggered-pair, stands-then}
-use Rattle.host_dynamic.proofs.UpWalks.{Keeps, Steps, Came, walk-steps}
+use Rattle.host_widgets.proofs.UpWalks.{Keeps, Steps, Came, walk-steps}
 
 module _ (plan : Plan) (sound : IsSound plan) (s : UpState) (is : IsUpState plan s) (host : ℕ) where
   -- what the other streams need is up

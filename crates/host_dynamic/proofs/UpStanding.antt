@@ -23,16 +23,16 @@ use Rattle.host_widgets.specs.ViewOf.{set_comp}
 use Rattle.host_widgets.proofs.Joined.{edge_with}
 use Rattle.host_widgets.proofs.LookedUp.{map-all}
 use Rattle.host_widgets.proofs.NamedIds.{each-comp, each-edge, each-pipe, pipeline-found}
-use Rattle.host_dynamic.specs.Dynamic.{UpState}
-use Rattle.host_dynamic.specs.There.{There}
-use Rattle.host_dynamic.specs.Up.{is_join_at, buffer_joins, is_host_up, up_view}
+use Rattle.host_widgets.specs.UpState.{UpState}
+use Rattle.host_widgets.specs.There.{There}
+use Rattle.host_widgets.specs.Up.{is_join_at, buffer_joins, is_host_up, up_view}
 use Rattle.host_dynamic.specs.UpStates.{IsThere}
-use Rattle.host_dynamic.proofs.Needs.{flat-in, in-flat, among-in}
-use Rattle.host_dynamic.proofs.HostStreams.{stream-comp}
-use Rattle.host_dynamic.proofs.StageBetween.{comp-index, edge-index, edge-full}
-use Rattle.host_dynamic.proofs.Sublists.{filter-same, filter-map, maps-all}
-use Rattle.host_dynamic.proofs.UpContext.{own-index, comp-up-by}
-use Rattle.host_dynamic.proofs.UpStages.{Stage, StreamPair, pipe_as, comps_left, edges_left, pipes_left, stage_graph, stage_streams, IsStage, up_stage}
+use Rattle.host_widgets.proofs.Needs.{flat-in, in-flat, among-in}
+use Rattle.host_widgets.proofs.HostStreams.{stream-comp}
+use Rattle.host_widgets.proofs.StageBetween.{comp-index, edge-index, edge-full}
+use Rattle.host_widgets.proofs.Sublists.{filter-same, filter-map, maps-all}
+use Rattle.host_widgets.proofs.UpContext.{own-index, comp-up-by}
+use Rattle.host_widgets.proofs.UpStages.{Stage, StreamPair, pipe_as, comps_left, edges_left, pipes_left, stage_graph, stage_streams, IsStage, up_stage}
 use Rattle.host_widgets.specs.Indices.{join_index}
 
 module _ (plan : Plan) (sound : IsSound plan) (kept : Record) (up : List ℕ) where

@@ -24,22 +24,23 @@ use Rattle.host_widgets.proofs.LookedUp.{found-map}
 use Rattle.host_widgets.proofs.RecordsStay.{record-less}
 use Rattle.host_pcm.specs.Asks.{is_closed}
 use Rattle.host_pcm.specs.StreamCalls.{shut}
-use Rattle.host_dynamic.specs.There.{There, there_after}
-use Rattle.host_dynamic.specs.Dynamic.{UpState, up_act_rules, parting, with_stream_shut, unmade}
-use Rattle.host_dynamic.specs.Need.{HasBrought, need_in}
-use Rattle.host_dynamic.specs.Up.{is_join_at, buffer_joins}
+use Rattle.host_widgets.specs.There.{There, there_after}
+use Rattle.host_dynamic.specs.Dynamic.{parting, with_stream_shut, unmade}
+use Rattle.host_widgets.specs.UpState.{UpState, up_act_rules}
+use Rattle.host_widgets.specs.Need.{HasBrought, need_in}
+use Rattle.host_widgets.specs.Up.{is_join_at, buffer_joins}
 use Rattle.host_dynamic.specs.UpStates.{IsThereBy, IsUpState}
-use Rattle.host_dynamic.proofs.Needs.{in-map, flat-in, has-at, host-on}
-use Rattle.host_dynamic.proofs.Between.{comp-named}
-use Rattle.host_dynamic.proofs.HostStreams.{stream-comp}
-use Rattle.host_dynamic.proofs.StageBetween.{comp-index}
-use Rattle.host_dynamic.proofs.StageStreams.{changed_one, zip-changed, free-is}
+use Rattle.host_widgets.proofs.Needs.{in-map, flat-in, has-at, host-on}
+use Rattle.host_widgets.proofs.Between.{comp-named}
+use Rattle.host_widgets.proofs.HostStreams.{stream-comp}
+use Rattle.host_widgets.proofs.StageBetween.{comp-index}
+use Rattle.host_widgets.proofs.StageStreams.{changed_one, zip-changed, free-is}
 use Rattle.host_dynamic.proofs.UpNeeds.{IsAsked, needed-asked, asked-needed, stream-enough}
 use Rattle.host_dynamic.proofs.UpOpening.{mapped-in, all-at}
 use Rattle.host_dynamic.proofs.UpClosing.{parts-keep}
-use Rattle.host_dynamic.proofs.UpStages.{StreamPair, at_stage, IsStage, up_stage, index_of_id}
+use Rattle.host_widgets.proofs.UpStages.{StreamPair, at_stage, IsStage, up_stage, index_of_id}
 use Rattle.host_dynamic.proofs.UpStanding.{there-stage}
-use Rattle.host_dynamic.proofs.UpWalks.{Keeps}
+use Rattle.host_widgets.proofs.UpWalks.{Keeps}
 use Rattle.host_widgets.specs.Indices.{index_at}
 
 module _ (plan : Plan) (sound : IsSound plan) (u : UpState) (is : IsUpState plan u) (host : ℕ) (f : StreamRec → StreamRec)

@@ -23,7 +23,8 @@ use Rattle.host_ctl.specs.ControlPlaces.{control_place, control_here}
 use Rattle.host_ctl.proofs.ControlTests.{place-low}
 use Rattle.host_ctl.proofs.ControlsThere.{live, named-here}
 use Rattle.host_ctl.proofs.PutShows.{found-set}
-use Rattle.host_dynamic.specs.Dynamic.{UpState, is_control_up}
+use Rattle.host_dynamic.specs.Dynamic.{is_control_up}
+use Rattle.host_widgets.specs.UpState.{UpState}
 use Rattle.host_dynamic.specs.UpDevices.{there_on, up_state_in}
 use Rattle.host_dynamic.specs.UpStates.{IsUpState}
 use Rattle.host_dynamic.proofs.UpAgreeing.{IsSwitched}

@@ -26,18 +26,19 @@ use Rattle.host_widgets.proofs.RecordsStay.{AllAt, may, Less, record-less}
 use Rattle.host_widgets.proofs.StreamPlaces.{streams-ascend}
 use Rattle.host_widgets.proofs.TakenActs.{trigger-may}
 use Rattle.host_pcm.specs.Asks.{is_closed}
-use Rattle.host_dynamic.specs.There.{there_after}
-use Rattle.host_dynamic.specs.Dynamic.{UpState, up_act_rules, plain_job}
+use Rattle.host_widgets.specs.There.{there_after}
+use Rattle.host_dynamic.specs.Dynamic.{plain_job}
+use Rattle.host_widgets.specs.UpState.{UpState, up_act_rules}
 use Rattle.host_dynamic.specs.UpStates.{IsThereBy, IsUpState}
-use Rattle.host_dynamic.proofs.HostStreams.{in-zip}
-use Rattle.host_dynamic.proofs.StageMakes.{zip-ascends}
-use Rattle.host_dynamic.proofs.StageStays.{pass-each}
-use Rattle.host_dynamic.proofs.StageStreams.{changed_one, zip-changed, trigger-is}
+use Rattle.host_widgets.proofs.HostStreams.{in-zip}
+use Rattle.host_widgets.proofs.StageMakes.{zip-ascends}
+use Rattle.host_widgets.proofs.StageStays.{pass-each}
+use Rattle.host_widgets.proofs.StageStreams.{changed_one, zip-changed, trigger-is}
 use Rattle.host_dynamic.proofs.UpPlain.{settled-state, sends-keeps}
-use Rattle.host_dynamic.proofs.UpStages.{StreamPair, at_stage, IsStage, up_stage}
+use Rattle.host_widgets.proofs.UpStages.{StreamPair, at_stage, IsStage, up_stage}
 use Rattle.host_dynamic.proofs.UpStanding.{stage-there}
 use Rattle.host_dynamic.proofs.UpStreams.{changed-state, changed-found, begun, has, whole}
-use Rattle.host_dynamic.proofs.UpWalks.{Keeps}
+use Rattle.host_widgets.proofs.UpWalks.{Keeps}
 
 -- what is so of the record of each stream of a host is so at the host
 pub pairs-at : (So : StreamRec → Type 0) (host : ℕ) (ss : List StreamPlan) (rs : List StreamRec) → ((q : StreamPair) → IsIn q (zip ss rs) → (q.0.host == host) ≡ true → So q.1) → AllAt So host ss rs

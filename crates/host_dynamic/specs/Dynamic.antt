@@ -1,12 +1,9 @@
 -- What commands come to where pipelines are made when a stream that needs them is opened, and unmade once no stream does.
 use Rattle.std.specs.Prelude.{ℕ, List, [], ◌∷◌, ◌++◌, filter, Bool, true, false, not, Option, Some, None, Ok, Err, if◌then◌else◌}
-use Rattle.std.specs.List.{zip, flat_map, list_any}
+use Rattle.std.specs.List.{zip, flat_map}
 use Rattle.std.specs.Option.{option_map_or, option_or}
-use Rattle.sof_base.specs.Holes.{rounded, fits}
-use Rattle.sof_base.specs.declared.errno.Errno.{Errno}
 use Rattle.stream_law.specs.Past.{Boot, Cut}
 use Rattle.stream_law.specs.Order.{is_among}
-use Rattle.mbox_link.specs.Step.{no_memory, invalid}
 use Rattle.tplg_plan.specs.declared.plans.Plan.{Plan}
 use Rattle.tplg_plan.specs.declared.plans.StreamPlan.{StreamPlan}
 use Rattle.tplg_plan.specs.declared.plans.ControlPlan.{ControlPlan}
@@ -19,64 +16,19 @@ use Rattle.host_widgets.specs.declared.kept.Found.{Found}
 use Rattle.host_widgets.specs.declared.kept.StreamRec.{StreamRec}
 use Rattle.host_widgets.specs.declared.kept.Record.{Record}
 use Rattle.host_widgets.specs.ActLists.{close_by, prepare_acts}
-use Rattle.host_widgets.specs.Expected.{stated_bytes}
-use Rattle.host_widgets.specs.Host.{Outcome, errno, conflicts}
-use Rattle.host_widgets.specs.HostActs.{Make, Prepare, after, Act, fresh_in}
-use Rattle.host_widgets.specs.Kept.{first_record, with_power, went_down, with_stream}
-use Rattle.host_widgets.specs.ActRules.{ActRules}
+use Rattle.host_widgets.specs.Host.{Outcome}
+use Rattle.host_widgets.specs.HostActs.{after, Act}
+use Rattle.host_widgets.specs.Kept.{with_power, with_stream}
 use Rattle.host_widgets.specs.Orders.{Procedure, goes_on_after_refusal, end_by, where_on}
 use Rattle.host_widgets.specs.Routines.{Routine, Finished, Sending, Job}
+use Rattle.host_widgets.specs.UpState.{UpState, first_state, settled, cut_off}
 use Rattle.host_pcm.specs.Asks.{is_closed}
 use Rattle.host_pcm.specs.StreamCalls.{opened_stream, shut}
 use Rattle.host_ctl.specs.ControlAsks.{named_control, read_fault}
-use Rattle.host_dynamic.specs.Need.{need_in}
-use Rattle.host_dynamic.specs.DynamicActs.{making_acts, unmaking_acts}
-use Rattle.host_dynamic.specs.There.{There, there_view, there_after, booted, nowhere, ids_there_of}
+use Rattle.host_widgets.specs.Need.{need_in}
+use Rattle.host_widgets.specs.UpActs.{making_acts, unmaking_acts}
+use Rattle.host_widgets.specs.There.{booted, ids_there_of}
 use Rattle.host_widgets.specs.Indices.{is_up}
-use Rattle.host_widgets.specs.ActMessages.{act_message}
-
--- ---- what is kept
-
--- the host's record; the indices that are up, in the order in which they were made; and what is there in the firmware
-pub record UpState : Type 0 where
-  pub kept : Record
-  pub up : List ℕ
-  pub there : There
-
--- before the first command
-abbrev pub first_state : Plan → UpState
-first_state plan = record { kept = first_record plan; up = []; there = nowhere }
-
--- while the power is not on, nothing is there
-abbrev pub there_by : Power → There → There
-there_by powers.On t = t
-there_by power t = nowhere
-
--- with another record
-abbrev pub settled : Record → UpState → UpState
-settled kept s = record { kept = kept; up = s.up; there = there_by kept.power s.there }
-
--- the device was cut, and no stream moves
-abbrev pub cut_off : UpState → UpState
-cut_off s = settled (went_down s.kept) s
-
--- ---- one message
-
--- The firmware itself refuses a widget exactly where no hole holds its rounded size, and parameters that do not agree with those of
--- another stream.
-abbrev pub up_own : Plan → UpState → Act → Option Errno
-up_own plan s (Make id) = if fits (rounded (stated_bytes plan id)) s.there.heap.holes then None else Some (errno no_memory)
-up_own plan s (Prepare host p) = if list_any (conflicts plan host p) (zip plan.streams s.kept.streams) then Some (errno invalid) else None
-up_own plan s act = None
-
-abbrev pub up_act_rules : Plan → ActRules UpState Act
-up_act_rules plan = record {
-  own = up_own plan;
-  after = λ act s. record { kept = after plan act s.kept; up = s.up; there = there_after plan act s.there };
-  view = λ s. there_view s.there;
-  fresh = fresh_in plan;
-  message = act_message plan;
-}
 
 -- ---- commands that neither make nor unmake
 

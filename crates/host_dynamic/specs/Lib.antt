@@ -1,7 +1,3 @@
-pub mod Need
-pub mod Up
-pub mod DynamicActs
-pub mod There
 pub mod Dynamic
 pub mod Parts
 pub mod UpStates

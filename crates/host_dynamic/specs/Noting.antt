@@ -5,7 +5,7 @@ use Rattle.stream_law.specs.declared.graph.Join.{Join}
 use Rattle.stream_law.specs.declared.graph.Graph.{Graph}
 use Rattle.stream_law.specs.Order.{is_among}
 use Rattle.stream_law.specs.Ways.{components, buffers, reaches}
-use Rattle.host_dynamic.specs.Need.{IsPiped}
+use Rattle.host_widgets.specs.Need.{IsPiped}
 
 -- the ids of a join are below the most that a plan has
 abbrev pub IsLowJoin : Join → Type 0

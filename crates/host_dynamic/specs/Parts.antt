@@ -9,8 +9,8 @@ use Rattle.tplg_plan.specs.Sound.{IsSound}
 use Rattle.host_widgets.specs.declared.kept.Record.{Record}
 use Rattle.host_widgets.specs.declared.kept.StreamRec.{StreamRec}
 use Rattle.host_widgets.specs.ViewOf.{record_view}
-use Rattle.host_dynamic.specs.Need.{HasBrought, IsEnough}
-use Rattle.host_dynamic.specs.Up.{is_host_up, graph_of_up, up_view}
+use Rattle.host_widgets.specs.Need.{HasBrought, IsEnough}
+use Rattle.host_widgets.specs.Up.{is_host_up, graph_of_up, up_view}
 use Rattle.host_widgets.specs.Indices.{is_up}
 
 -- ---- a part

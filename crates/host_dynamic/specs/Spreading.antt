@@ -11,7 +11,7 @@ use Rattle.stream_law.specs.Order.{is_among}
 use Rattle.tplg_plan.specs.declared.plans.StreamPlan.{StreamPlan}
 use Rattle.host_widgets.specs.declared.kept.StreamRec.{StreamRec}
 use Rattle.host_pcm.specs.Asks.{is_closed}
-use Rattle.host_dynamic.specs.Need.{end_index, HasAt, HasBrought}
+use Rattle.host_widgets.specs.Need.{end_index, HasAt, HasBrought}
 use Rattle.host_dynamic.specs.Noting.{led_to, is_unwalked, walk_to, with_index}
 use Rattle.host_widgets.specs.Indices.{index_at, pipe_indices}
 

@@ -11,7 +11,7 @@ use Rattle.host_widgets.specs.ActCalls.{calls_of}
 use Rattle.host_widgets.specs.Host.{Outcome}
 use Rattle.host_widgets.specs.Kept.{went_down}
 use Rattle.host_widgets.specs.Walk.{first_of}
-use Rattle.host_dynamic.specs.DynamicActs.{making_acts, unmaking_acts}
+use Rattle.host_widgets.specs.UpActs.{making_acts, unmaking_acts}
 use Rattle.host_widgets.specs.HostActs.{Act}
 use Rattle.host_widgets.specs.MadeLists.{ActsPassed, MadeListed}
 

@@ -5,9 +5,9 @@ use Rattle.mbox_link.specs.Calls.{Meaning}
 use Rattle.tplg_plan.specs.declared.plans.Plan.{Plan}
 use Rattle.host_widgets.specs.declared.kept.Record.{Record}
 use Rattle.host_widgets.specs.Host.{AgreesBy}
-use Rattle.host_dynamic.specs.Dynamic.{UpState}
-use Rattle.host_dynamic.specs.There.{There, there_in, nowhere}
-use Rattle.host_dynamic.specs.Up.{up_view}
+use Rattle.host_widgets.specs.UpState.{UpState}
+use Rattle.host_widgets.specs.There.{There, there_in, nowhere}
+use Rattle.host_widgets.specs.Up.{up_view}
 
 -- what is there in a device, and nothing in one that is off
 abbrev pub there_on : Option FwState → There

@@ -11,9 +11,10 @@ use Rattle.host_widgets.specs.declared.kept.Power.TheVariants.{Unloaded, On, Off
 use Rattle.host_widgets.specs.Expected.{stated_bytes, phase_of}
 use Rattle.host_widgets.specs.Host.{IsRecordOf}
 use Rattle.host_widgets.specs.Kept.{first_record}
-use Rattle.host_dynamic.specs.Up.{up_view}
-use Rattle.host_dynamic.specs.There.{there_view, ids_there, nowhere, shown_ids}
-use Rattle.host_dynamic.specs.Dynamic.{UpState, needed}
+use Rattle.host_widgets.specs.Up.{up_view}
+use Rattle.host_widgets.specs.There.{there_view, ids_there, nowhere, shown_ids}
+use Rattle.host_dynamic.specs.Dynamic.{needed}
+use Rattle.host_widgets.specs.UpState.{UpState}
 
 -- what is there is what is up, and each widget of it, and no other, has a piece of its rounded size
 pub record IsThere (plan : Plan) (s : UpState) : Type 0 where

@@ -1,5 +1,5 @@
 // What the definitions entail. Nothing runs here.
-ghost use Rattle.host_dynamic.specs.Need.{NeedIsLeast};
+ghost use Rattle.host_widgets.specs.Need.{NeedIsLeast};
 ghost use Rattle.host_dynamic.specs.Parts.{EchoesStay, PartShowsUp, TouchesStay, WaysStay};
 
 /// What a stream needs is the least set of indices that is enough for it.

@@ -10,8 +10,8 @@ ghost use Rattle.host_widgets.specs.ActCarried.{ActsSent};
 ghost use Rattle.host_widgets.specs.ActMessages.{act_message};
 ghost use Rattle.host_widgets.specs.Host.{AreControls};
 ghost use Rattle.host_widgets.specs.MadeLists.{ActsPassed, MadeListed};
-ghost use Rattle.host_dynamic.specs.DynamicActs as law;
-ghost use Rattle.host_dynamic.specs.Up as up;
+ghost use Rattle.host_widgets.specs.UpActs as law;
+ghost use Rattle.host_widgets.specs.Up as up;
 
 use crate::ids::{comp_of, edge_of};
 use crate::making::{joins_at, unmade_order, widgets_at};

@@ -6,10 +6,10 @@ ghost use Rattle.host_widgets.specs.Acts.{widget_words};
 ghost use Rattle.tplg_plan.specs.Sound.{IsSound};
 ghost use Rattle.host_dynamic.specs.Dynamic.{is_control_up};
 ghost use Rattle.host_dynamic.specs.JoinEnds.{ends_joins};
-ghost use Rattle.host_dynamic.specs.DynamicActs as law;
+ghost use Rattle.host_widgets.specs.UpActs as law;
 ghost use Rattle.host_widgets.specs.Groups.{finish_ids};
 ghost use Rattle.host_widgets.specs.Indices.{join_index};
-ghost use Rattle.host_dynamic.specs.Up as up;
+ghost use Rattle.host_widgets.specs.Up as up;
 
 use crate::ids::{edge_of, keep, list_buffers, list_comps};
 use arrayvec::ArrayVec;

@@ -5,7 +5,7 @@ ghost use Rattle.stream_law.specs.Ways.{is_capture as captures, is_of, splits};
 ghost use Rattle.stream_law.specs.Order.{is_among};
 ghost use Rattle.tplg_plan.specs.Sound.{IsSound};
 ghost use Rattle.host_widgets.specs.Indices as indices;
-ghost use Rattle.host_dynamic.specs.Need as need;
+ghost use Rattle.host_widgets.specs.Need as need;
 ghost use Rattle.host_dynamic.specs.Noting as law;
 ghost use Rattle.host_dynamic.specs.Spreading as spreading;
 

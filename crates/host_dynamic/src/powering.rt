@@ -10,8 +10,9 @@ ghost use Rattle.host_widgets.specs.Host.{IsRecordOf};
 ghost use Rattle.host_widgets.specs.Orders.{fault_of_load, unload_fault};
 ghost use Rattle.host_widgets.specs.Routines.{JobTested};
 ghost use Rattle.host_pm.specs.PowerTests.{resume_fault};
-ghost use Rattle.host_dynamic.specs.DynamicActs.{widgets_of, making_acts};
-ghost use Rattle.host_dynamic.specs.Dynamic.{up_act_rules, loading_job, unloading_job, resuming_job};
+ghost use Rattle.host_widgets.specs.UpActs.{widgets_of, making_acts};
+ghost use Rattle.host_dynamic.specs.Dynamic.{loading_job, unloading_job, resuming_job};
+ghost use Rattle.host_widgets.specs.UpState.{up_act_rules};
 ghost use Rattle.host_dynamic.specs.UpDevices.{UpAgrees, up_state_in};
 ghost use Rattle.host_dynamic.specs.UpStates.{IsUpState};
 

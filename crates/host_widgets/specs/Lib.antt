@@ -30,3 +30,8 @@ pub mod NeedLaws
 pub mod Indices
 pub mod Groups
 pub mod MadeLists
+pub mod Need
+pub mod Up
+pub mod UpActs
+pub mod There
+pub mod UpState

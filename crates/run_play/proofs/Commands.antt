@@ -17,7 +17,7 @@ use Rattle.sof_script.specs.declared.script.Command.{Command}
 use Rattle.sof_script.specs.declared.script.Command.TheVariants as commands
 use Rattle.sof_script.specs.declared.script.Numbered.{Numbered}
 use Rattle.host_widgets.specs.declared.kept.Record.{Record}
-use Rattle.host_dynamic.specs.Dynamic.{UpState}
+use Rattle.host_widgets.specs.UpState.{UpState}
 use Rattle.tplg_plan.specs.declared.plans.Plan.{Plan}
 use Rattle.sof_session.specs.Commands.{Known, command_rules}
 use Rattle.sof_session.specs.Agreement.{AreAgreed}

@@ -19,7 +19,7 @@ use Rattle.host_widgets.specs.declared.kept.Record.{Record}
 use Rattle.host_widgets.specs.Kept.{controls_of}
 use Rattle.host_widgets.proofs.NamedIds.{few-widgets}
 use Rattle.host_widgets.specs.Acts.{widget_ids, widget_words}
-use Rattle.host_dynamic.specs.There.{shown_ids}
+use Rattle.host_widgets.specs.There.{shown_ids}
 use Rattle.sof_session.specs.Modes.{lines_in}
 use Rattle.sof_session.specs.Show as show
 use Rattle.sof_session.specs.StateLines as state_lines

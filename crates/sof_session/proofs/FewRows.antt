@@ -25,7 +25,7 @@ use Rattle.ipc3_model.specs.declared.message.Message.{Message}
 use Rattle.ipc3_model.specs.declared.message.Message.TheVariants as messages
 use Rattle.ipc3_model.specs.Meanings.{IsAllowed}
 use Rattle.mbox_link.specs.Step.{no_memory, busy, no_device, invalid, has_comp, has_edge, is_used, has_index, kind_at, has_kind, comp_bytes, buffer_bytes, pipe_bytes, has_hole, is_complete, kind_of, first_setting, first_ramp, with_host_stream, with_comp, with_buffer, with_pipe, with_pipes, is_joined, is_refused_join, completed, complete_pipe, has_complete_pipe, touches, without_comp, is_held, without_edge, without_buffer, is_index_held, without_pipe, free_pipe, new_setting, with_setting_at, value_set, control_values_at, staging_at, keeps_order, staged_bytes, with_staged, blob_installed, part_staged, part_at, is_host, goes, is_way_ready, is_rate, phase_at, set_stream, with_params, is_stream_phase, is_refused_params, set_phase, is_prepared, is_paused, stream_changed, row}
-use Rattle.host_dynamic.specs.There.{There, there_in, row_left, silent_state}
+use Rattle.host_widgets.specs.There.{There, there_in, row_left, silent_state}
 use Rattle.sof_session.proofs.CommandMoves.{AreFew}
 
 -- ---- lists

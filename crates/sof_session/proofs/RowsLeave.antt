@@ -20,7 +20,7 @@ use Rattle.stream_law.proofs.Keyed.{keys-remade, list_any-keys, find-keyless}
 use Rattle.ipc3_model.specs.declared.message.Message.{Message}
 use Rattle.ipc3_model.specs.declared.message.Message.TheVariants as messages
 use Rattle.mbox_link.specs.Step.{no_memory, busy, no_device, invalid, has_comp, has_edge, has_pipe, is_used, has_index, comp_bytes, buffer_bytes, pipe_bytes, has_hole, is_complete, kind_of, first_setting, first_ramp, with_comp, with_buffer, with_pipe, with_pipes, is_joined, is_refused_join, completed, complete_pipe, has_complete_pipe, touches, without_comp, is_held, without_edge, without_buffer, is_index_held, without_pipe, free_pipe, control_values_at, part_at, row}
-use Rattle.host_dynamic.proofs.Sublists.{filter-map}
+use Rattle.host_widgets.proofs.Sublists.{filter-map}
 use Rattle.sof_session.proofs.LiveViews.{LeavesLife}
 
 -- ---- lists

@@ -30,15 +30,15 @@ use Rattle.host_widgets.proofs.ControlLists.{Pair}
 use Rattle.host_widgets.proofs.NamedIds.{component-found}
 use Rattle.host_widgets.proofs.PutsTaken.{comp_while}
 use Rattle.host_widgets.proofs.ReadyWays.{comp-set, ways-set}
-use Rattle.host_dynamic.specs.Need.{HasAt, IsEnough}
-use Rattle.host_dynamic.proofs.Needs.{has-at}
-use Rattle.host_dynamic.proofs.Between.{IsBetween, comp-named, edge-named}
-use Rattle.host_dynamic.proofs.BetweenWays.{way-stays}
-use Rattle.host_dynamic.proofs.HostStreams.{stream-comp, in-zip}
-use Rattle.host_dynamic.proofs.StageBetween.{comp-index, comp-at, stage-between}
-use Rattle.host_dynamic.proofs.StageStays.{pass-each, from-map}
-use Rattle.host_dynamic.proofs.UpContext.{IsServing, comp-up-by}
-use Rattle.host_dynamic.proofs.UpStages.{Stage, StreamPair, stage_graph, stage_streams, index_of_id, IsAmid}
+use Rattle.host_widgets.specs.Need.{HasAt, IsEnough}
+use Rattle.host_widgets.proofs.Needs.{has-at}
+use Rattle.host_widgets.proofs.Between.{IsBetween, comp-named, edge-named}
+use Rattle.host_widgets.proofs.BetweenWays.{way-stays}
+use Rattle.host_widgets.proofs.HostStreams.{stream-comp, in-zip}
+use Rattle.host_widgets.proofs.StageBetween.{comp-index, comp-at, stage-between}
+use Rattle.host_widgets.proofs.StageStays.{pass-each, from-map}
+use Rattle.host_widgets.proofs.UpContext.{IsServing, comp-up-by}
+use Rattle.host_widgets.proofs.UpStages.{Stage, StreamPair, stage_graph, stage_streams, index_of_id, IsAmid}
 use Rattle.sof_session.proofs.LiveViews.{SameLife}
 use Rattle.host_widgets.specs.Indices.{index_at, is_up}
 

@@ -30,13 +30,13 @@ use Rattle.host_widgets.specs.declared.kept.StreamRec.{StreamRec}
 use Rattle.host_widgets.specs.Expected.{stream_view, phase_of}
 use Rattle.host_widgets.specs.HostRecord.{may_have}
 use Rattle.host_widgets.proofs.NamedIds.{buffer-found}
-use Rattle.host_dynamic.proofs.Needs.{in-among, among-in}
-use Rattle.host_dynamic.proofs.Between.{IsBetween, member-found, found-member, join-into, join-outof}
-use Rattle.host_dynamic.proofs.HostStreams.{stream-comp, in-zip}
-use Rattle.host_dynamic.proofs.StageBetween.{mapped, comp-at, at-edge, stage-between}
-use Rattle.host_dynamic.proofs.StageReady.{way-ready}
-use Rattle.host_dynamic.proofs.StageStays.{AreHeldUp, pass-each, from-map}
-use Rattle.host_dynamic.proofs.UpStages.{Stage, StreamPair, stage_graph, stage_streams, IsAmid}
+use Rattle.host_widgets.proofs.Needs.{in-among, among-in}
+use Rattle.host_widgets.proofs.Between.{IsBetween, member-found, found-member, join-into, join-outof}
+use Rattle.host_widgets.proofs.HostStreams.{stream-comp, in-zip}
+use Rattle.host_widgets.proofs.StageBetween.{mapped, comp-at, at-edge, stage-between}
+use Rattle.host_widgets.proofs.StageReady.{way-ready}
+use Rattle.host_widgets.proofs.StageStays.{AreHeldUp, pass-each, from-map}
+use Rattle.host_widgets.proofs.UpStages.{Stage, StreamPair, stage_graph, stage_streams, IsAmid}
 
 -- the end of an edge is that of one that is there
 edge-with : (pick : Edge → Option ℕ) (m : Graph) (b a : ℕ) → option_and_then pick (edge_of m b) ≡ Some a → (e : Edge) × (edge_of m b ≡ Some e) × (pick e ≡ Some a)

@@ -27,7 +27,8 @@ use Rattle.host_pcm.specs.declared.asking.Ask.TheVariants.{Preparing, Triggering
 use Rattle.host_pcm.specs.StreamOrders.{stream_order}
 use Rattle.host_ctl.specs.ControlAsks.{channels_of, spread, named_control}
 use Rattle.host_ctl.specs.ControlOrders.{setting_order, set_order, installing_order, bytes_order, control_answer, ask_acts, named_at, reading_order}
-use Rattle.host_dynamic.specs.Dynamic.{UpState, up_act_rules, plain_job, unsent, is_control_up, after_unmaking, after_making, opening_by, after_closing, closing_by, after_resuming, with_stream_shut}
+use Rattle.host_dynamic.specs.Dynamic.{plain_job, unsent, is_control_up, after_unmaking, after_making, opening_by, after_closing, closing_by, after_resuming, with_stream_shut}
+use Rattle.host_widgets.specs.UpState.{UpState, up_act_rules}
 use Rattle.sof_script.specs.declared.script.Command.{Command}
 use Rattle.sof_script.specs.declared.script.Command.TheVariants as commands
 use Rattle.sof_session.specs.Commands.{is_tick, order_of}

@@ -13,11 +13,11 @@ use Rattle.mbox_link.proofs.Led.{Led-one}
 use Rattle.host_widgets.specs.declared.kept.Power.{Power}
 use Rattle.host_widgets.specs.declared.kept.Power.TheVariants.{Unloaded, On, Off}
 use Rattle.host_widgets.specs.Host.{Sides, SidesBy}
-use Rattle.host_dynamic.specs.There.{There}
-use Rattle.host_dynamic.specs.Up.{up_view}
+use Rattle.host_widgets.specs.There.{There}
+use Rattle.host_widgets.specs.Up.{up_view}
 use Rattle.host_dynamic.specs.UpDevices.{there_on}
 use Rattle.host_dynamic.specs.UpStates.{IsUpState}
-use Rattle.host_dynamic.proofs.UpExchanges.{ticks-there}
+use Rattle.host_widgets.proofs.UpExchanges.{ticks-there}
 use Rattle.sof_session.specs.Agreement.{AreAgreed, Powered, expected_in}
 use Rattle.sof_session.specs.SessionView.{SessionView}
 use Rattle.sof_session.proofs.Agreement.{at, AgreeAtLoad, at-load, from-load, calls-kept, seat_with, kept-by, agreed-with}

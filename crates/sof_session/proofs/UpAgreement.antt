@@ -5,7 +5,7 @@ use Rattle.std.proofs.lemmas.Bool.{false≢true}
 use Rattle.mbox_link.specs.Calls.{Meaning}
 use Rattle.tplg_plan.specs.Sound.{IsSound}
 use Rattle.host_widgets.specs.Host.{AgreesBy}
-use Rattle.host_dynamic.specs.Up.{up_view}
+use Rattle.host_widgets.specs.Up.{up_view}
 use Rattle.host_dynamic.specs.UpDevices.{up_state_in}
 use Rattle.host_dynamic.specs.UpStates.{IsUpState}
 use Rattle.sof_session.specs.Agreement.{AreAgreed, IsFated, PoweredBy, expected_in}

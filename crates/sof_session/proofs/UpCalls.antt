@@ -32,8 +32,9 @@ use Rattle.host_pm.specs.InTurn.{WentDown}
 use Rattle.host_ctl.specs.ControlAsks.{named_control, name_fault, set_fault, bytes_fault, get_fault, read_fault}
 use Rattle.host_ctl.specs.ControlAnswers.{IsSetFor}
 use Rattle.host_ctl.specs.ControlOrders.{set_order, bytes_order, get_order, read_order, control_told, named_at, KeptAlone}
-use Rattle.host_dynamic.specs.Dynamic.{UpState, up_act_rules, plain_job, unsent, is_control_up, control_order}
-use Rattle.host_dynamic.specs.Up.{up_view}
+use Rattle.host_dynamic.specs.Dynamic.{plain_job, unsent, is_control_up, control_order}
+use Rattle.host_widgets.specs.UpState.{UpState, up_act_rules}
+use Rattle.host_widgets.specs.Up.{up_view}
 use Rattle.host_dynamic.specs.UpDevices.{up_state_in, UpAgrees}
 use Rattle.host_dynamic.specs.UpStates.{IsUpState}
 use Rattle.host_dynamic.proofs.UpAgreeing.{IsSwitched, agrees-of, switched-of, done-state, early-tested}

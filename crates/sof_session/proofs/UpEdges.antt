@@ -37,8 +37,8 @@ use Rattle.host_widgets.specs.HostActs.{Make, Join, Put, Part, Finish, Prepare, 
 use Rattle.host_widgets.specs.Controls.{control_of}
 use Rattle.host_widgets.specs.Kept.{first_record}
 use Rattle.host_widgets.proofs.NamedIds.{buffer-found}
-use Rattle.host_dynamic.specs.There.{There, there_view, silent_state, row_left, by_part, there_after}
-use Rattle.host_dynamic.proofs.Sublists.{all-filter, all-placed}
+use Rattle.host_widgets.specs.There.{There, there_view, silent_state, row_left, by_part, there_after}
+use Rattle.host_widgets.proofs.Sublists.{all-filter, all-placed}
 use Rattle.sof_session.specs.RunLaws.{HasRanks}
 use Rattle.sof_session.proofs.RankedRuns.{record-ranks}
 

@@ -28,13 +28,14 @@ use Rattle.host_widgets.specs.Orders.{Procedure}
 use Rattle.host_widgets.specs.Routines.{Routine}
 use Rattle.host_widgets.specs.Walk.{walk}
 use Rattle.host_widgets.proofs.FewJoins.{few-brought}
-use Rattle.host_dynamic.specs.DynamicActs.{widgets_of, making_acts, pipe_ids, unmade_order, unmaking_acts}
-use Rattle.host_dynamic.specs.Dynamic.{UpState, up_act_rules, plain_job, lacking, after_unmaking, unmade, after_making, opening_by, after_closing, closing_by, after_resuming, resuming_job, control_order, is_control_up, unsent, with_stream_shut, parting}
-use Rattle.host_dynamic.specs.There.{ids_there_of}
-use Rattle.host_dynamic.specs.Need.{is_needed, need_in}
-use Rattle.host_dynamic.specs.Up.{is_join_at, buffer_joins}
+use Rattle.host_widgets.specs.UpActs.{widgets_of, making_acts, pipe_ids, unmade_order, unmaking_acts}
+use Rattle.host_dynamic.specs.Dynamic.{plain_job, lacking, after_unmaking, unmade, after_making, opening_by, after_closing, closing_by, after_resuming, resuming_job, control_order, is_control_up, unsent, with_stream_shut, parting}
+use Rattle.host_widgets.specs.UpState.{UpState, up_act_rules}
+use Rattle.host_widgets.specs.There.{ids_there_of}
+use Rattle.host_widgets.specs.Need.{is_needed, need_in}
+use Rattle.host_widgets.specs.Up.{is_join_at, buffer_joins}
 use Rattle.host_dynamic.specs.UpStates.{IsUpState}
-use Rattle.host_dynamic.proofs.Sublists.{AreOnce, once-filter, distinct-once}
+use Rattle.host_widgets.proofs.Sublists.{AreOnce, once-filter, distinct-once}
 use Rattle.sof_script.specs.declared.script.Command.{Command}
 use Rattle.sof_script.specs.declared.script.Command.TheVariants as commands
 use Rattle.sof_session.specs.CommandRanges.{most_sent}

@@ -9,7 +9,7 @@ use Rattle.host_widgets.specs.declared.answers.HostFault.{HostFault}
 use Rattle.host_widgets.specs.declared.kept.Record.{Record}
 use Rattle.host_widgets.specs.Host.{Outcome}
 use Rattle.host_widgets.specs.Routines.{JobTested}
-use Rattle.host_dynamic.specs.Dynamic.{UpState, up_act_rules}
+use Rattle.host_widgets.specs.UpState.{UpState, up_act_rules}
 use Rattle.host_dynamic.specs.UpDevices.{up_state_in, UpAgrees}
 use Rattle.host_dynamic.specs.UpStates.{IsUpState}
 use Rattle.sof_script.specs.declared.script.Command.{Command}

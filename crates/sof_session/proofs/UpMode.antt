@@ -10,7 +10,7 @@ use Rattle.tplg_plan.specs.declared.plans.Plan.{Plan}
 use Rattle.tplg_plan.specs.Sound.{IsSound}
 use Rattle.host_widgets.specs.declared.answers.Answer.{Answer}
 use Rattle.host_widgets.specs.Kept.{first_record}
-use Rattle.host_dynamic.specs.Dynamic.{UpState, first_state}
+use Rattle.host_widgets.specs.UpState.{UpState, first_state}
 use Rattle.host_dynamic.specs.UpDevices.{there_on}
 use Rattle.host_dynamic.specs.UpStates.{IsUpState}
 use Rattle.host_dynamic.proofs.UpLoading.{first-is}

@@ -5,7 +5,7 @@ use Rattle.stream_law.specs.StreamLaws.{AreRanked}
 use Rattle.stream_law.proofs.OnePast.{leads_same}
 use Rattle.mbox_link.specs.Meetings.{Doing}
 use Rattle.tplg_plan.specs.Sound.{IsSound}
-use Rattle.host_dynamic.specs.Dynamic.{UpState}
+use Rattle.host_widgets.specs.UpState.{UpState}
 use Rattle.sof_script.specs.declared.script.Command.{Command}
 use Rattle.sof_session.specs.Commands.{Known}
 use Rattle.sof_session.specs.RunLaws.{HasRanks, UpRunIsOne}

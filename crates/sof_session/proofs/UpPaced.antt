@@ -53,15 +53,16 @@ use Rattle.host_pcm.specs.StreamCalls.{host_at}
 use Rattle.host_pcm.specs.StreamOrders.{asking_order, stream_order}
 use Rattle.host_ctl.specs.ControlAsks.{named_control}
 use Rattle.host_ctl.specs.ControlOrders.{setting_order, installing_order, reading_order, ask_acts, named_at}
-use Rattle.host_dynamic.specs.DynamicActs.{widgets_at, widgets_of, making_acts, unmade_order}
-use Rattle.host_dynamic.specs.Dynamic.{UpState, up_act_rules, up_own, plain_job, after_unmaking, unmade, after_making, opening_by, after_closing, closing_by, after_resuming, resuming_job, is_control_up, unsent, with_stream_shut, parting}
-use Rattle.host_dynamic.specs.There.{There, there_view, there_after, by_part, nowhere, ids_there_of}
-use Rattle.host_dynamic.specs.Up.{buffer_joins, is_host_up}
+use Rattle.host_widgets.specs.UpActs.{widgets_at, widgets_of, making_acts, unmade_order}
+use Rattle.host_dynamic.specs.Dynamic.{plain_job, after_unmaking, unmade, after_making, opening_by, after_closing, closing_by, after_resuming, resuming_job, is_control_up, unsent, with_stream_shut, parting}
+use Rattle.host_widgets.specs.UpState.{UpState, up_act_rules, up_own}
+use Rattle.host_widgets.specs.There.{There, there_view, there_after, by_part, nowhere, ids_there_of}
+use Rattle.host_widgets.specs.Up.{buffer_joins, is_host_up}
 use Rattle.host_dynamic.specs.UpStates.{IsUpState, IsThereBy}
-use Rattle.host_dynamic.proofs.Needs.{flat-in}
+use Rattle.host_widgets.proofs.Needs.{flat-in}
 use Rattle.host_dynamic.proofs.PlainJobs.{MakesNone}
-use Rattle.host_dynamic.proofs.StageMessages.{make-fits}
-use Rattle.host_dynamic.proofs.Sublists.{range-low}
+use Rattle.host_widgets.proofs.StageMessages.{make-fits}
+use Rattle.host_widgets.proofs.Sublists.{range-low}
 use Rattle.sof_script.specs.declared.script.Command.{Command}
 use Rattle.sof_script.specs.declared.script.Command.TheVariants as commands
 use Rattle.sof_session.specs.CommandTests.{fault_of}

@@ -59,18 +59,18 @@ use Rattle.host_widgets.proofs.LookedUp.{found-is}
 use Rattle.host_widgets.proofs.StandingOn.{LeadsOn}
 use Rattle.host_ctl.proofs.PutShows.{found-set, elsewhere-at}
 use Rattle.host_ctl.proofs.PutStands.{stands-seen, put-stands, shape-with}
-use Rattle.host_dynamic.specs.Dynamic.{UpState, up_act_rules}
+use Rattle.host_widgets.specs.UpState.{UpState, up_act_rules}
 use Rattle.host_dynamic.specs.Parts.{up_part, part_record}
-use Rattle.host_dynamic.specs.There.{There, there_in, there_view}
-use Rattle.host_dynamic.specs.Up.{is_host_up, up_view}
+use Rattle.host_widgets.specs.There.{There, there_in, there_view}
+use Rattle.host_widgets.specs.Up.{is_host_up, up_view}
 use Rattle.host_dynamic.specs.UpStates.{IsThere}
-use Rattle.host_dynamic.proofs.Between.{IsBetween, kind-of}
+use Rattle.host_widgets.proofs.Between.{IsBetween, kind-of}
 use Rattle.host_dynamic.proofs.PartViews.{part-shows}
-use Rattle.host_dynamic.proofs.StageBetween.{passing-found, stage-between}
-use Rattle.host_dynamic.proofs.StagePrepares.{up-amid, own-found, one-of-host}
-use Rattle.host_dynamic.proofs.StageStays.{all-pass, pass-each, from-map}
-use Rattle.host_dynamic.proofs.UpContext.{IsServing}
-use Rattle.host_dynamic.proofs.UpStages.{StreamPair, stage_graph, up_stage}
+use Rattle.host_widgets.proofs.StageBetween.{passing-found, stage-between}
+use Rattle.host_widgets.proofs.StagePrepares.{up-amid, own-found, one-of-host}
+use Rattle.host_widgets.proofs.StageStays.{all-pass, pass-each, from-map}
+use Rattle.host_widgets.proofs.UpContext.{IsServing}
+use Rattle.host_widgets.proofs.UpStages.{StreamPair, stage_graph, up_stage}
 use Rattle.host_dynamic.proofs.UpStanding.{there-stage}
 use Rattle.host_widgets.specs.Indices.{is_up}
 

@@ -5,14 +5,14 @@ use Rattle.tplg_plan.specs.declared.plans.Plan.{Plan}
 use Rattle.tplg_plan.specs.Sound.{IsSound}
 use Rattle.host_widgets.specs.declared.kept.Power.{Power}
 use Rattle.host_widgets.specs.declared.kept.Power.TheVariants.{On}
-use Rattle.host_dynamic.specs.Dynamic.{UpState}
-use Rattle.host_dynamic.specs.There.{there_view}
-use Rattle.host_dynamic.specs.Up.{up_view}
+use Rattle.host_widgets.specs.UpState.{UpState}
+use Rattle.host_widgets.specs.There.{there_view}
+use Rattle.host_widgets.specs.Up.{up_view}
 use Rattle.host_dynamic.specs.UpStates.{IsThere, IsThereBy, IsUpState}
-use Rattle.host_dynamic.proofs.StagePrepares.{up-amid}
-use Rattle.host_dynamic.proofs.UpContext.{IsServing}
+use Rattle.host_widgets.proofs.StagePrepares.{up-amid}
+use Rattle.host_widgets.proofs.UpContext.{IsServing}
 use Rattle.host_dynamic.proofs.UpNeeds.{serving}
-use Rattle.host_dynamic.proofs.UpStages.{up_stage}
+use Rattle.host_widgets.proofs.UpStages.{up_stage}
 use Rattle.host_dynamic.proofs.UpStanding.{there-stage}
 use Rattle.sof_session.proofs.StagePlays.{stage-plays}
 

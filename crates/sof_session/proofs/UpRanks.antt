@@ -42,11 +42,12 @@ use Rattle.host_pcm.specs.StreamCalls.{host_at}
 use Rattle.host_pcm.specs.StreamOrders.{asking_order, stream_order}
 use Rattle.host_ctl.specs.ControlAsks.{named_control}
 use Rattle.host_ctl.specs.ControlOrders.{setting_order, installing_order, ask_acts, reading_order, named_at}
-use Rattle.host_dynamic.specs.Up.{is_join_at, buffer_joins}
-use Rattle.host_dynamic.specs.DynamicActs.{widgets_of, making_acts, unmade_order, unmaking_acts}
-use Rattle.host_dynamic.specs.There.{There, there_after, ids_there_of}
-use Rattle.host_dynamic.specs.Dynamic.{UpState, there_by, up_own, up_act_rules, plain_job, cut_off, lacking, after_unmaking, unmade, after_making, opening_by, parting, with_stream_shut, after_closing, closing_by, after_resuming, is_control_up, unsent}
-use Rattle.host_dynamic.proofs.Needs.{flat-in}
+use Rattle.host_widgets.specs.Up.{is_join_at, buffer_joins}
+use Rattle.host_widgets.specs.UpActs.{widgets_of, making_acts, unmade_order, unmaking_acts}
+use Rattle.host_widgets.specs.There.{There, there_after, ids_there_of}
+use Rattle.host_dynamic.specs.Dynamic.{plain_job, lacking, after_unmaking, unmade, after_making, opening_by, parting, with_stream_shut, after_closing, closing_by, after_resuming, is_control_up, unsent}
+use Rattle.host_widgets.specs.UpState.{UpState, there_by, up_own, up_act_rules, cut_off}
+use Rattle.host_widgets.proofs.Needs.{flat-in}
 use Rattle.sof_script.specs.declared.script.Command.{Command}
 use Rattle.sof_script.specs.declared.script.Command.TheVariants as commands
 use Rattle.sof_session.specs.Commands.{Known, CommandResult, order_of, planned_where_room, carried, tested, next}

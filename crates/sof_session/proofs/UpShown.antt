@@ -19,14 +19,14 @@ use Rattle.host_widgets.specs.Orders.{fault_of_load}
 use Rattle.host_widgets.specs.Routines.{Job}
 use Rattle.host_pm.specs.PowerTests.{resume_fault}
 use Rattle.host_ctl.specs.ControlOrders.{control_told, named_at}
-use Rattle.host_dynamic.specs.Dynamic.{UpState}
+use Rattle.host_widgets.specs.UpState.{UpState}
 use Rattle.host_dynamic.specs.UpStates.{IsUpState}
 use Rattle.host_dynamic.proofs.UpControls.{set-keeps, bytes-keep, read-keeps}
 use Rattle.host_dynamic.proofs.UpLoading.{loaded-state, first-is}
 use Rattle.host_dynamic.proofs.UpNamed.{open-keeps, close-keeps, trigger-named, params-keep}
 use Rattle.host_dynamic.proofs.UpPlain.{quiet-keeps}
 use Rattle.host_dynamic.proofs.UpResuming.{resuming-keeps}
-use Rattle.host_dynamic.proofs.UpWalks.{Keeps, routine-keeps}
+use Rattle.host_widgets.proofs.UpWalks.{Keeps, routine-keeps}
 use Rattle.sof_script.specs.declared.script.Command.{Command}
 use Rattle.sof_script.specs.declared.script.Command.TheVariants as commands
 use Rattle.sof_session.specs.Commands.{Known, CommandResult, tested, planned_where_room, next}

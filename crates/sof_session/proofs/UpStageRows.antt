@@ -40,12 +40,12 @@ use Rattle.host_widgets.specs.HostActs as acts
 use Rattle.host_widgets.specs.HostRecord.{may_have}
 use Rattle.host_widgets.specs.ViewOf.{record_view}
 use Rattle.host_widgets.proofs.StandingOn.{LeadsOn}
-use Rattle.host_dynamic.specs.There.{There, there_in, there_view}
-use Rattle.host_dynamic.proofs.Between.{IsBetween, kind-of}
-use Rattle.host_dynamic.proofs.StageBetween.{stage-between}
-use Rattle.host_dynamic.proofs.StageStays.{streams-agree}
-use Rattle.host_dynamic.proofs.UpContext.{IsServing}
-use Rattle.host_dynamic.proofs.UpStages.{Stage, StreamPair, stage_graph, IsStage, IsAmid}
+use Rattle.host_widgets.specs.There.{There, there_in, there_view}
+use Rattle.host_widgets.proofs.Between.{IsBetween, kind-of}
+use Rattle.host_widgets.proofs.StageBetween.{stage-between}
+use Rattle.host_widgets.proofs.StageStays.{streams-agree}
+use Rattle.host_widgets.proofs.UpContext.{IsServing}
+use Rattle.host_widgets.proofs.UpStages.{Stage, StreamPair, stage_graph, IsStage, IsAmid}
 use Rattle.sof_session.proofs.LiveViews.{SameLife, life-by, sees-stands}
 use Rattle.sof_session.proofs.RowStands.{fresh_of, IsStill, set-found, row-stands}
 use Rattle.sof_session.proofs.StageLives.{stage-life}

@@ -7,7 +7,7 @@ use Rattle.mbox_link.specs.Calls.{Meaning}
 use Rattle.mbox_link.specs.Link.{link}
 use Rattle.host_widgets.specs.Host.{Outcome}
 use Rattle.host_widgets.specs.Routines.{JobDone}
-use Rattle.host_dynamic.specs.Dynamic.{up_act_rules}
+use Rattle.host_widgets.specs.UpState.{up_act_rules}
 use Rattle.sof_script.specs.declared.script.Command.{Command}
 use Rattle.sof_session.specs.Agreement.{AreAgreed}
 use Rattle.sof_session.specs.Commands.{is_plan, carried}

@@ -21,7 +21,8 @@ use Rattle.host_widgets.specs.Routines.{Job, JobDone}
 use Rattle.host_widgets.proofs.StandingOn.{StandsOn}
 use Rattle.host_pm.specs.PowerTests.{suspend_fault, resume_fault}
 use Rattle.host_ctl.specs.ControlOrders.{control_told, named_at}
-use Rattle.host_dynamic.specs.Dynamic.{UpState, up_act_rules, plain_job}
+use Rattle.host_dynamic.specs.Dynamic.{plain_job}
+use Rattle.host_widgets.specs.UpState.{UpState, up_act_rules}
 use Rattle.host_dynamic.specs.UpDevices.{there_on}
 use Rattle.host_dynamic.specs.UpStates.{IsUpState}
 use Rattle.sof_script.specs.declared.script.Command.{Command}

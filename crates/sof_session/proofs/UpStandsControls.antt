@@ -42,18 +42,19 @@ use Rattle.host_ctl.proofs.ControlsTaken.{set-all}
 use Rattle.host_ctl.proofs.ControlsThere.{lost-here, live, at-here, named-here}
 use Rattle.host_ctl.proofs.PutShows.{there-at}
 use Rattle.host_ctl.proofs.PutStands.{put-record}
-use Rattle.host_dynamic.specs.There.{There, there_after, silent_state, by_part}
-use Rattle.host_dynamic.specs.Dynamic.{UpState, up_act_rules, plain_job, unsent, control_order, is_control_up, read_up_fault}
+use Rattle.host_widgets.specs.There.{There, there_after, silent_state, by_part}
+use Rattle.host_dynamic.specs.Dynamic.{plain_job, unsent, control_order, is_control_up, read_up_fault}
+use Rattle.host_widgets.specs.UpState.{UpState, up_act_rules}
 use Rattle.host_dynamic.specs.UpDevices.{there_on}
 use Rattle.host_dynamic.specs.UpStates.{IsUpState}
-use Rattle.host_dynamic.proofs.RowsTold.{left-told}
+use Rattle.host_widgets.proofs.RowsTold.{left-told}
 use Rattle.host_dynamic.proofs.UpAsked.{put-answered, install-answered, ask-answered}
-use Rattle.host_dynamic.proofs.UpContext.{comp-up-by}
+use Rattle.host_widgets.proofs.UpContext.{comp-up-by}
 use Rattle.host_dynamic.proofs.UpControls.{put-told, blob-set, asks-stay}
-use Rattle.host_dynamic.proofs.UpSending.{StagedFirst}
-use Rattle.host_dynamic.proofs.UpStages.{IsStage, at_stage, index_of_id, up_stage}
+use Rattle.host_widgets.proofs.UpSending.{StagedFirst}
+use Rattle.host_widgets.proofs.UpStages.{IsStage, at_stage, index_of_id, up_stage}
 use Rattle.host_dynamic.proofs.UpStanding.{there-stage, stage-there}
-use Rattle.host_dynamic.proofs.UpWalks.{Steps}
+use Rattle.host_widgets.proofs.UpWalks.{Steps}
 use Rattle.sof_session.proofs.UpPlainRows.{IsPlainly}
 use Rattle.sof_session.proofs.UpStandsLists.{PlaysAtStages, RowsAtStages, all-mapped}
 use Rattle.sof_session.proofs.UpStandsJobs.{PlainRows, IsThereSo, EndsThereSo, so-there}

@@ -25,14 +25,15 @@ use Rattle.host_widgets.specs.declared.answers.HostFault.TheVariants as faults
 use Rattle.host_widgets.proofs.LookedUp.{each-found, found-map}
 use Rattle.host_widgets.proofs.StreamPlaces.{streams-ascend}
 use Rattle.host_widgets.proofs.WalksHold.{ByLink}
-use Rattle.host_dynamic.specs.Dynamic.{UpState, settled, plain_job, up_act_rules}
-use Rattle.host_dynamic.specs.There.{there_in}
+use Rattle.host_dynamic.specs.Dynamic.{plain_job}
+use Rattle.host_widgets.specs.UpState.{UpState, settled, up_act_rules}
+use Rattle.host_widgets.specs.There.{there_in}
 use Rattle.host_dynamic.specs.UpStates.{IsUpState}
-use Rattle.host_dynamic.proofs.StageMakes.{zip-ascends}
-use Rattle.host_dynamic.proofs.StageStreams.{changed_one, zip-changed}
+use Rattle.host_widgets.proofs.StageMakes.{zip-ascends}
+use Rattle.host_widgets.proofs.StageStreams.{changed_one, zip-changed}
 use Rattle.host_dynamic.proofs.UpAnswers.{own-save, own-trigger}
-use Rattle.host_dynamic.proofs.UpSending.{StagedFirst}
-use Rattle.host_dynamic.proofs.UpStages.{StreamPair}
+use Rattle.host_widgets.proofs.UpSending.{StagedFirst}
+use Rattle.host_widgets.proofs.UpStages.{StreamPair}
 use Rattle.host_dynamic.proofs.UpTriggers.{triggered-state}
 use Rattle.sof_session.proofs.UpStandsWalks.{AreLed, LeadsBy, IsCutThen}
 use Rattle.sof_session.proofs.UpStandsLists.{PlaysAtStages, RowsAtStages, row-takes}

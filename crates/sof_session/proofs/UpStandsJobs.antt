@@ -30,23 +30,24 @@ use Rattle.host_widgets.proofs.WalksHold.{ByLink}
 use Rattle.host_pcm.specs.Asks.{is_closed}
 use Rattle.host_pcm.specs.StreamCalls.{shut}
 use Rattle.host_widgets.specs.Kept.{with_stream}
-use Rattle.host_dynamic.specs.DynamicActs.{making_acts, unmaking_acts, unmade_order}
-use Rattle.host_dynamic.specs.There.{There, there_in, there_view, there_after, ids_there_of}
-use Rattle.host_dynamic.specs.Dynamic.{UpState, up_act_rules, lacking, after_unmaking, unmade, after_making, opening_by, parting, staying, with_stream_shut, after_closing, closing_by}
-use Rattle.host_dynamic.specs.Need.{need_in, is_needed, HasBrought}
+use Rattle.host_widgets.specs.UpActs.{making_acts, unmaking_acts, unmade_order}
+use Rattle.host_widgets.specs.There.{There, there_in, there_view, there_after, ids_there_of}
+use Rattle.host_dynamic.specs.Dynamic.{lacking, after_unmaking, unmade, after_making, opening_by, parting, staying, with_stream_shut, after_closing, closing_by}
+use Rattle.host_widgets.specs.UpState.{UpState, up_act_rules}
+use Rattle.host_widgets.specs.Need.{need_in, is_needed, HasBrought}
 use Rattle.host_dynamic.specs.UpStates.{IsThere, IsThereBy, IsUpState}
-use Rattle.host_dynamic.proofs.StagePrepares.{up-amid}
-use Rattle.host_dynamic.proofs.Sublists.{AreOnce, once-filter, distinct-once}
+use Rattle.host_widgets.proofs.StagePrepares.{up-amid}
+use Rattle.host_widgets.proofs.Sublists.{AreOnce, once-filter, distinct-once}
 use Rattle.host_dynamic.proofs.UpAsked.{close-answered}
 use Rattle.host_dynamic.proofs.UpClosing.{parts-apart, shut-amid, gone-serves, serves}
-use Rattle.host_dynamic.proofs.UpContext.{IsServing, AreApart}
-use Rattle.host_dynamic.proofs.UpMaking.{IsMaking, makes-up, making-loose}
+use Rattle.host_widgets.proofs.UpContext.{IsServing, AreApart}
+use Rattle.host_widgets.proofs.UpMaking.{IsMaking, makes-up, making-loose}
 use Rattle.host_dynamic.proofs.UpNeeds.{IsAsked, serving, up-brought, lacking-need, both-brought}
-use Rattle.host_dynamic.proofs.UpSending.{StagedFirst, AreAnswered}
+use Rattle.host_widgets.proofs.UpSending.{StagedFirst, AreAnswered}
 use Rattle.host_dynamic.proofs.UpShutting.{Ended, steps}
-use Rattle.host_dynamic.proofs.UpStages.{Stage, StreamPair, IsStage, up_stage, IsAmid}
+use Rattle.host_widgets.proofs.UpStages.{Stage, StreamPair, IsStage, up_stage, IsAmid}
 use Rattle.host_dynamic.proofs.UpStanding.{there-stage, stage-there}
-use Rattle.host_dynamic.proofs.UpWalks.{Runs, Met, walk-runs, Steps, Came, walk-steps}
+use Rattle.host_widgets.proofs.UpWalks.{Runs, Met, walk-runs, Steps, Came, walk-steps}
 use Rattle.sof_session.proofs.UpPlainRows.{IsPlainly}
 use Rattle.sof_session.proofs.UpStandsWalks.{AreLed, LeadsBy, IsCutThen}
 use Rattle.sof_session.proofs.UpStandsLists.{PlaysAtStages, RowsAtStages, AllMay, at-plays, row-takes, making-led, unmaking-led}

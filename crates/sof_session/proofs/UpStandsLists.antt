@@ -26,22 +26,22 @@ use Rattle.host_widgets.specs.HostActs as acts
 use Rattle.host_widgets.specs.HostRecord.{may_have}
 use Rattle.host_widgets.specs.Kept.{controls_of}
 use Rattle.host_widgets.proofs.StandingOn.{LeadsOn}
-use Rattle.host_dynamic.specs.DynamicActs.{widgets_of, making_acts, unmade_order, unmaking_acts}
-use Rattle.host_dynamic.specs.There.{There, there_in, there_view, there_after, ids_there_of}
-use Rattle.host_dynamic.specs.Dynamic.{UpState, up_own, up_act_rules}
-use Rattle.host_dynamic.specs.Need.{HasBrought}
-use Rattle.host_dynamic.specs.Up.{buffer_joins, is_join_at}
-use Rattle.host_dynamic.proofs.Needs.{flat-in, in-among}
-use Rattle.host_dynamic.proofs.RowsTold.{told}
-use Rattle.host_dynamic.proofs.StagePrepares.{up-amid}
-use Rattle.host_dynamic.proofs.Sublists.{filter-append, filter-all, filter-none, flat-append, AreOnce}
-use Rattle.host_dynamic.proofs.UpContext.{IsServing, AreApart, among-both, join-at}
-use Rattle.host_dynamic.proofs.UpExchanges.{SaysSo}
-use Rattle.host_dynamic.proofs.UpMaking.{makes-up, makes-answered}
-use Rattle.host_dynamic.proofs.UpSending.{AreAnswered}
-use Rattle.host_dynamic.proofs.UpStages.{Stage, stage_graph, stage_streams, IsStage, index_of_id, is_join_of, up_stage, IsAmid}
+use Rattle.host_widgets.specs.UpActs.{widgets_of, making_acts, unmade_order, unmaking_acts}
+use Rattle.host_widgets.specs.There.{There, there_in, there_view, there_after, ids_there_of}
+use Rattle.host_widgets.specs.UpState.{UpState, up_own, up_act_rules}
+use Rattle.host_widgets.specs.Need.{HasBrought}
+use Rattle.host_widgets.specs.Up.{buffer_joins, is_join_at}
+use Rattle.host_widgets.proofs.Needs.{flat-in, in-among}
+use Rattle.host_widgets.proofs.RowsTold.{told}
+use Rattle.host_widgets.proofs.StagePrepares.{up-amid}
+use Rattle.host_widgets.proofs.Sublists.{filter-append, filter-all, filter-none, flat-append, AreOnce}
+use Rattle.host_widgets.proofs.UpContext.{IsServing, AreApart, among-both, join-at}
+use Rattle.host_widgets.proofs.UpExchanges.{SaysSo}
+use Rattle.host_widgets.proofs.UpMaking.{makes-up, makes-answered}
+use Rattle.host_widgets.proofs.UpSending.{AreAnswered}
+use Rattle.host_widgets.proofs.UpStages.{Stage, stage_graph, stage_streams, IsStage, index_of_id, is_join_of, up_stage, IsAmid}
 use Rattle.host_dynamic.proofs.UpUnmaking.{unmakes-answered}
-use Rattle.host_dynamic.proofs.UpWalks.{Runs, with_there}
+use Rattle.host_widgets.proofs.UpWalks.{Runs, with_there}
 use Rattle.sof_session.proofs.UpStageRows.{Builds}
 use Rattle.sof_session.proofs.UpStandsWalks.{AreLed}
 use Rattle.sof_session.proofs.UpUnmakeStages.{unmakes-amid}

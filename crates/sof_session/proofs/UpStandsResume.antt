@@ -35,19 +35,20 @@ use Rattle.host_widgets.specs.IdleStreams.{idle_view}
 use Rattle.host_widgets.specs.Walk.{walk}
 use Rattle.host_widgets.proofs.StandingOn.{LeadsOn}
 use Rattle.host_widgets.proofs.WalksHold.{ByLink}
-use Rattle.host_dynamic.specs.DynamicActs.{making_acts}
-use Rattle.host_dynamic.specs.There.{There, there_in, there_view, there_after, booted}
-use Rattle.host_dynamic.specs.Dynamic.{UpState, up_act_rules, after_resuming, resuming_job}
+use Rattle.host_widgets.specs.UpActs.{making_acts}
+use Rattle.host_widgets.specs.There.{There, there_in, there_view, there_after, booted}
+use Rattle.host_dynamic.specs.Dynamic.{after_resuming, resuming_job}
+use Rattle.host_widgets.specs.UpState.{UpState, up_act_rules}
 use Rattle.host_dynamic.specs.UpStates.{IsUpState}
-use Rattle.host_dynamic.proofs.Needs.{in-left, in-right, in-either}
-use Rattle.host_dynamic.proofs.StageStays.{from-map}
-use Rattle.host_dynamic.proofs.UpContext.{IsServing}
+use Rattle.host_widgets.proofs.Needs.{in-left, in-right, in-either}
+use Rattle.host_widgets.proofs.StageStays.{from-map}
+use Rattle.host_widgets.proofs.UpContext.{IsServing}
 use Rattle.host_dynamic.proofs.UpLoading.{empty-stage}
-use Rattle.host_dynamic.proofs.UpMaking.{IsMaking, makes-up}
+use Rattle.host_widgets.proofs.UpMaking.{IsMaking, makes-up}
 use Rattle.host_dynamic.proofs.UpResuming.{LeavesStreams, making-leaves, other, over, kept-over, own-over, prepares-loose, none-closed, none-open, serves, brought, amid, rested, bare, bare-serves, bare_at, apart, once, Made, left, partly, partly-in, some-agree, still, may-be, stays-idle, rest-shown, next-in, prepared-there, own-prepared, kept-same, real, resuming-loose}
-use Rattle.host_dynamic.proofs.UpSending.{StagedFirst}
-use Rattle.host_dynamic.proofs.UpStages.{StreamPair, stage_graph, stage_streams, IsStage, up_stage}
-use Rattle.host_dynamic.proofs.UpWalks.{Runs}
+use Rattle.host_widgets.proofs.UpSending.{StagedFirst}
+use Rattle.host_widgets.proofs.UpStages.{StreamPair, stage_graph, stage_streams, IsStage, up_stage}
+use Rattle.host_widgets.proofs.UpWalks.{Runs}
 use Rattle.sof_session.proofs.UpStandsWalks.{AreLed, RowLeads, LeadsBy, IsCutThen, LeadsOver}
 use Rattle.sof_session.proofs.UpStandsLists.{PlaysAtStages, RowsAtStages, row-takes, making-led}
 

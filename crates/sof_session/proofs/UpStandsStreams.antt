@@ -36,18 +36,19 @@ use Rattle.host_pcm.specs.StreamOrders.{asking_order, stream_order}
 use Rattle.host_pcm.proofs.HostTests.{Found_place, found_place}
 use Rattle.host_pcm.proofs.StreamCalls.{ranges}
 use Rattle.host_ctl.proofs.ControlTests.{loaded}
-use Rattle.host_dynamic.specs.There.{there_in, there_view}
-use Rattle.host_dynamic.specs.Dynamic.{UpState, settled, up_act_rules, plain_job, loading_job, unloading_job, lacking, opening_by, opening_job, closing_by, closing_job, unsent}
+use Rattle.host_widgets.specs.There.{there_in, there_view}
+use Rattle.host_dynamic.specs.Dynamic.{plain_job, loading_job, unloading_job, lacking, opening_by, opening_job, closing_by, closing_job, unsent}
+use Rattle.host_widgets.specs.UpState.{UpState, settled, up_act_rules}
 use Rattle.host_dynamic.specs.UpDevices.{there_on}
 use Rattle.host_dynamic.specs.UpStates.{IsUpState}
-use Rattle.host_dynamic.proofs.HostStreams.{IsHostKind, stream-comp}
+use Rattle.host_widgets.proofs.HostStreams.{IsHostKind, stream-comp}
 use Rattle.host_dynamic.proofs.UpAsked.{trigger-answered, params-answered}
 use Rattle.host_dynamic.proofs.UpNamed.{found-at}
 use Rattle.host_dynamic.proofs.UpPreparing.{prepared-state}
-use Rattle.host_dynamic.proofs.UpSending.{StagedFirst, AreAnswered}
-use Rattle.host_dynamic.proofs.UpStages.{StreamPair}
+use Rattle.host_widgets.proofs.UpSending.{StagedFirst, AreAnswered}
+use Rattle.host_widgets.proofs.UpStages.{StreamPair}
 use Rattle.host_dynamic.proofs.UpTriggers.{triggered, triggered-state}
-use Rattle.host_dynamic.proofs.UpWalks.{Steps}
+use Rattle.host_widgets.proofs.UpWalks.{Steps}
 use Rattle.sof_session.proofs.UpStandsWalks.{LeadsBy, IsCutThen, LeadsOver}
 use Rattle.sof_session.proofs.UpPlainRows.{IsPlainly}
 use Rattle.sof_session.proofs.UpStandsLists.{PlaysAtStages, RowsAtStages}

@@ -25,12 +25,12 @@ use Rattle.host_widgets.proofs.Exchanges.{came, verdict-number}
 use Rattle.host_widgets.proofs.Effects.{row-decoded}
 use Rattle.host_widgets.proofs.StandingOn.{StandsOn, ReadsOn, LeadsOn, LeavesAll, still-stands, stands-none, stands-by, reads-by, reads-of, one-tick, ticks-stand, ticks-leave, cut-stands, gained-none}
 use Rattle.host_widgets.proofs.WalksHold.{ByLink}
-use Rattle.host_ctl.proofs.ControlsTaken.{done-passes}
-use Rattle.host_dynamic.specs.There.{there_in, there_view, there_after, booted}
-use Rattle.host_dynamic.specs.Dynamic.{UpState, up_own, up_act_rules}
-use Rattle.host_dynamic.proofs.UpExchanges.{ticks-there}
-use Rattle.host_dynamic.proofs.UpSending.{Staged, StagedFirst}
-use Rattle.host_dynamic.proofs.UpWalks.{passed-free}
+use Rattle.host_widgets.proofs.DonePasses.{done-passes}
+use Rattle.host_widgets.specs.There.{there_in, there_view, there_after, booted}
+use Rattle.host_widgets.specs.UpState.{UpState, up_own, up_act_rules}
+use Rattle.host_widgets.proofs.UpExchanges.{ticks-there}
+use Rattle.host_widgets.proofs.UpSending.{Staged, StagedFirst}
+use Rattle.host_widgets.proofs.UpWalks.{passed-free}
 use Rattle.sof_session.proofs.JobWalks.{walk-front}
 use Rattle.host_widgets.specs.ActMessages.{act_message}
 

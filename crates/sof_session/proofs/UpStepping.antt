@@ -11,7 +11,7 @@ use Rattle.host_widgets.specs.declared.answers.HostFault.{HostFault}
 use Rattle.host_widgets.specs.ActCalls.{next_of}
 use Rattle.host_widgets.specs.Host.{Outcome}
 use Rattle.host_widgets.specs.Routines.{JobDone}
-use Rattle.host_dynamic.specs.Dynamic.{UpState, up_act_rules}
+use Rattle.host_widgets.specs.UpState.{UpState, up_act_rules}
 use Rattle.host_dynamic.specs.UpStates.{IsUpState}
 use Rattle.sof_script.specs.declared.script.Command.{Command}
 use Rattle.sof_session.specs.Agreement.{AreAgreed}

@@ -22,7 +22,7 @@ use Rattle.host_widgets.specs.declared.answers.HostFault.TheVariants.{Refused}
 use Rattle.sof_script.specs.declared.script.Command.{Command}
 use Rattle.sof_script.specs.declared.script.Command.TheVariants.{Load, Open, Close}
 use Rattle.sof_session.specs.Commands.{Known, first_known, next}
-use Rattle.host_dynamic.specs.Dynamic.{UpState}
+use Rattle.host_widgets.specs.UpState.{UpState}
 use Rattle.sof_session.specs.UpCommands.{up_rules}
 use Rattle.sof_session.specs.UpRows.{mix_plan, Seen, seen_over, ShowsUp, ShowUpOver, SecondStreamIsRefused, SharedPipelineStays, RefusedShowsUp, SharedShowsUp}
 

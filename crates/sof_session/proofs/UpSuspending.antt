@@ -7,12 +7,13 @@ use Rattle.host_widgets.specs.declared.kept.Record.{Record}
 use Rattle.host_widgets.specs.ActLists.{go_down}
 use Rattle.host_widgets.specs.Orders.{suspending}
 use Rattle.host_pm.proofs.GoingDown.{going-down}
-use Rattle.host_dynamic.specs.There.{nowhere}
-use Rattle.host_dynamic.specs.Dynamic.{UpState, cut_off, plain_job}
+use Rattle.host_widgets.specs.There.{nowhere}
+use Rattle.host_dynamic.specs.Dynamic.{plain_job}
+use Rattle.host_widgets.specs.UpState.{UpState, cut_off}
 use Rattle.host_dynamic.specs.UpStates.{IsUpState}
 use Rattle.host_dynamic.proofs.UpGoingDown.{walk-goes-down}
 use Rattle.host_dynamic.proofs.UpOpening.{down-state}
-use Rattle.host_dynamic.proofs.UpWalks.{Keeps}
+use Rattle.host_widgets.proofs.UpWalks.{Keeps}
 
 module _ (plan : Plan) (sound : IsSound plan) (heap : ℕ) {Q : Type 0} (next : Q → Meeting × Q) where
   pub suspend-keeps : (s : UpState) (q : Q) → IsUpState plan s → Keeps plan next (IsUpState plan) s q (plain_job plan s (suspending plan s.kept)).routine

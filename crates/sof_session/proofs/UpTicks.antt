@@ -20,11 +20,12 @@ use Rattle.host_widgets.specs.ActCalls.{calls_of}
 use Rattle.host_widgets.specs.Host.{SidesBy}
 use Rattle.host_widgets.specs.Orders.{ticking, where_on}
 use Rattle.host_widgets.specs.Routines.{JobDone}
-use Rattle.host_dynamic.specs.Dynamic.{UpState, there_by, settled, up_act_rules, plain_job}
-use Rattle.host_dynamic.specs.There.{nowhere}
-use Rattle.host_dynamic.specs.Up.{up_view}
+use Rattle.host_dynamic.specs.Dynamic.{plain_job}
+use Rattle.host_widgets.specs.UpState.{UpState, there_by, settled, up_act_rules}
+use Rattle.host_widgets.specs.There.{nowhere}
+use Rattle.host_widgets.specs.Up.{up_view}
 use Rattle.host_dynamic.specs.UpDevices.{there_on, up_state_in}
-use Rattle.host_dynamic.proofs.UpExchanges.{ticks-there}
+use Rattle.host_widgets.proofs.UpExchanges.{ticks-there}
 use Rattle.sof_script.specs.declared.script.Command.TheVariants as commands
 use Rattle.sof_session.specs.Agreement.{AreAgreed}
 use Rattle.sof_session.specs.Modes.{up_state_of}

@@ -29,21 +29,21 @@ use Rattle.host_widgets.proofs.ControlLists.{Pair}
 use Rattle.host_widgets.proofs.Joined.{edge_with}
 use Rattle.host_widgets.proofs.NamedIds.{named-at, buffer-found, pipeline-found, each-comp, each-edge, each-pipe}
 use Rattle.host_widgets.proofs.PutsTaken.{comp_while}
-use Rattle.host_dynamic.specs.DynamicActs.{pipe_ids, unmade_order, unmaking_acts}
-use Rattle.host_dynamic.specs.There.{There, there_after, ids_there, ids_there_of, silent_state}
-use Rattle.host_dynamic.specs.Dynamic.{UpState}
-use Rattle.host_dynamic.specs.Up.{buffer_joins}
-use Rattle.host_dynamic.proofs.Needs.{in-among, in-map}
-use Rattle.host_dynamic.proofs.Between.{same-bools, member-found, found-member, comp-named, edge-named}
-use Rattle.host_dynamic.proofs.StageBetween.{comp-index, edge-index, stage-between}
-use Rattle.host_dynamic.proofs.StageFrees.{without_id, piece-less, free-pipe-is, buffer-gone, free-buffer-is, free-comp-is, edge-named as edge-index-of, comp-named as comp-index-of}
-use Rattle.host_dynamic.proofs.StageMakes.{none-passes}
-use Rattle.host_dynamic.proofs.StageSame.{heap-same, at-same}
-use Rattle.host_dynamic.proofs.StageStays.{from-map, ways-stay, not-held}
-use Rattle.host_dynamic.proofs.Sublists.{filter-same, filter-both, filter-append, filter-all, AreOnce, once-filter, keys-once, low-range}
-use Rattle.host_dynamic.proofs.UpContext.{IsServing, AreApart, own-index, JoinEnds, join-ends, ends-up}
-use Rattle.host_dynamic.proofs.UpStages.{Stage, StreamPair, comps_left, edges_left, stage_graph, stage_streams, at_stage, IsStage, index_of_id, is_join_of, up_stage, IsAmid}
-use Rattle.host_dynamic.proofs.UpWalks.{Runs, with_there}
+use Rattle.host_widgets.specs.UpActs.{pipe_ids, unmade_order, unmaking_acts}
+use Rattle.host_widgets.specs.There.{There, there_after, ids_there, ids_there_of, silent_state}
+use Rattle.host_widgets.specs.UpState.{UpState}
+use Rattle.host_widgets.specs.Up.{buffer_joins}
+use Rattle.host_widgets.proofs.Needs.{in-among, in-map}
+use Rattle.host_widgets.proofs.Between.{same-bools, member-found, found-member, comp-named, edge-named}
+use Rattle.host_widgets.proofs.StageBetween.{comp-index, edge-index, stage-between}
+use Rattle.host_widgets.proofs.StageFrees.{without_id, piece-less, free-pipe-is, buffer-gone, free-buffer-is, free-comp-is, edge-named as edge-index-of, comp-named as comp-index-of}
+use Rattle.host_widgets.proofs.StageMakes.{none-passes}
+use Rattle.host_widgets.proofs.StageSame.{heap-same, at-same}
+use Rattle.host_widgets.proofs.StageStays.{from-map, ways-stay, not-held}
+use Rattle.host_widgets.proofs.Sublists.{filter-same, filter-both, filter-append, filter-all, AreOnce, once-filter, keys-once, low-range}
+use Rattle.host_widgets.proofs.UpContext.{IsServing, AreApart, own-index, JoinEnds, join-ends, ends-up}
+use Rattle.host_widgets.proofs.UpStages.{Stage, StreamPair, comps_left, edges_left, stage_graph, stage_streams, at_stage, IsStage, index_of_id, is_join_of, up_stage, IsAmid}
+use Rattle.host_widgets.proofs.UpWalks.{Runs, with_there}
 use Rattle.host_widgets.specs.HostActs.{Unmake}
 use Rattle.host_widgets.specs.Indices.{index_at}
 

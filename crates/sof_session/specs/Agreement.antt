@@ -12,7 +12,7 @@ use Rattle.host_widgets.specs.declared.kept.Record.{Record}
 use Rattle.host_widgets.specs.Keeps.{KeepsRecord}
 use Rattle.host_widgets.specs.Host.{AgreesBy}
 use Rattle.host_widgets.specs.ViewOf.{record_view}
-use Rattle.host_dynamic.specs.Up.{up_view}
+use Rattle.host_widgets.specs.Up.{up_view}
 use Rattle.host_dynamic.specs.UpDevices.{up_state_in}
 use Rattle.host_dynamic.specs.UpStates.{IsUpState}
 use Rattle.sof_session.specs.SessionView.{SessionView}

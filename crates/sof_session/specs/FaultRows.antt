@@ -20,9 +20,9 @@ use Rattle.mbox_link.specs.declared.fates.Fate.{Fate}
 use Rattle.mbox_link.specs.declared.fates.Fate.TheVariants as fates
 use Rattle.sof_script.specs.declared.script.Command.{Command}
 use Rattle.sof_script.specs.declared.script.Command.TheVariants.{Open, Close}
-use Rattle.host_dynamic.specs.There.{nowhere}
+use Rattle.host_widgets.specs.There.{nowhere}
 use Rattle.sof_session.specs.Commands.{Known, next}
-use Rattle.host_dynamic.specs.Dynamic.{UpState}
+use Rattle.host_widgets.specs.UpState.{UpState}
 use Rattle.sof_session.specs.UpCommands.{up_rules}
 use Rattle.sof_session.specs.UpRows.{mix_plan}
 

@@ -16,7 +16,7 @@ use Rattle.host_widgets.specs.Kept.{first_record}
 use Rattle.host_widgets.specs.Orders.{Procedure, fault_of_load, loading, resuming}
 use Rattle.host_widgets.specs.TestedOrders.{Tested}
 use Rattle.host_widgets.specs.Routines.{Job, JobTested}
-use Rattle.host_dynamic.specs.Dynamic.{UpState, up_act_rules}
+use Rattle.host_widgets.specs.UpState.{UpState, up_act_rules}
 use Rattle.host_pm.specs.PowerTests.{resume_fault}
 use Rattle.host_pm.specs.Resumed.{ResumeLeft}
 use Rattle.sof_session.specs.Agreement.{AreAgreed}

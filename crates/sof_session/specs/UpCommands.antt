@@ -11,8 +11,9 @@ use Rattle.host_widgets.specs.declared.kept.Power.TheVariants as powers
 use Rattle.host_widgets.specs.Routines.{Job}
 use Rattle.host_pcm.specs.Asks.{stream_place, stream_at}
 use Rattle.host_pcm.specs.StreamCalls.{host_at}
-use Rattle.host_dynamic.specs.There.{shown_ids}
-use Rattle.host_dynamic.specs.Dynamic.{UpState, first_state, up_act_rules, plain_job, loading_job, unloading_job, opening_job, closing_job, resuming_job, control_order, read_up_fault}
+use Rattle.host_widgets.specs.There.{shown_ids}
+use Rattle.host_dynamic.specs.Dynamic.{plain_job, loading_job, unloading_job, opening_job, closing_job, resuming_job, control_order, read_up_fault}
+use Rattle.host_widgets.specs.UpState.{UpState, first_state, up_act_rules}
 use Rattle.sof_script.specs.declared.script.Command.{Command}
 use Rattle.sof_script.specs.declared.script.Command.TheVariants as commands
 use Rattle.sof_session.specs.CommandRules.{CommandRules}

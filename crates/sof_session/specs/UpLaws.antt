@@ -4,7 +4,7 @@ use Rattle.std.specs.List.{AllByRecursion}
 use Rattle.mbox_link.specs.Meetings.{Doing}
 use Rattle.tplg_plan.specs.declared.plans.Plan.{Plan}
 use Rattle.tplg_plan.specs.Sound.{IsSound}
-use Rattle.host_dynamic.specs.Dynamic.{UpState}
+use Rattle.host_widgets.specs.UpState.{UpState}
 use Rattle.host_dynamic.specs.UpStates.{IsUpState}
 use Rattle.sof_script.specs.declared.script.Command.{Command}
 use Rattle.sof_session.specs.Commands.{Known, first_known, next}

@@ -12,10 +12,10 @@ use Rattle.host_widgets.specs.declared.answers.HostFault.TheVariants.{Refused}
 use Rattle.sof_script.specs.declared.script.Command.{Command}
 use Rattle.sof_script.specs.declared.script.Command.TheVariants.{Load, Open, Close}
 use Rattle.sof_session.specs.Commands.{Known, first_known, next}
-use Rattle.host_dynamic.specs.Dynamic.{UpState}
+use Rattle.host_widgets.specs.UpState.{UpState}
 use Rattle.sof_session.specs.UpCommands.{up_rules}
-use Rattle.host_dynamic.specs.There.{there_view}
-use Rattle.host_dynamic.specs.Up.{up_view}
+use Rattle.host_widgets.specs.There.{there_view}
+use Rattle.host_widgets.specs.Up.{up_view}
 
 -- ---- the plan: two hosts, each with its buffer in a pipeline of its own, and a mixer with a DAI in a third
 

@@ -5,7 +5,7 @@ ghost use Rattle.stream_law.specs.Ways as ways;
 ghost use Rattle.stream_law.specs.Order.{is_among};
 ghost use Rattle.tplg_plan.specs.Sound.{IsSound};
 ghost use Rattle.host_widgets.specs.Acts.{pipe_by_id};
-ghost use Rattle.host_dynamic.specs.There.{shown_ids};
+ghost use Rattle.host_widgets.specs.There.{shown_ids};
 ghost use Rattle.sof_session.specs.Show as show;
 ghost use Rattle.sof_script.specs.KindWords as kinds;
 ghost use Rattle.sof_session.specs.StateLines as state_lines;

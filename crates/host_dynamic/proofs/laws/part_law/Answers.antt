@@ -1,5 +1,5 @@
 use Rattle.host_dynamic.proofs.PartViews.{part-shows}
-use Rattle.host_dynamic.proofs.PartsBetween.{part-echo, part-way, part-touch}
+use Rattle.host_widgets.proofs.PartsBetween.{part-echo, part-way, part-touch}
 use Rattle.host_dynamic.proofs.laws.part_law.Goals as goal
 
 pub returns-clause-shows : goal.returns-clause-shows

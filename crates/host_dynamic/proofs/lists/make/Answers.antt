@@ -5,8 +5,8 @@ use Rattle.mbox_link.specs.Calls.{world}
 use Rattle.host_widgets.specs.ActCarried.{ActsSent}
 use Rattle.host_widgets.specs.Host.{Outcome}
 use Rattle.host_widgets.proofs.Walks.{sent-on, sent-room, handed_on}
-use Rattle.host_dynamic.specs.DynamicActs.{widgets_of, making_acts}
-use Rattle.host_dynamic.specs.Up.{buffer_joins}
+use Rattle.host_widgets.specs.UpActs.{widgets_of, making_acts}
+use Rattle.host_widgets.specs.Up.{buffer_joins}
 use Rattle.host_widgets.proofs.NamedIds.{few-widgets}
 use Rattle.host_dynamic.proofs.JoinsFew.{joins-few}
 use Rattle.host_widgets.proofs.GroupsMade.{joins, puts, joins-failed, puts-failed, finished, widgets-failed}

@@ -5,7 +5,7 @@ use Rattle.host_widgets.specs.HostActs.{Act}
 use Rattle.host_widgets.specs.ActCarried.{ActsSent}
 use Rattle.host_widgets.proofs.Walks.{passing, sent-on, sent-room, sent-more, sent-ends, handed_on}
 use Rattle.host_dynamic.specs.declared.making.Ends.{Ends}
-use Rattle.host_dynamic.specs.Up.{buffer_joins}
+use Rattle.host_widgets.specs.Up.{buffer_joins}
 use Rattle.host_dynamic.proofs.ListsSent.{ends_act, ends-acts}
 use Rattle.host_dynamic.proofs.lists.make_joins_at.Goals as goal
 use Rattle.host_widgets.proofs.MadeSent.{join_act}

@@ -3,7 +3,7 @@ use Rattle.mbox_link.specs.Calls.{world}
 use Rattle.host_widgets.specs.HostActs.{Join}
 use Rattle.host_widgets.specs.ActCarried.{ActsSent}
 use Rattle.host_widgets.proofs.Walks.{passing}
-use Rattle.host_dynamic.specs.Up.{buffer_joins}
+use Rattle.host_widgets.specs.Up.{buffer_joins}
 use Rattle.host_dynamic.proofs.lists.make_joins_at.Given as goal
 
 -- so far each join was made

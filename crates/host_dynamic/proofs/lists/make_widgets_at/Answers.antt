@@ -3,7 +3,7 @@ use Rattle.std.specs.List.{AllByRecursion}
 use Rattle.mbox_link.specs.Calls.{world}
 use Rattle.host_widgets.specs.HostActs.{Make}
 use Rattle.host_widgets.specs.MadeLists.{MadeListed}
-use Rattle.host_dynamic.specs.DynamicActs.{widgets_at}
+use Rattle.host_widgets.specs.UpActs.{widgets_at}
 use Rattle.host_dynamic.proofs.ListsSent.{widgets-low}
 use Rattle.host_dynamic.proofs.lists.make_widgets_at.Goals as goal
 

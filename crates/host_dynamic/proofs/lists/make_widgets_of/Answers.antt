@@ -3,7 +3,7 @@ use Rattle.std.proofs.lemmas.List.{take_all, length-append}
 use Rattle.mbox_link.specs.Calls.{world}
 use Rattle.host_widgets.specs.Host.{Outcome}
 use Rattle.host_widgets.proofs.Walks.{passing, handed_on}
-use Rattle.host_dynamic.specs.DynamicActs.{widgets_at, widgets_of}
+use Rattle.host_widgets.specs.UpActs.{widgets_at, widgets_of}
 use Rattle.host_dynamic.proofs.MakesListed.{flat-few, index-made, index-failed}
 use Rattle.host_dynamic.proofs.lists.make_widgets_of.Goals as goal
 use Rattle.host_widgets.specs.MadeLists.{ActsPassed, MadeListed}

@@ -1,7 +1,7 @@
 use Rattle.std.proofs.Common.{◌≡◌, ◌++◌, map, take}
 use Rattle.mbox_link.specs.Calls.{world}
 use Rattle.host_widgets.proofs.Walks.{passing}
-use Rattle.host_dynamic.specs.DynamicActs.{widgets_of}
+use Rattle.host_widgets.specs.UpActs.{widgets_of}
 use Rattle.host_dynamic.proofs.lists.make_widgets_of.Given as goal
 use Rattle.host_widgets.specs.MadeLists.{ActsPassed}
 use Rattle.host_widgets.specs.HostActs.{Make}

@@ -5,7 +5,7 @@ use Rattle.ipc3_model.specs.Messages.{message_spelling}
 use Rattle.mbox_link.specs.Calls.{world}
 use Rattle.host_widgets.specs.Bringing.{Sent}
 use Rattle.host_widgets.proofs.Walks.{passing, handed_on}
-use Rattle.host_dynamic.specs.DynamicActs.{unmade_order}
+use Rattle.host_widgets.specs.UpActs.{unmade_order}
 use Rattle.host_dynamic.proofs.lists.unmake.Goals as goal
 use Rattle.host_widgets.specs.HostActs.{Unmake}
 use Rattle.host_widgets.specs.ActMessages.{act_message}

@@ -1,7 +1,7 @@
 use Rattle.std.proofs.Common.{map, take}
 use Rattle.mbox_link.specs.Calls.{world}
 use Rattle.host_widgets.proofs.Walks.{passing}
-use Rattle.host_dynamic.specs.DynamicActs.{unmade_order}
+use Rattle.host_widgets.specs.UpActs.{unmade_order}
 use Rattle.host_dynamic.proofs.lists.unmake.Given as goal
 use Rattle.host_widgets.specs.HostActs.{Unmake}
 use Rattle.host_widgets.specs.MadeLists.{ActsPassed}

@@ -3,7 +3,7 @@ use Rattle.std.proofs.lemmas.List.{length-map, length-take-le}
 use Rattle.stream_law.specs.declared.graph.Join.{Join}
 use Rattle.stream_law.proofs.Members.{filter-most}
 use Rattle.host_dynamic.specs.JoinEnds.{ends_join}
-use Rattle.host_dynamic.specs.Up.{is_join_at}
+use Rattle.host_widgets.specs.Up.{is_join_at}
 use Rattle.host_dynamic.proofs.making.joins_at.Goals as goal
 
 pub list_join-requires : goal.list_join-requires

@@ -1,6 +1,6 @@
 use Rattle.std.proofs.Common.{◌≡◌, take, filter}
 use Rattle.host_dynamic.specs.JoinEnds.{ends_joins}
-use Rattle.host_dynamic.specs.Up.{is_join_at}
+use Rattle.host_widgets.specs.Up.{is_join_at}
 use Rattle.host_dynamic.proofs.making.joins_at.Given as goal
 
 abbrev pub invariant-loop-join : goal.invariant-loop-join

@@ -1,6 +1,6 @@
 use Rattle.std.proofs.Common.{◌≡◌, ℕ, Bool, length, take}
 use Rattle.std.specs.List.{AllByRecursion}
-use Rattle.host_dynamic.specs.Need.{HasBrought}
+use Rattle.host_widgets.specs.Need.{HasBrought}
 use Rattle.host_dynamic.specs.Spreading.{AllAllowed, AreKept, HasAll, IsSplitMarked}
 use Rattle.host_dynamic.proofs.needing.mark_splits.Given as goal
 

@@ -5,10 +5,10 @@ use Rattle.std.proofs.lemmas.List.{length-replicate}
 use Rattle.stream_law.specs.declared.graph.Pipe.{Pipe}
 use Rattle.stream_law.specs.Order.{is_among}
 use Rattle.stream_law.proofs.Members.{in-each}
-use Rattle.host_dynamic.specs.Need.{IsEnough, IsNeeded}
+use Rattle.host_widgets.specs.Need.{IsEnough, IsNeeded}
 use Rattle.host_dynamic.specs.Spreading.{AllAllowed}
 use Rattle.host_dynamic.proofs.NeededNoted.{none-allowed, enough-onward, enough-back, allowed-enough}
-use Rattle.host_dynamic.proofs.Needs.{need-least, in-among}
+use Rattle.host_widgets.proofs.Needs.{need-least, in-among}
 use Rattle.host_dynamic.proofs.Noted.{all-noted}
 use Rattle.host_dynamic.proofs.Searchable.{searchable, host-low}
 use Rattle.host_dynamic.proofs.needing.need_of.Goals as goal

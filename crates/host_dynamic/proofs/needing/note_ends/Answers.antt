@@ -1,14 +1,12 @@
-use Rattle.std.proofs.Common.{◌≡◌, sym, ap, subst, ◌∙◌, ℕ, ◌<◌, ◌≤◌, length, get_or, true, List, None, arith}
+use Rattle.std.proofs.Common.{sym, ap, subst, ℕ, ◌<◌, ◌≤◌, length, get_or, true, List, None, arith}
 use Rattle.std.specs.Prelude.{⊤}
 use Rattle.std.specs.List.{AllByRecursion}
 use Rattle.std.proofs.lemmas.List.{take_all}
 use Rattle.stream_law.specs.declared.graph.Edge.{Edge}
 use Rattle.stream_law.specs.Order.{is_among}
-use Rattle.stream_law.proofs.Members.{IsIn, in-all}
-use Rattle.host_dynamic.specs.Need.{end_index, HasAt}
-use Rattle.host_dynamic.specs.Spreading.{NotesMore, BringsEnds, HasAll, end_noted}
+use Rattle.host_widgets.specs.Need.{end_index, HasAt}
+use Rattle.host_dynamic.specs.Spreading.{NotesMore, BringsEnds, HasAll}
 use Rattle.host_dynamic.proofs.Noted.{has-more}
-use Rattle.host_dynamic.proofs.Searchable.{end-among}
 use Rattle.host_dynamic.proofs.Spreading.{in-get, all-turn, notes-start, end-keeps, end-there, source-more, sink-more, kept-by}
 use Rattle.host_dynamic.proofs.needing.note_ends.Goals as goal
 

@@ -5,7 +5,7 @@ use Rattle.host_dynamic.proofs.Noted.{has-more}
 use Rattle.host_dynamic.proofs.Searchable.{index-among}
 use Rattle.stream_law.specs.Order.{is_among}
 use Rattle.host_dynamic.proofs.Spreading.{notes-start, cond-keeps, cond-there, cond-more}
-use Rattle.host_dynamic.specs.Need.{HasAt}
+use Rattle.host_widgets.specs.Need.{HasAt}
 use Rattle.host_dynamic.proofs.needing.note_marked.Goals as goal
 use Rattle.host_widgets.specs.Indices.{index_at}
 

@@ -1,6 +1,6 @@
 use Rattle.std.proofs.Common.{◌≡◌, ℕ, ◌<◌, get_or, true, false}
 use Rattle.stream_law.specs.Order.{is_among}
-use Rattle.host_dynamic.specs.Need.{HasAt}
+use Rattle.host_widgets.specs.Need.{HasAt}
 use Rattle.host_dynamic.specs.Spreading.{NotesMore}
 use Rattle.host_dynamic.proofs.needing.note_marked.Given as goal
 use Rattle.host_widgets.specs.Indices.{index_at}

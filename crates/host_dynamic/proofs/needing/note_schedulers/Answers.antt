@@ -4,7 +4,7 @@ use Rattle.std.specs.List.{AllByRecursion}
 use Rattle.std.proofs.lemmas.List.{take_all}
 use Rattle.stream_law.specs.declared.graph.Pipe.{Pipe}
 use Rattle.stream_law.specs.Order.{is_among}
-use Rattle.host_dynamic.specs.Need.{HasAt}
+use Rattle.host_widgets.specs.Need.{HasAt}
 use Rattle.host_dynamic.specs.Spreading.{NotesMore, BringsScheduler, HasAll}
 use Rattle.host_dynamic.proofs.Noted.{has-more}
 use Rattle.host_dynamic.proofs.Spreading.{in-get, all-turn, notes-start, sched-keeps, sched-there, sched-more, kept-by}

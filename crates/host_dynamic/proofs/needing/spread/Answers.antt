@@ -8,7 +8,7 @@ use Rattle.stream_law.specs.declared.graph.Graph.{Graph}
 use Rattle.stream_law.specs.Ways.{splits, reaches}
 use Rattle.stream_law.specs.Order.{is_among}
 use Rattle.stream_law.proofs.Members.{in-all, in-each}
-use Rattle.host_dynamic.specs.Need.{end_index, HasAt, is_joined_to}
+use Rattle.host_widgets.specs.Need.{end_index, HasAt, is_joined_to}
 use Rattle.host_dynamic.specs.Spreading.{AllAllowed, HasAll, BringsScheduler, BringsEnds, IsSplitMarked}
 use Rattle.host_dynamic.proofs.Noted.{has-more}
 use Rattle.host_dynamic.proofs.Searchable.{comps-low, joins-low}

@@ -10,8 +10,8 @@ use Rattle.host_widgets.proofs.Walks.{handed_on}
 use Rattle.host_pcm.specs.declared.asking.Ask.TheVariants.{Closing}
 use Rattle.host_pcm.specs.Asks.{early_fault}
 use Rattle.host_pcm.proofs.HostTests.{found_place}
-use Rattle.host_dynamic.specs.Dynamic.{up_act_rules}
-use Rattle.host_dynamic.specs.There.{shown_ids}
+use Rattle.host_widgets.specs.UpState.{up_act_rules}
+use Rattle.host_widgets.specs.There.{shown_ids}
 use Rattle.host_dynamic.specs.UpCalls.{UnmadeWhereOn}
 use Rattle.host_dynamic.specs.UpDevices.{UpAgrees, up_state_in}
 use Rattle.host_dynamic.specs.UpStates.{IsUpState}

@@ -2,7 +2,7 @@ use Rattle.std.proofs.Common.{refl, ap, subst, List, ℕ, length, Ok, Err, arith
 use Rattle.mbox_link.specs.Calls.{world}
 use Rattle.host_widgets.specs.Host.{Outcome}
 use Rattle.host_widgets.specs.Sides.{world_of}
-use Rattle.host_dynamic.specs.DynamicActs.{making_acts}
+use Rattle.host_widgets.specs.UpActs.{making_acts}
 use Rattle.host_dynamic.specs.UpCalls.{AfterMaking}
 use Rattle.host_dynamic.proofs.opening.make_or_unmake.Goals as goal
 use Rattle.host_widgets.specs.MadeLists.{MadeListed}

@@ -15,8 +15,9 @@ use Rattle.host_pcm.specs.declared.asking.Ask.TheVariants.{Opening}
 use Rattle.host_pcm.specs.Asks.{early_fault}
 use Rattle.host_pcm.specs.StreamCalls.{host_at}
 use Rattle.host_pcm.proofs.HostTests.{found_place}
-use Rattle.host_dynamic.specs.DynamicActs.{widgets_of}
-use Rattle.host_dynamic.specs.Dynamic.{lacking, up_act_rules}
+use Rattle.host_widgets.specs.UpActs.{widgets_of}
+use Rattle.host_dynamic.specs.Dynamic.{lacking}
+use Rattle.host_widgets.specs.UpState.{up_act_rules}
 use Rattle.host_dynamic.specs.UpDevices.{UpAgrees, up_state_in}
 use Rattle.host_dynamic.specs.UpStates.{IsUpState}
 use Rattle.host_dynamic.proofs.NeededNoted.{host-here}

@@ -8,7 +8,7 @@ use Rattle.host_widgets.specs.declared.answers.HostFault.TheVariants.{NotLoaded,
 use Rattle.host_widgets.specs.declared.kept.Found.TheVariants.{On}
 use Rattle.host_pm.specs.PowerTests.{resume_fault}
 use Rattle.host_dynamic.specs.Dynamic.{resuming_job}
-use Rattle.host_dynamic.specs.DynamicActs.{making_acts, widgets_of}
+use Rattle.host_widgets.specs.UpActs.{making_acts, widgets_of}
 use Rattle.host_dynamic.specs.UpDevices.{up_state_in}
 use Rattle.host_dynamic.proofs.UpAgreeing.{called-early, switched-off}
 use Rattle.host_dynamic.proofs.UpFew.{up-widgets}

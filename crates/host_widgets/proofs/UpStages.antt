@@ -21,8 +21,8 @@ use Rattle.host_widgets.specs.Expected.{stream_view, stated_bytes}
 use Rattle.host_widgets.proofs.ControlLists.{Pair}
 use Rattle.host_widgets.proofs.Joined.{edge_with}
 use Rattle.host_widgets.proofs.PutsTaken.{comp_while}
-use Rattle.host_dynamic.specs.There.{There}
-use Rattle.host_dynamic.specs.Up.{buffer_joins}
+use Rattle.host_widgets.specs.There.{There}
+use Rattle.host_widgets.specs.Up.{buffer_joins}
 use Rattle.host_widgets.specs.Indices.{join_index}
 
 -- ---- stages

@@ -19,11 +19,11 @@ use Rattle.host_widgets.specs.OneAct.{outcome_by}
 use Rattle.host_widgets.proofs.Effects.{row-decoded}
 use Rattle.host_widgets.proofs.Exchanges.{Came, Took, RefusedIt, Intercepted, Failed, came, verdict-number}
 use Rattle.host_widgets.proofs.StandingOn.{LeavesAll, ticks-leave}
-use Rattle.host_ctl.proofs.ControlsTaken.{done-passes}
-use Rattle.host_dynamic.specs.There.{There, there_in, by_row, there_after, silent_state}
-use Rattle.host_dynamic.specs.Dynamic.{UpState, up_own, up_act_rules}
-use Rattle.host_dynamic.proofs.RowsTold.{told, left-told}
-use Rattle.host_dynamic.proofs.RowsThere.{IsNoPart, row-told}
+use Rattle.host_widgets.proofs.DonePasses.{done-passes}
+use Rattle.host_widgets.specs.There.{There, there_in, by_row, there_after, silent_state}
+use Rattle.host_widgets.specs.UpState.{UpState, up_own, up_act_rules}
+use Rattle.host_widgets.proofs.RowsTold.{told, left-told}
+use Rattle.host_widgets.proofs.RowsThere.{IsNoPart, row-told}
 use Rattle.host_widgets.specs.HostActs.{Act}
 use Rattle.host_widgets.specs.ActMessages.{act_message}
 

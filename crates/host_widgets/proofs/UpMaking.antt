@@ -43,29 +43,29 @@ use Rattle.host_widgets.proofs.PutsTaken.{bare-setting, setting_while, comp_whil
 use Rattle.ipc3_model.specs.declared.message.Message.TheVariants.{Connect, PipeComplete}
 use Rattle.mbox_link.specs.BlobParts.{parts}
 use Rattle.mbox_link.specs.Step.{row, first_setting, heap_with_piece, no_memory}
-use Rattle.host_dynamic.specs.DynamicActs.{widgets_at, widgets_of, making_acts}
-use Rattle.host_dynamic.specs.There.{There, there_in, there_after, silent_state}
-use Rattle.host_dynamic.specs.Dynamic.{UpState}
-use Rattle.host_dynamic.specs.Need.{HasAt, HasBrought}
-use Rattle.host_dynamic.specs.Up.{is_join_at, buffer_joins}
-use Rattle.host_dynamic.proofs.Needs.{flat-in, in-flat, among-in, in-among, in-left, in-right, in-either, in-map, has-at}
-use Rattle.host_dynamic.proofs.Between.{same-bools, comp-named}
-use Rattle.host_dynamic.proofs.HostStreams.{stream-comp}
-use Rattle.host_dynamic.proofs.StageBetween.{comp-index, stage-between}
-use Rattle.host_dynamic.proofs.RowsTold.{told, left-told}
-use Rattle.host_dynamic.proofs.StageFinishes.{finish-told}
-use Rattle.host_dynamic.proofs.StageJoins.{with_joined, graph-joined, join-told}
-use Rattle.host_dynamic.proofs.StageMakes.{none-passes, with_id, piece-more, make-is, make-told, make-refused}
-use Rattle.host_dynamic.proofs.StageMessages.{make-fits, make-whole, join-fits, finish-fits}
-use Rattle.host_dynamic.proofs.StagePuts.{with_todo, put-runs, put-asked}
-use Rattle.host_dynamic.proofs.StageSame.{heap-same, at-same}
-use Rattle.host_dynamic.proofs.StageStays.{ways-stay}
-use Rattle.host_dynamic.proofs.Sublists.{filter-append, filter-all, filter-none, flat-append, AreOnce, once-filter, once-flat, once-split, range-low, low-range, range-once}
-use Rattle.host_dynamic.proofs.UpContext.{IsServing, AreApart, among-both, own-index, comp-up-by, join-at, ends-up, join-low, whole-once}
-use Rattle.host_dynamic.proofs.UpStages.{Stage, StreamPair, stage_graph, IsHeapAt, at_stage, IsStage, index_of_id, is_join_of, up_stage, IsAmid}
-use Rattle.host_dynamic.proofs.UpExchanges.{IsOwn, own-told, own-refused}
-use Rattle.host_dynamic.proofs.UpSending.{StagedFirst, AreAnswered}
-use Rattle.host_dynamic.proofs.UpWalks.{Runs, runs-on, with_there}
+use Rattle.host_widgets.specs.UpActs.{widgets_at, widgets_of, making_acts}
+use Rattle.host_widgets.specs.There.{There, there_in, there_after, silent_state}
+use Rattle.host_widgets.specs.UpState.{UpState}
+use Rattle.host_widgets.specs.Need.{HasAt, HasBrought}
+use Rattle.host_widgets.specs.Up.{is_join_at, buffer_joins}
+use Rattle.host_widgets.proofs.Needs.{flat-in, in-flat, among-in, in-among, in-left, in-right, in-either, in-map, has-at}
+use Rattle.host_widgets.proofs.Between.{same-bools, comp-named}
+use Rattle.host_widgets.proofs.HostStreams.{stream-comp}
+use Rattle.host_widgets.proofs.StageBetween.{comp-index, stage-between}
+use Rattle.host_widgets.proofs.RowsTold.{told, left-told}
+use Rattle.host_widgets.proofs.StageFinishes.{finish-told}
+use Rattle.host_widgets.proofs.StageJoins.{with_joined, graph-joined, join-told}
+use Rattle.host_widgets.proofs.StageMakes.{none-passes, with_id, piece-more, make-is, make-told, make-refused}
+use Rattle.host_widgets.proofs.StageMessages.{make-fits, make-whole, join-fits, finish-fits}
+use Rattle.host_widgets.proofs.StagePuts.{with_todo, put-runs, put-asked}
+use Rattle.host_widgets.proofs.StageSame.{heap-same, at-same}
+use Rattle.host_widgets.proofs.StageStays.{ways-stay}
+use Rattle.host_widgets.proofs.Sublists.{filter-append, filter-all, filter-none, flat-append, AreOnce, once-filter, once-flat, once-split, range-low, low-range, range-once}
+use Rattle.host_widgets.proofs.UpContext.{IsServing, AreApart, among-both, own-index, comp-up-by, join-at, ends-up, join-low, whole-once}
+use Rattle.host_widgets.proofs.UpStages.{Stage, StreamPair, stage_graph, IsHeapAt, at_stage, IsStage, index_of_id, is_join_of, up_stage, IsAmid}
+use Rattle.host_widgets.proofs.UpExchanges.{IsOwn, own-told, own-refused}
+use Rattle.host_widgets.proofs.UpSending.{StagedFirst, AreAnswered}
+use Rattle.host_widgets.proofs.UpWalks.{Runs, runs-on, with_there}
 use Rattle.host_widgets.specs.Groups.{is_control_of, finish_ids}
 use Rattle.host_widgets.specs.Indices.{index_at, is_up, join_index}
 

@@ -11,7 +11,7 @@ use Rattle.host_widgets.specs.Acts.{widget_ids, widget_words}
 use Rattle.host_widgets.specs.ActLists.{control_acts}
 use Rattle.host_widgets.specs.HostActs.{Act, Make, Join, Finish, Unmake}
 use Rattle.host_widgets.specs.Kept.{controls_of}
-use Rattle.host_dynamic.specs.Up.{buffer_joins}
+use Rattle.host_widgets.specs.Up.{buffer_joins}
 use Rattle.host_widgets.specs.Groups.{is_control_of, finish_ids}
 
 -- ---- making

@@ -14,9 +14,9 @@ use Rattle.stream_law.proofs.Walking.{Path, Walks, path-of, walks-lead}
 use Rattle.tplg_plan.specs.declared.plans.Plan.{Plan}
 use Rattle.tplg_plan.specs.Sound.{IsSound}
 use Rattle.host_widgets.proofs.NamedIds.{component-found}
-use Rattle.host_dynamic.specs.Need.{HasAt, IsEnough}
-use Rattle.host_dynamic.proofs.Needs.{host-on, has-at}
-use Rattle.host_dynamic.proofs.Between.{IsBetween, same-bools, kind-at, echo_by, echo-by, comp-named, edge-named, named-up, up-named, at-up, Side, side-of, source-named, sink-named, join-outof, source-walk, behind-up, join-there, whole-kind, kind-stays, echo-stays, none-echo, never-echo}
+use Rattle.host_widgets.specs.Need.{HasAt, IsEnough}
+use Rattle.host_widgets.proofs.Needs.{host-on, has-at}
+use Rattle.host_widgets.proofs.Between.{IsBetween, same-bools, kind-at, echo_by, echo-by, comp-named, edge-named, named-up, up-named, at-up, Side, side-of, source-named, sink-named, join-outof, source-walk, behind-up, join-there, whole-kind, kind-stays, echo-stays, none-echo, never-echo}
 use Rattle.host_widgets.specs.Indices.{index_at, is_up}
 
 -- ---- ways by walks

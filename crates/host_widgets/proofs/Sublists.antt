@@ -6,7 +6,7 @@ use Rattle.std.proofs.lemmas.Bool.{true≢false, eqb-true, eq-eqb, le-ltb, lt-lt
 use Rattle.stream_law.specs.Placed.{placed, AreAbove, Ascends, HasDistinct}
 use Rattle.stream_law.proofs.Members.{IsIn, find-in, kept-in}
 use Rattle.stream_law.proofs.Placing.{AreAbove-filter}
-use Rattle.host_dynamic.proofs.Needs.{in-right, in-either, flat-in}
+use Rattle.host_widgets.proofs.Needs.{in-right, in-either, flat-in}
 
 -- ---- what is left
 

@@ -2,7 +2,7 @@
 use Rattle.std.proofs.Common.{◌≡◌, Ok, Err}
 use Rattle.std.specs.Prelude.{Result, ℤ}
 use Rattle.stream_law.specs.State.{FwState}
-use Rattle.host_dynamic.specs.There.{There, there_in, row_left}
+use Rattle.host_widgets.specs.There.{There, there_in, row_left}
 
 -- what is there after it, or its error
 abbrev pub told : Result FwState ℤ → Result There ℤ

@@ -22,14 +22,14 @@ use Rattle.host_widgets.specs.IdleStreams.{idle_view}
 use Rattle.host_widgets.specs.ViewOf.{record_view}
 use Rattle.host_widgets.proofs.LookedUp.{all-found, alone}
 use Rattle.host_widgets.proofs.NamedIds.{component-found, buffer-found, pipeline-found, each-pipe}
-use Rattle.host_dynamic.specs.Need.{HasAt, end_index, HasBrought}
-use Rattle.host_dynamic.specs.Up.{is_join_at}
-use Rattle.host_dynamic.proofs.Needs.{in-left, has-at}
-use Rattle.host_dynamic.proofs.Between.{comp-named, side-of, fills-index, drains-index}
-use Rattle.host_dynamic.proofs.StageBetween.{passing-found, comp-index, edge-index}
-use Rattle.host_dynamic.proofs.StageStays.{AreHeldUp}
-use Rattle.host_dynamic.proofs.Sublists.{AreOnce, splits-once}
-use Rattle.host_dynamic.proofs.UpStages.{StreamPair, index_of_id}
+use Rattle.host_widgets.specs.Need.{HasAt, end_index, HasBrought}
+use Rattle.host_widgets.specs.Up.{is_join_at}
+use Rattle.host_widgets.proofs.Needs.{in-left, has-at}
+use Rattle.host_widgets.proofs.Between.{comp-named, side-of, fills-index, drains-index}
+use Rattle.host_widgets.proofs.StageBetween.{passing-found, comp-index, edge-index}
+use Rattle.host_widgets.proofs.StageStays.{AreHeldUp}
+use Rattle.host_widgets.proofs.Sublists.{AreOnce, splits-once}
+use Rattle.host_widgets.proofs.UpStages.{StreamPair, index_of_id}
 use Rattle.host_widgets.specs.Indices.{is_up, join_index}
 
 -- The record is one of the plan. What is up has what it brings; the streams that have parameters have what they need; and a stream whose

@@ -18,8 +18,8 @@ use Rattle.tplg_plan.specs.Sound.{IsSound, IsSideOf, IsPassed, FillsBuffer, Drai
 use Rattle.host_widgets.proofs.Joined.{side-source, side-sink}
 use Rattle.host_widgets.proofs.LookedUp.{all-found, some-counted}
 use Rattle.host_widgets.proofs.NamedIds.{component-found, buffer-found}
-use Rattle.host_dynamic.specs.Need.{HasAt, end_index, is_joined_to, HasBrought}
-use Rattle.host_dynamic.proofs.Needs.{in-map, has-at}
+use Rattle.host_widgets.specs.Need.{HasAt, end_index, is_joined_to, HasBrought}
+use Rattle.host_widgets.proofs.Needs.{in-map, has-at}
 use Rattle.host_widgets.specs.Indices.{index_at, named_index, is_up, buffer_index, join_index}
 
 pub same-bools : (a b : Bool) → (a ≡ true → b ≡ true) → (b ≡ true → a ≡ true) → a ≡ b

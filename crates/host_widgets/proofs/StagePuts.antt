@@ -48,16 +48,16 @@ use Rattle.host_widgets.proofs.PartFacts.{few-parts, more-behind, none-behind}
 use Rattle.host_widgets.proofs.PartRows.{HasStaged, part-message, part-more, part-last, staged-then}
 use Rattle.host_widgets.proofs.PartsReady.{made-more}
 use Rattle.host_widgets.proofs.PutsTaken.{comp_while, setting_while, wanted, with_kind, volume-new, put-comp, kept-comp}
-use Rattle.host_dynamic.specs.There.{There, there_in, there_after, silent_state, by_part}
-use Rattle.host_dynamic.specs.Dynamic.{UpState}
-use Rattle.host_dynamic.proofs.RowsTold.{told, left-told}
-use Rattle.host_dynamic.proofs.StageBetween.{comp-at}
-use Rattle.host_dynamic.proofs.StageJoins.{used-comp}
-use Rattle.host_dynamic.proofs.UpStages.{Stage, pipe_as, comps_left, edges_left, pipes_left, stage_graph, stage_streams, at_stage}
-use Rattle.host_dynamic.proofs.RowsThere.{IsNoPart}
-use Rattle.host_dynamic.proofs.UpExchanges.{IsOwn, own-told}
-use Rattle.host_dynamic.proofs.UpSending.{StagedFirst, AreAnswered}
-use Rattle.host_dynamic.proofs.UpWalks.{Runs, with_there}
+use Rattle.host_widgets.specs.There.{There, there_in, there_after, silent_state, by_part}
+use Rattle.host_widgets.specs.UpState.{UpState}
+use Rattle.host_widgets.proofs.RowsTold.{told, left-told}
+use Rattle.host_widgets.proofs.StageBetween.{comp-at}
+use Rattle.host_widgets.proofs.StageJoins.{used-comp}
+use Rattle.host_widgets.proofs.UpStages.{Stage, pipe_as, comps_left, edges_left, pipes_left, stage_graph, stage_streams, at_stage}
+use Rattle.host_widgets.proofs.RowsThere.{IsNoPart}
+use Rattle.host_widgets.proofs.UpExchanges.{IsOwn, own-told}
+use Rattle.host_widgets.proofs.UpSending.{StagedFirst, AreAnswered}
+use Rattle.host_widgets.proofs.UpWalks.{Runs, with_there}
 
 -- these live controls are still to be set
 abbrev pub with_todo : List Pair → Stage → Stage

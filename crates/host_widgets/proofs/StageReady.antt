@@ -24,17 +24,17 @@ use Rattle.host_widgets.proofs.Joined.{edge_with}
 use Rattle.host_widgets.proofs.LookedUp.{filter-within}
 use Rattle.host_widgets.proofs.NamedIds.{component-found, buffer-found, each-comp, each-edge}
 use Rattle.host_widgets.proofs.PutsTaken.{comp_while}
-use Rattle.host_dynamic.specs.Need.{HasAt, HasBrought, IsEnough}
-use Rattle.host_dynamic.proofs.Needs.{in-map, has-at}
-use Rattle.host_dynamic.proofs.Between.{IsBetween, same-bools, found-member, kind-of, comp-named, edge-named, named-up, up-named, Side, side-of, fills-index, drains-index, join-into, join-outof, whole-kind, kind-in, echo-stays, never-echo}
-use Rattle.host_dynamic.proofs.BetweenWays.{ways-walk, walk-ways, in-way, way-in, on-by, echo-splits, echo-up, back-on, echo-on, out-on, way-stays}
-use Rattle.host_dynamic.proofs.HostStreams.{IsHostKind}
-use Rattle.host_dynamic.proofs.StageBetween.{edge-index, edge-at, stage-between}
-use Rattle.host_dynamic.proofs.StageJoins.{stage-buffers, source-whole, sink-whole}
-use Rattle.host_dynamic.proofs.StageStays.{all-pass, pass-each, from-map}
-use Rattle.host_dynamic.proofs.Sublists.{filter-same, filter-both}
-use Rattle.host_dynamic.proofs.UpContext.{own-index}
-use Rattle.host_dynamic.proofs.UpStages.{Stage, index_of_id, stage_graph, comps_left, edges_left, pipes_left, pipe_as, IsAmid}
+use Rattle.host_widgets.specs.Need.{HasAt, HasBrought, IsEnough}
+use Rattle.host_widgets.proofs.Needs.{in-map, has-at}
+use Rattle.host_widgets.proofs.Between.{IsBetween, same-bools, found-member, kind-of, comp-named, edge-named, named-up, up-named, Side, side-of, fills-index, drains-index, join-into, join-outof, whole-kind, kind-in, echo-stays, never-echo}
+use Rattle.host_widgets.proofs.BetweenWays.{ways-walk, walk-ways, in-way, way-in, on-by, echo-splits, echo-up, back-on, echo-on, out-on, way-stays}
+use Rattle.host_widgets.proofs.HostStreams.{IsHostKind}
+use Rattle.host_widgets.proofs.StageBetween.{edge-index, edge-at, stage-between}
+use Rattle.host_widgets.proofs.StageJoins.{stage-buffers, source-whole, sink-whole}
+use Rattle.host_widgets.proofs.StageStays.{all-pass, pass-each, from-map}
+use Rattle.host_widgets.proofs.Sublists.{filter-same, filter-both}
+use Rattle.host_widgets.proofs.UpContext.{own-index}
+use Rattle.host_widgets.proofs.UpStages.{Stage, index_of_id, stage_graph, comps_left, edges_left, pipes_left, pipe_as, IsAmid}
 use Rattle.host_widgets.specs.Indices.{index_at, is_up, join_index}
 
 -- ---- right numbers

@@ -17,10 +17,10 @@ use Rattle.host_widgets.specs.declared.kept.Record.{Record}
 use Rattle.host_widgets.specs.declared.kept.StreamRec.{StreamRec}
 use Rattle.host_widgets.proofs.LookedUp.{found-is}
 use Rattle.host_widgets.proofs.NamedIds.{each-comp}
-use Rattle.host_dynamic.proofs.Needs.{in-map}
-use Rattle.host_dynamic.proofs.StageBetween.{passing-found}
-use Rattle.host_dynamic.proofs.StageStays.{from-map}
-use Rattle.host_dynamic.proofs.UpStages.{StreamPair}
+use Rattle.host_widgets.proofs.Needs.{in-map}
+use Rattle.host_widgets.proofs.StageBetween.{passing-found}
+use Rattle.host_widgets.proofs.StageStays.{from-map}
+use Rattle.host_widgets.proofs.UpStages.{StreamPair}
 
 abbrev pub IsHostKind : Kind → Type 0
 IsHostKind kind = (kind ≡ HostPlay) ⊎ (kind ≡ HostCapture)

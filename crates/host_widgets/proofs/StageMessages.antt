@@ -15,7 +15,7 @@ use Rattle.host_widgets.specs.HostActs.{Make, Unmake}
 use Rattle.host_widgets.proofs.MakeMessages.{is_comp_message, is_buffer_message, is_pipe_message}
 use Rattle.host_widgets.proofs.MakeStates.{message-comp, message-buffer, message-pipe}
 use Rattle.host_widgets.proofs.NamedIds.{named-at, id-fits}
-use Rattle.host_dynamic.proofs.RowsThere.{IsNoPart}
+use Rattle.host_widgets.proofs.RowsThere.{IsNoPart}
 
 module _ (plan : Plan) (sound : IsSound plan) where
   -- ---- making

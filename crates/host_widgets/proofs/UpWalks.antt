@@ -12,8 +12,8 @@ use Rattle.host_widgets.specs.Walk.{Walked, followed_by, goes_past, walk}
 use Rattle.host_widgets.specs.Routines.{Routine, Finished, Sending, followed, not_begun, walk_on, walk_routine}
 use Rattle.host_widgets.proofs.BuildingActs.{ends-at}
 use Rattle.host_widgets.specs.HostActs.{Act, after}
-use Rattle.host_dynamic.specs.There.{There, there_after}
-use Rattle.host_dynamic.specs.Dynamic.{UpState, up_own, up_act_rules}
+use Rattle.host_widgets.specs.There.{There, there_after}
+use Rattle.host_widgets.specs.UpState.{UpState, up_own, up_act_rules}
 
 -- an act that passes was not refused by the firmware itself
 pub passed-free : (fate : Fate) (o : Option Errno) → outcome_by fate o ≡ Ok tt → o ≡ None

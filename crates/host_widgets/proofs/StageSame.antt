@@ -16,9 +16,9 @@ use Rattle.host_widgets.proofs.Joined.{edge_with}
 use Rattle.host_widgets.proofs.LookedUp.{map-all}
 use Rattle.host_widgets.proofs.NamedIds.{component-found}
 use Rattle.host_widgets.proofs.PutsTaken.{comp_while}
-use Rattle.host_dynamic.proofs.HostStreams.{stream-comp}
-use Rattle.host_dynamic.proofs.Sublists.{filter-same, range-low}
-use Rattle.host_dynamic.proofs.UpStages.{Stage, StreamPair, pipe_as, comps_left, edges_left, pipes_left, stage_streams, IsHeapAt, at_stage}
+use Rattle.host_widgets.proofs.HostStreams.{stream-comp}
+use Rattle.host_widgets.proofs.Sublists.{filter-same, range-low}
+use Rattle.host_widgets.proofs.UpStages.{Stage, StreamPair, pipe_as, comps_left, edges_left, pipes_left, stage_streams, IsHeapAt, at_stage}
 
 module _ (plan : Plan) (sound : IsSound plan) (kept : Record) (a b : Stage) (has : (id : ℕ) → id < length plan.widgets → a.has id ≡ b.has id) where
   abbrev g : Graph

@@ -25,17 +25,17 @@ use Rattle.host_widgets.proofs.Joined.{edge_with, never-both}
 use Rattle.host_widgets.proofs.LookedUp.{any-found, found-map, found-is}
 use Rattle.host_widgets.proofs.NamedIds.{IsPipeline, component-found, buffer-found, pipeline-found, each-edge}
 use Rattle.host_widgets.proofs.PutsTaken.{comp_while}
-use Rattle.host_dynamic.specs.There.{there_after, silent_state}
-use Rattle.host_dynamic.proofs.Between.{side-of}
-use Rattle.host_dynamic.proofs.HostStreams.{pairs, no-stream}
-use Rattle.host_dynamic.proofs.PartsBetween.{found-left}
-use Rattle.host_dynamic.proofs.RowsTold.{told, left-told}
-use Rattle.host_dynamic.proofs.StageBetween.{comp-at, edge-at}
-use Rattle.host_dynamic.proofs.StageJoins.{has-comp, has-edge, no-comp, used-comp, used-edge}
-use Rattle.host_dynamic.proofs.StageMakes.{lost-each, none-passes}
-use Rattle.host_dynamic.proofs.StageStays.{from-map}
-use Rattle.host_dynamic.proofs.Sublists.{filter-same, filter-both, filter-map, all-filter}
-use Rattle.host_dynamic.proofs.UpStages.{Stage, StreamPair, pipe_as, comps_left, edges_left, pipes_left, stage_graph, stage_streams, IsHeapAt, IsSized, at_stage}
+use Rattle.host_widgets.specs.There.{there_after, silent_state}
+use Rattle.host_widgets.proofs.Between.{side-of}
+use Rattle.host_widgets.proofs.HostStreams.{pairs, no-stream}
+use Rattle.host_widgets.proofs.PartsBetween.{found-left}
+use Rattle.host_widgets.proofs.RowsTold.{told, left-told}
+use Rattle.host_widgets.proofs.StageBetween.{comp-at, edge-at}
+use Rattle.host_widgets.proofs.StageJoins.{has-comp, has-edge, no-comp, used-comp, used-edge}
+use Rattle.host_widgets.proofs.StageMakes.{lost-each, none-passes}
+use Rattle.host_widgets.proofs.StageStays.{from-map}
+use Rattle.host_widgets.proofs.Sublists.{filter-same, filter-both, filter-map, all-filter}
+use Rattle.host_widgets.proofs.UpStages.{Stage, StreamPair, pipe_as, comps_left, edges_left, pipes_left, stage_graph, stage_streams, IsHeapAt, IsSized, at_stage}
 use Rattle.host_widgets.specs.HostActs.{Unmake}
 use Rattle.host_widgets.specs.ActMessages.{unmake_by, act_message}
 

@@ -19,11 +19,11 @@ use Rattle.host_widgets.proofs.Joined.{source_by, sink_by, edge_with, side-sourc
 use Rattle.host_widgets.proofs.LookedUp.{find-map}
 use Rattle.host_widgets.proofs.NamedIds.{component-found, buffer-found, each-comp, each-edge}
 use Rattle.host_widgets.proofs.PutsTaken.{comp_while}
-use Rattle.host_dynamic.specs.Up.{is_join_at, buffer_joins}
-use Rattle.host_dynamic.proofs.Needs.{in-flat, among-in}
-use Rattle.host_dynamic.proofs.Between.{IsBetween, EndsIn, join-into, join-outof, fills-index, drains-index}
-use Rattle.host_dynamic.proofs.PartsBetween.{found-left}
-use Rattle.host_dynamic.proofs.UpStages.{Stage, index_of_id, is_join_of, stage_graph, comps_left, edges_left, IsAmid}
+use Rattle.host_widgets.specs.Up.{is_join_at, buffer_joins}
+use Rattle.host_widgets.proofs.Needs.{in-flat, among-in}
+use Rattle.host_widgets.proofs.Between.{IsBetween, EndsIn, join-into, join-outof, fills-index, drains-index}
+use Rattle.host_widgets.proofs.PartsBetween.{found-left}
+use Rattle.host_widgets.proofs.UpStages.{Stage, index_of_id, is_join_of, stage_graph, comps_left, edges_left, IsAmid}
 use Rattle.host_widgets.specs.Indices.{join_index}
 
 -- what a map of an option comes to

@@ -13,7 +13,7 @@ use Rattle.stream_law.specs.Order.{is_among}
 use Rattle.stream_law.proofs.Members.{IsIn, in-all, in-each, any-in, in-any, find-in}
 use Rattle.stream_law.proofs.Walking.{Path, Walks, path-of, leads-same, walk-on, walks-lead}
 use Rattle.stream_law.proofs.Among.{is_among-filter}
-use Rattle.host_dynamic.specs.Need.{HasAt, end_index, IsEnough, IsNeeded, is_joined_to, bring, way_brings, scheduler_brings, buffer_brings, joined_brings, split_brings, brings, host_index, is_needed, need_in, IsPiped}
+use Rattle.host_widgets.specs.Need.{HasAt, end_index, IsEnough, IsNeeded, is_joined_to, bring, way_brings, scheduler_brings, buffer_brings, joined_brings, split_brings, brings, host_index, is_needed, need_in, IsPiped}
 use Rattle.host_widgets.specs.Indices.{named_index, index_at, pipe_indices}
 
 -- ---- members of lists

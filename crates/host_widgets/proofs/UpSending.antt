@@ -20,10 +20,10 @@ use Rattle.host_widgets.specs.Walk.{walk, followed_by, goes_past}
 use Rattle.host_widgets.proofs.BuildingActs.{ends-at}
 use Rattle.host_widgets.proofs.PartRows.{HasStaged}
 use Rattle.host_widgets.proofs.StandingOn.{LeavesAll, ticks-leave}
-use Rattle.host_dynamic.specs.There.{there_in}
-use Rattle.host_dynamic.specs.Dynamic.{UpState, up_own, up_act_rules}
-use Rattle.host_dynamic.proofs.UpExchanges.{ticks-there, IsOwn, before, Left, IsMet, act-met}
-use Rattle.host_dynamic.proofs.UpWalks.{passed-free}
+use Rattle.host_widgets.specs.There.{there_in}
+use Rattle.host_widgets.specs.UpState.{UpState, up_own, up_act_rules}
+use Rattle.host_widgets.proofs.UpExchanges.{ticks-there, IsOwn, before, Left, IsMet, act-met}
+use Rattle.host_widgets.proofs.UpWalks.{passed-free}
 use Rattle.host_widgets.specs.ActMessages.{act_message}
 use Rattle.host_widgets.specs.MadeLists.{ActsPassed}
 

@@ -19,11 +19,11 @@ use Rattle.host_widgets.specs.HostActs.{Finish}
 use Rattle.host_widgets.proofs.Joined.{edge_with}
 use Rattle.host_widgets.proofs.LookedUp.{any-found, found-map, found-is, map-twice}
 use Rattle.host_widgets.proofs.PutsTaken.{comp_while}
-use Rattle.host_dynamic.specs.There.{there_after, silent_state}
-use Rattle.host_dynamic.proofs.PartsBetween.{found-left}
-use Rattle.host_dynamic.proofs.RowsTold.{told, left-told}
-use Rattle.host_dynamic.proofs.StageJoins.{has-comp, used-comp}
-use Rattle.host_dynamic.proofs.UpStages.{Stage, pipe_as, comps_left, edges_left, pipes_left, stage_graph, stage_streams, at_stage}
+use Rattle.host_widgets.specs.There.{there_after, silent_state}
+use Rattle.host_widgets.proofs.PartsBetween.{found-left}
+use Rattle.host_widgets.proofs.RowsTold.{told, left-told}
+use Rattle.host_widgets.proofs.StageJoins.{has-comp, used-comp}
+use Rattle.host_widgets.proofs.UpStages.{Stage, pipe_as, comps_left, edges_left, pipes_left, stage_graph, stage_streams, at_stage}
 
 -- one pipeline more is complete
 abbrev pub with_done : ℕ → Stage → Stage

@@ -12,12 +12,12 @@ use Rattle.stream_law.proofs.Members.{in-all, find-in, in-kept, kept-in}
 use Rattle.tplg_plan.specs.declared.plans.Plan.{Plan}
 use Rattle.tplg_plan.specs.Sound.{IsSound}
 use Rattle.host_widgets.proofs.NamedIds.{each-comp, each-edge}
-use Rattle.host_dynamic.specs.Need.{HasBrought, IsEnough}
-use Rattle.host_dynamic.specs.Up.{is_join_at, buffer_joins, graph_of_up}
-use Rattle.host_dynamic.proofs.Needs.{in-flat, flat-in, among-in}
-use Rattle.host_dynamic.proofs.Between.{IsBetween, none-echo, never-echo, up-named, edge-named, echo-stays}
-use Rattle.host_dynamic.proofs.BetweenWays.{way-stays}
-use Rattle.host_dynamic.proofs.BetweenTouches.{touch-stays}
+use Rattle.host_widgets.specs.Need.{HasBrought, IsEnough}
+use Rattle.host_widgets.specs.Up.{is_join_at, buffer_joins, graph_of_up}
+use Rattle.host_widgets.proofs.Needs.{in-flat, flat-in, among-in}
+use Rattle.host_widgets.proofs.Between.{IsBetween, none-echo, never-echo, up-named, edge-named, echo-stays}
+use Rattle.host_widgets.proofs.BetweenWays.{way-stays}
+use Rattle.host_widgets.proofs.BetweenTouches.{touch-stays}
 use Rattle.host_widgets.specs.Indices.{is_up}
 
 pub found-left : {X : Type 0} (p q : X → Bool) (xs : List X) (x : X) → find p xs ≡ Some x → q x ≡ true → find p (filter q xs) ≡ Some x

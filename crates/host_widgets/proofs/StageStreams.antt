@@ -32,13 +32,13 @@ use Rattle.host_widgets.specs.HostActs.{Trig, Free, triggered_found, triggered_s
 use Rattle.host_widgets.specs.Kept.{changed, with_stream}
 use Rattle.host_widgets.specs.StreamStands.{takes_trigger}
 use Rattle.host_widgets.proofs.LookedUp.{found-map}
-use Rattle.host_dynamic.specs.There.{there_after, silent_state}
-use Rattle.host_dynamic.proofs.RowsTold.{told, left-told}
-use Rattle.host_dynamic.proofs.HostStreams.{IsHostKind, stream-comp}
-use Rattle.host_dynamic.proofs.PartsBetween.{found-left}
-use Rattle.host_dynamic.proofs.StageBetween.{comp-at}
-use Rattle.host_dynamic.proofs.StageJoins.{used-comp}
-use Rattle.host_dynamic.proofs.UpStages.{Stage, StreamPair, stage_graph, stage_streams, at_stage}
+use Rattle.host_widgets.specs.There.{there_after, silent_state}
+use Rattle.host_widgets.proofs.RowsTold.{told, left-told}
+use Rattle.host_widgets.proofs.HostStreams.{IsHostKind, stream-comp}
+use Rattle.host_widgets.proofs.PartsBetween.{found-left}
+use Rattle.host_widgets.proofs.StageBetween.{comp-at}
+use Rattle.host_widgets.proofs.StageJoins.{used-comp}
+use Rattle.host_widgets.proofs.UpStages.{Stage, StreamPair, stage_graph, stage_streams, at_stage}
 
 -- ---- streams of which one is changed
 

@@ -11,10 +11,10 @@ use Rattle.stream_law.specs.Order.{is_among}
 use Rattle.stream_law.proofs.Members.{IsIn, any-in, in-any}
 use Rattle.tplg_plan.specs.declared.plans.Plan.{Plan}
 use Rattle.tplg_plan.specs.Sound.{IsSound}
-use Rattle.host_dynamic.specs.Need.{HasAt, IsEnough}
-use Rattle.host_dynamic.proofs.Needs.{in-left, in-right, in-either, has-at}
-use Rattle.host_dynamic.proofs.Between.{IsBetween, same-bools, member-found, found-member, kind-at, comp-named, edge-named, up-named, behind-up, source-walk, whole-kind, echo-stays}
-use Rattle.host_dynamic.proofs.BetweenWays.{echo-splits, way-stays}
+use Rattle.host_widgets.specs.Need.{HasAt, IsEnough}
+use Rattle.host_widgets.proofs.Needs.{in-left, in-right, in-either, has-at}
+use Rattle.host_widgets.proofs.Between.{IsBetween, same-bools, member-found, found-member, kind-at, comp-named, edge-named, up-named, behind-up, source-walk, whole-kind, echo-stays}
+use Rattle.host_widgets.proofs.BetweenWays.{echo-splits, way-stays}
 use Rattle.host_widgets.specs.Indices.{index_at}
 
 module _ (plan : Plan) (sound : IsSound plan) (up : List ℕ) (k : Graph) (between : IsBetween plan.graph up k) where

@@ -39,12 +39,12 @@ use Rattle.host_widgets.proofs.MakeStates.{message-comp, message-buffer, message
 use Rattle.host_widgets.proofs.NamedIds.{named-at}
 use Rattle.host_widgets.proofs.PutsTaken.{setting_while, comp_while}
 use Rattle.host_widgets.proofs.StreamPlaces.{streams-ascend}
-use Rattle.host_dynamic.specs.There.{There, there_in, there_after, silent_state}
-use Rattle.host_dynamic.proofs.RowsTold.{told, left-told}
-use Rattle.host_dynamic.proofs.HostStreams.{IsHostKind, stream-comp, comp-stream, no-stream, no-host}
-use Rattle.host_dynamic.proofs.Sublists.{all-placed, placed-left, none-placed, range-ascends, range-found, distinct-one}
-use Rattle.host_dynamic.proofs.StageStays.{from-map}
-use Rattle.host_dynamic.proofs.UpStages.{Stage, StreamPair, pipe_as, comps_left, edges_left, pipes_left, stage_graph, stage_streams, IsHeapAt, IsSized, at_stage, index_of_id}
+use Rattle.host_widgets.specs.There.{There, there_in, there_after, silent_state}
+use Rattle.host_widgets.proofs.RowsTold.{told, left-told}
+use Rattle.host_widgets.proofs.HostStreams.{IsHostKind, stream-comp, comp-stream, no-stream, no-host}
+use Rattle.host_widgets.proofs.Sublists.{all-placed, placed-left, none-placed, range-ascends, range-found, distinct-one}
+use Rattle.host_widgets.proofs.StageStays.{from-map}
+use Rattle.host_widgets.proofs.UpStages.{Stage, StreamPair, pipe_as, comps_left, edges_left, pipes_left, stage_graph, stage_streams, IsHeapAt, IsSized, at_stage, index_of_id}
 
 -- ---- what is not there
 

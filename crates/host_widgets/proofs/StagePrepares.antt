@@ -31,23 +31,23 @@ use Rattle.host_widgets.proofs.LookedUp.{any-found, each-found}
 use Rattle.host_widgets.proofs.OthersAgree.{is_other, agrees-exactly}
 use Rattle.host_widgets.proofs.StreamAnswers.{rests}
 use Rattle.host_widgets.proofs.StreamPlaces.{streams-ascend}
-use Rattle.host_dynamic.specs.There.{There, there_after, row_left, silent_state}
-use Rattle.host_dynamic.specs.Need.{HasBrought, IsEnough}
-use Rattle.host_dynamic.specs.Up.{is_join_at, buffer_joins}
-use Rattle.host_dynamic.proofs.Needs.{in-map, flat-in, in-among, has-at, host-on}
-use Rattle.host_dynamic.proofs.Between.{IsBetween, same-bools, comp-named}
-use Rattle.host_dynamic.proofs.BetweenTouches.{touch-stays}
-use Rattle.host_dynamic.proofs.HostStreams.{IsHostKind, stream-comp}
-use Rattle.host_dynamic.proofs.RowsTold.{told, left-told}
-use Rattle.host_dynamic.proofs.StageBetween.{comp-index, comp-at, stage-between}
-use Rattle.host_dynamic.proofs.StageJoins.{used-comp}
-use Rattle.host_dynamic.proofs.StageMakes.{zip-ascends}
-use Rattle.host_dynamic.proofs.StageReady.{way-ready, stage-apart}
-use Rattle.host_dynamic.proofs.StageStays.{streams-agree, from-map}
-use Rattle.host_dynamic.proofs.StageStreams.{changed_one, other-stays, streams-changed, stream-at}
-use Rattle.host_dynamic.proofs.Sublists.{filter-all}
-use Rattle.host_dynamic.proofs.UpContext.{IsServing, join-at, ends-up}
-use Rattle.host_dynamic.proofs.UpStages.{Stage, StreamPair, stage_graph, stage_streams, at_stage, index_of_id, is_join_of, up_stage, IsAmid}
+use Rattle.host_widgets.specs.There.{There, there_after, row_left, silent_state}
+use Rattle.host_widgets.specs.Need.{HasBrought, IsEnough}
+use Rattle.host_widgets.specs.Up.{is_join_at, buffer_joins}
+use Rattle.host_widgets.proofs.Needs.{in-map, flat-in, in-among, has-at, host-on}
+use Rattle.host_widgets.proofs.Between.{IsBetween, same-bools, comp-named}
+use Rattle.host_widgets.proofs.BetweenTouches.{touch-stays}
+use Rattle.host_widgets.proofs.HostStreams.{IsHostKind, stream-comp}
+use Rattle.host_widgets.proofs.RowsTold.{told, left-told}
+use Rattle.host_widgets.proofs.StageBetween.{comp-index, comp-at, stage-between}
+use Rattle.host_widgets.proofs.StageJoins.{used-comp}
+use Rattle.host_widgets.proofs.StageMakes.{zip-ascends}
+use Rattle.host_widgets.proofs.StageReady.{way-ready, stage-apart}
+use Rattle.host_widgets.proofs.StageStays.{streams-agree, from-map}
+use Rattle.host_widgets.proofs.StageStreams.{changed_one, other-stays, streams-changed, stream-at}
+use Rattle.host_widgets.proofs.Sublists.{filter-all}
+use Rattle.host_widgets.proofs.UpContext.{IsServing, join-at, ends-up}
+use Rattle.host_widgets.proofs.UpStages.{Stage, StreamPair, stage_graph, stage_streams, at_stage, index_of_id, is_join_of, up_stage, IsAmid}
 use Rattle.host_widgets.specs.Indices.{index_at, join_index}
 
 -- ---- the stage at which all that is up is there

@@ -18,12 +18,12 @@ use Rattle.host_widgets.specs.Kept.{control_at}
 use Rattle.host_widgets.specs.Expected.{stream_view}
 use Rattle.host_widgets.specs.ViewOf.{graph_by, record_setting, record_view}
 use Rattle.host_widgets.proofs.ReadyWays.{touch-set}
-use Rattle.host_dynamic.specs.Need.{IsEnough}
-use Rattle.host_dynamic.proofs.Needs.{in-map, has-at}
-use Rattle.host_dynamic.proofs.Between.{IsBetween}
-use Rattle.host_dynamic.proofs.BetweenWays.{way-stays}
-use Rattle.host_dynamic.proofs.BetweenTouches.{touch-stays}
-use Rattle.host_dynamic.proofs.UpStages.{StreamPair}
+use Rattle.host_widgets.specs.Need.{IsEnough}
+use Rattle.host_widgets.proofs.Needs.{in-map, has-at}
+use Rattle.host_widgets.proofs.Between.{IsBetween}
+use Rattle.host_widgets.proofs.BetweenWays.{way-stays}
+use Rattle.host_widgets.proofs.BetweenTouches.{touch-stays}
+use Rattle.host_widgets.proofs.UpStages.{StreamPair}
 use Rattle.host_widgets.specs.Indices.{index_at}
 
 -- a test that each member passes

@@ -15,8 +15,8 @@ use Rattle.stream_law.specs.Ways.{comp_of, is_of, is_complete, is_live_phase, is
 use Rattle.ipc3_model.specs.declared.message.Message.{Message}
 use Rattle.ipc3_model.specs.declared.message.Message.TheVariants as messages
 use Rattle.mbox_link.specs.Step.{row, busy, no_device, no_memory, invalid, has_comp, has_edge, has_index, is_used, kind_at, has_kind, comp_bytes, buffer_bytes, pipe_bytes, has_hole, kind_of, is_joined, is_refused_join, complete_pipe, has_complete_pipe, touches, is_held, without_edge, is_index_held, free_pipe, new_setting, value_set, control_values_at, part_at, is_host, phase_at, is_stream_phase, is_refused_params, stream_changed, set_stream, set_phase, is_prepared, is_paused, with_setting_at}
-use Rattle.host_dynamic.specs.There.{there_in, silent_state}
-use Rattle.host_dynamic.proofs.RowsTold.{told}
+use Rattle.host_widgets.specs.There.{there_in, silent_state}
+use Rattle.host_widgets.proofs.RowsTold.{told}
 
 -- after a test that both pass or both fail
 behind : (b : Bool) (e : ℤ) (r s : Result FwState ℤ) → told r ≡ told s → told (cond b (Err e) r) ≡ told (cond b (Err e) s)

@@ -26,12 +26,12 @@ use Rattle.host_widgets.proofs.JoinRows.{connects, within-outs, within-ins, list
 use Rattle.host_widgets.proofs.LookedUp.{all-found, any-found, any-lost, map-twice, filter-fewer}
 use Rattle.host_widgets.proofs.NamedIds.{component-found, buffer-found, each-edge}
 use Rattle.host_widgets.proofs.PutsTaken.{comp_while}
-use Rattle.host_dynamic.specs.There.{there_after, silent_state}
-use Rattle.host_dynamic.proofs.Between.{found-member, side-of}
-use Rattle.host_dynamic.proofs.RowsTold.{told, left-told}
-use Rattle.host_dynamic.proofs.StageBetween.{comp-at, edge-at, at-comp, at-edge, source-in, sink-in}
-use Rattle.host_dynamic.proofs.Sublists.{filter-both, filter-map}
-use Rattle.host_dynamic.proofs.UpStages.{Stage, pipe_as, edges_left, comps_left, pipes_left, stage_graph, stage_streams, at_stage}
+use Rattle.host_widgets.specs.There.{there_after, silent_state}
+use Rattle.host_widgets.proofs.Between.{found-member, side-of}
+use Rattle.host_widgets.proofs.RowsTold.{told, left-told}
+use Rattle.host_widgets.proofs.StageBetween.{comp-at, edge-at, at-comp, at-edge, source-in, sink-in}
+use Rattle.host_widgets.proofs.Sublists.{filter-both, filter-map}
+use Rattle.host_widgets.proofs.UpStages.{Stage, pipe_as, edges_left, comps_left, pipes_left, stage_graph, stage_streams, at_stage}
 
 -- ---- one of a kind
 

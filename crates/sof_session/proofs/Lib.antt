@@ -67,6 +67,7 @@ pub mod SentStays
 pub mod CallStays
 pub mod StepDone
 pub mod JobPorts
+pub mod RoutineEnds
 pub mod StillJobs
 pub mod UpStays
 pub mod LiveViews

@@ -29,7 +29,7 @@ use Rattle.host_widgets.specs.Routines.{Routine}
 use Rattle.host_widgets.specs.Walk.{walk}
 use Rattle.host_widgets.proofs.FewJoins.{few-brought}
 use Rattle.host_widgets.specs.UpActs.{widgets_of, making_acts, pipe_ids, unmade_order, unmaking_acts}
-use Rattle.host_dynamic.specs.Dynamic.{plain_job, lacking, after_unmaking, unmade, after_making, opening_by, after_closing, closing_by, after_resuming, resuming_job, control_order, is_control_up, unsent, with_stream_shut, parting}
+use Rattle.host_dynamic.specs.Dynamic.{plain_job, lacking, after_unmaking, unmade, after_making, opening_by, after_closing, closing_by, after_resuming, resuming_job, is_control_up, unsent, with_stream_shut, parting}
 use Rattle.host_widgets.specs.UpState.{UpState, up_act_rules}
 use Rattle.host_widgets.specs.There.{ids_there_of}
 use Rattle.host_widgets.specs.Need.{is_needed, need_in}
@@ -45,9 +45,7 @@ use Rattle.sof_session.specs.UpCommands.{up_fault, up_job}
 use Rattle.sof_session.proofs.FewOrders.{few-order}
 use Rattle.sof_session.proofs.ResumeSteps.{few-prepares}
 use Rattle.sof_session.proofs.PowerSteps.{few-streams}
-use Rattle.sof_session.proofs.RoutineBoots.{NoneBoots}
 use Rattle.sof_session.proofs.RoutineNumbers.{SendsWithin}
-use Rattle.sof_session.proofs.RunBoots.{none-ended}
 use Rattle.sof_session.proofs.SameNext.{due}
 use Rattle.host_widgets.specs.Groups.{is_control_of, finish_ids}
 use Rattle.host_widgets.specs.Indices.{pipe_indices, join_index}
@@ -318,64 +316,3 @@ module _ (plan : Plan) (sound : IsSound plan) (heap : ℕ) (s : UpState) (is : I
   up-few (commands.Drop k) plans none = absurd (cc plans)
   up-few (commands.Lose k) plans none = absurd (cc plans)
   up-few (commands.Lag k ticks) plans none = absurd (cc plans)
-
--- ---- no last moment of a job is a boot
-
-module _ (plan : Plan) where
-  abbrev None_boots : Routine UpState Act → Type 0
-  None_boots routine = NoneBoots (up_act_rules plan) routine
-
-  unmaking-none : (done : UpState → UpState) (now : UpState) (o : Outcome) → None_boots (after_unmaking done now o)
-  unmaking-none done now (Ok passed) = refl
-  unmaking-none done now (Err fault) = refl
-
-  making-none : (host : ℕ) (ns : List ℕ) (now : UpState) (o : Outcome) → None_boots (after_making plan host ns now o)
-  making-none host ns now (Ok passed) = refl
-  making-none host ns now (Err (faults.Refused e)) = λ x p. unmaking-none (λ y. y) x p
-  making-none host ns now (Err faults.NotLoaded) = refl
-  making-none host ns now (Err faults.Loaded) = refl
-  making-none host ns now (Err (faults.NoSuch name)) = refl
-  making-none host ns now (Err (faults.State found)) = refl
-  making-none host ns now (Err faults.Off) = refl
-  making-none host ns now (Err (faults.Range k)) = refl
-  making-none host ns now (Err faults.LinkDown) = refl
-  making-none host ns now (Err (faults.Blob k)) = refl
-
-  opening-none : (s : UpState) (host : ℕ) (ns : List ℕ) (power : Power) → None_boots (opening_by power plan host ns s)
-  opening-none s host ns powers.On = λ now o. making-none host ns now o
-  opening-none s host ns powers.Off = refl
-  opening-none s host ns powers.Unloaded = refl
-
-  closed-none : (host : ℕ) (now : UpState) (o : Outcome) → None_boots (after_closing plan host now o)
-  closed-none host now (Ok passed) = λ x p. unmaking-none (with_stream_shut plan host) x p
-  closed-none host now (Err (faults.Refused e)) = refl
-  closed-none host now (Err faults.NotLoaded) = refl
-  closed-none host now (Err faults.Loaded) = refl
-  closed-none host now (Err (faults.NoSuch name)) = refl
-  closed-none host now (Err (faults.State found)) = refl
-  closed-none host now (Err faults.Off) = refl
-  closed-none host now (Err (faults.Range k)) = refl
-  closed-none host now (Err faults.LinkDown) = refl
-  closed-none host now (Err (faults.Blob k)) = refl
-
-  closing-none : (s : UpState) (host : ℕ) (found : Found) (power : Power) → None_boots (closing_by power plan host found s)
-  closing-none s host found powers.On = λ now o. closed-none host now o
-  closing-none s host found powers.Off = refl
-  closing-none s host found powers.Unloaded = refl
-
-  resuming-none : (before now : UpState) (o : Outcome) → None_boots (after_resuming before now o)
-  resuming-none before now (Ok passed) = refl
-  resuming-none before now (Err fault) = refl
-
-  plain-none : (s : UpState) (o : Procedure) → None_boots (plain_job plan s o).routine
-  plain-none s o now outcome = none-ended o.ending plan o.done s.kept now.kept outcome
-
-  pub up-none : (heap : ℕ) (s : UpState) (command : Command) → None_boots (up_job plan heap s command).routine
-  up-none heap s commands.Load = refl
-  up-none heap s commands.Unload = refl
-  up-none heap s commands.Resume = λ now o. resuming-none s now o
-  up-none heap s (commands.Open name) = opening-none s _ _ s.kept.power
-  up-none heap s (commands.Close name) = closing-none s _ _ s.kept.power
-  up-none heap s (commands.Set name values) = plain-none s (control_order plan s.up name (order_of plan s.kept (commands.Set name values)))
-  up-none heap s (commands.Bytes name blob) = plain-none s (control_order plan s.up name (order_of plan s.kept (commands.Bytes name blob)))
-  up-none heap s command = plain-none s (order_of plan s.kept command)

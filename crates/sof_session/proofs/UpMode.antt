@@ -23,7 +23,8 @@ use Rattle.sof_session.specs.UpCommands.{up_rules, up_shown}
 use Rattle.sof_session.proofs.ModeLaws.{ModeLaws}
 use Rattle.sof_session.proofs.RoutineBoots.{inside-by, boots-by}
 use Rattle.sof_session.proofs.RoutineNumbers.{within-by, same-by}
-use Rattle.sof_session.proofs.UpFew.{up_most, most-few, up-few, up-none}
+use Rattle.sof_session.proofs.UpFew.{up_most, most-few, up-few}
+use Rattle.sof_session.proofs.RoutineEnds.{up-none}
 use Rattle.sof_session.proofs.UpPaced.{up-paced}
 
 module _ {P : Type 0} (means : Meaning P) where

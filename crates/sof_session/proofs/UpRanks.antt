@@ -86,9 +86,6 @@ module _ (plan : Plan) where
   abbrev AreSent : List Act → Type 0
   AreSent acts = AllByRecursion IsSent acts
 
-  ordinary : (acts : List Act) → AreSent acts → AllByRecursion (IsOfPlan plan) acts
-  ordinary acts sent = all-along IsSent (IsOfPlan plan) (λ act is. is) acts sent
-
   parts-sent : (comp : ℕ) (blob : List ℕ) → AreSent (part_acts comp blob)
   parts-sent comp blob = all-each IsSent (Part comp blob) (λ k. tt) (part_numbers blob)
 
@@ -243,7 +240,7 @@ module _ (plan : Plan) where
     plain-ranked s o are first sent = record {
       first = first;
       from = are;
-      routine = (ordinary o.acts sent, λ now outcome later. (end-ranks o.ending plan o.done s.kept now.kept outcome, by-power (end_by o.ending plan o.done s.kept now.kept outcome).0.power now.there later));
+      routine = (sent, λ now outcome later. (end-ranks o.ending plan o.done s.kept now.kept outcome, by-power (end_by o.ending plan o.done s.kept now.kept outcome).0.power now.there later));
     }
 
     -- one whose control is up, or not
@@ -264,7 +261,7 @@ module _ (plan : Plan) where
     made-ranked host n now (Err fault) later = (tt, cut-ranked now later)
 
     open-ranked : (power : Power) (host : ℕ) (n : List ℕ) (s : UpState) → AreEdges plan s.there → IsRanked (opening_by power plan host n s)
-    open-ranked powers.On host n s are = (ordinary (making_acts plan s.kept n) (making-sent s.kept n), made-ranked host n)
+    open-ranked powers.On host n s are = (making-sent s.kept n, made-ranked host n)
     open-ranked powers.Unloaded host n s are = (tt, are)
     open-ranked powers.Off host n s are = (tt, are)
 
@@ -274,7 +271,7 @@ module _ (plan : Plan) where
     shut-ranked host now (Err fault) later = (tt, cut-ranked now later)
 
     close-ranked : (power : Power) (host : ℕ) (found : Found) (s : UpState) → AreEdges plan s.there → IsRanked (closing_by power plan host found s)
-    close-ranked powers.On host found s are = (ordinary (close_by host found) (close-sent host found), shut-ranked host)
+    close-ranked powers.On host found s are = (close-sent host found, shut-ranked host)
     close-ranked powers.Unloaded host found s are = (tt, are)
     close-ranked powers.Off host found s are = (tt, are)
 
@@ -296,8 +293,7 @@ module _ (plan : Plan) where
         first = tt;
         from = tt;
         routine = (
-          ordinary (making_acts plan s.kept s.up ++ flat_map prepare_acts (zip plan.streams s.kept.streams))
-              (all-both IsSent (making_acts plan s.kept s.up) (flat_map prepare_acts (zip plan.streams s.kept.streams)) (making-sent s.kept s.up)
+          (all-both IsSent (making_acts plan s.kept s.up) (flat_map prepare_acts (zip plan.streams s.kept.streams)) (making-sent s.kept s.up)
               (all-flat IsSent prepare_acts (λ (p : StreamPlan × StreamRec). prepare-sent p.0.host p.1.found p.1.params) (zip plan.streams s.kept.streams))),
           λ now outcome later. resumed-ranked s now outcome are later,
         );

@@ -20,7 +20,7 @@ use Rattle.host_pcm.specs.Asks.{is_closed}
 use Rattle.host_dynamic.specs.Dynamic.{needed, need_of_stream}
 use Rattle.host_widgets.specs.Need.{end_index, HasAt, HasBrought, IsEnough, IsPiped, is_joined_to, need_in}
 use Rattle.host_dynamic.specs.Noting.{led_to}
-use Rattle.host_dynamic.specs.Spreading.{AllAllowed, AreKept, HasAll, Holds, host_onward, host_back, stream_onward, stream_back}
+use Rattle.host_dynamic.specs.Spreading.{AllAllowed, AreKept, HasNoted, IsClosedOver, host_onward, host_back, stream_onward, stream_back}
 use Rattle.host_widgets.proofs.Between.{same-bools}
 use Rattle.host_widgets.proofs.HostStreams.{in-zip}
 use Rattle.host_dynamic.proofs.Marked.{set-keeps, set-there, unmarked-at}
@@ -231,7 +231,7 @@ module _ (plan : Plan) (sound : IsSound plan) (kept : Record) (long : length kep
 
   -- what each set has that allows all marks is what the streams need
   pub needed-marks : (k : ℕ) (onward back : List Bool) (has : List ℕ) → length plan.streams ≤ k → Allow plan kept k onward back → Serve plan kept k onward back →
-      ((p : ℕ → Bool) → Holds the_graph onward back p → HasAll p has) → Holds the_graph onward back (is_among has) → (i : ℕ) → is_among has i ≡ is_among (needed plan kept) i
+      ((p : ℕ → Bool) → IsClosedOver the_graph onward back p → HasNoted p has) → IsClosedOver the_graph onward back (is_among has) → (i : ℕ) → is_among has i ≡ is_among (needed plan kept) i
   needed-marks k onward back has past allow serve least holds i = same-bools (is_among has i) (union i) out into
     where
       whole : take k pairs ≡ pairs

@@ -19,7 +19,7 @@ use Rattle.tplg_plan.specs.declared.plans.Plan.{Plan}
 use Rattle.tplg_plan.specs.Sound.{IsSound}
 use Rattle.host_widgets.specs.Need.{end_index, HasAt, HasBrought, is_joined_to}
 use Rattle.host_dynamic.specs.Noting.{IsLowJoin, walk_from, walk_to, is_unwalked, led_to}
-use Rattle.host_dynamic.specs.Spreading.{Allows, AllAllowed, AreKept, passed, split_marked, with_at, AreOnceNoted, HasAll, NotesMore, IsTable, put_index, scheduler_noted, end_noted}
+use Rattle.host_dynamic.specs.Spreading.{Allows, AllAllowed, AreKept, passed, split_marked, with_at, AreOnceNoted, HasNoted, NotesMore, IsTable, put_index, scheduler_noted, end_noted}
 use Rattle.host_widgets.proofs.Needs.{in-among, among-in, in-left}
 use Rattle.host_widgets.proofs.Between.{reach-walk, walk-reach}
 use Rattle.host_dynamic.proofs.Marked.{still_unmarked, set-get, set-keeps, set-there, all-marked}
@@ -101,7 +101,7 @@ joined-allows : (g : Graph) (back : Bool) (p : ℕ → Bool) (c : Comp) → ((x 
 joined-allows g false p c f y led = f y (or_left (reaches g c.id y) (reaches g y c.id) led)
 joined-allows g true p c f y led = f y (or_right (reaches g c.id y) (reaches g y c.id) led)
 
-pub split-allows : (g : Graph) (back : Bool) (p : ℕ → Bool) (has : List ℕ) (c : Comp) (marks : List Bool) → IsIn c g.comps → HasBrought g p → HasAll p has → AllAllowed g back p marks → AllAllowed g back p (split_marked has c marks)
+pub split-allows : (g : Graph) (back : Bool) (p : ℕ → Bool) (has : List ℕ) (c : Comp) (marks : List Bool) → IsIn c g.comps → HasBrought g p → HasNoted p has → AllAllowed g back p marks → AllAllowed g back p (split_marked has c marks)
 split-allows g back p has c marks there closed held all = by (splits c.kind && is_among has c.pipe) refl
   where
     by : (h : Bool) → (splits c.kind && is_among has c.pipe) ≡ h → AllAllowed g back p (cond h (set marks c.id true) marks)
@@ -124,7 +124,7 @@ pub room-at : (plan : Plan) (sound : IsSound plan) (has : List ℕ) (i : ℕ) �
 room-at plan sound has i once there gone = room-for plan sound has i once.distinct once.within there gone
 
 module _ (g : Graph) (Q : (ℕ → Bool) → Type 0) (before now : List ℕ) where
-  one-more : (i : ℕ) → is_among (pipe_indices g) i ≡ true → ((p : ℕ → Bool) → HasBrought g p → Q p → HasAll p now → p i ≡ true) → NotesMore g Q before now → (b : Bool) → is_among now i ≡ b → AreOnceNoted g (cond b now (now ++ i ∷ [])) → NotesMore g Q before (cond b now (now ++ i ∷ []))
+  one-more : (i : ℕ) → is_among (pipe_indices g) i ≡ true → ((p : ℕ → Bool) → HasBrought g p → Q p → HasNoted p now → p i ≡ true) → NotesMore g Q before now → (b : Bool) → is_among now i ≡ b → AreOnceNoted g (cond b now (now ++ i ∷ [])) → NotesMore g Q before (cond b now (now ++ i ∷ []))
   one-more i there for so true e once = so
   one-more i there for so false e once = record {
     grown = (so.grown.0 ++ i ∷ [], ap (λ (ys : List ℕ). ys ++ i ∷ []) so.grown.1 ∙ again before so.grown.0 (i ∷ []));
@@ -132,18 +132,18 @@ module _ (g : Graph) (Q : (ℕ → Bool) → Type 0) (before now : List ℕ) whe
     sound = λ p closed q all k is. by p k (or_cases (is_among now k) (i == k) (sym (among-push now i k) ∙ is)) (so.sound p closed q all) (for p closed q (so.sound p closed q all));
   }
     where
-      by : (p : ℕ → Bool) (k : ℕ) → (is_among now k ≡ true) ⊎ ((i == k) ≡ true) → HasAll p now → p i ≡ true → p k ≡ true
+      by : (p : ℕ → Bool) (k : ℕ) → (is_among now k ≡ true) ⊎ ((i == k) ≡ true) → HasNoted p now → p i ≡ true → p k ≡ true
       by p k (inl a) all one = all k a
       by p k (inr b) all one = ap p (sym (eqb-true i k b)) ∙ one
 
-  pub notes-step : (o : Option ℕ) → ((i : ℕ) → o ≡ Some i → is_among (pipe_indices g) i ≡ true) → ((p : ℕ → Bool) → HasBrought g p → Q p → HasAll p now → HasAt p o) → NotesMore g Q before now → NotesMore g Q before (with_at o now)
+  pub notes-step : (o : Option ℕ) → ((i : ℕ) → o ≡ Some i → is_among (pipe_indices g) i ≡ true) → ((p : ℕ → Bool) → HasBrought g p → Q p → HasNoted p now → HasAt p o) → NotesMore g Q before now → NotesMore g Q before (with_at o now)
   notes-step None there for so = so
   notes-step (Some i) there for so =
       one-more i (there i refl) for so (is_among now i) refl
       (record { distinct = with-once now i so.once.distinct; within = with-each (λ k. is_among (pipe_indices g) k ≡ true) now i so.once.within (there i refl) })
 
 -- what is noted then
-pub with-keeps : (o : Option ℕ) (has : List ℕ) → HasAll (is_among (with_at o has)) has
+pub with-keeps : (o : Option ℕ) (has : List ℕ) → HasNoted (is_among (with_at o has)) has
 with-keeps None has k is = is
 with-keeps (Some i) has k is = by (is_among has i)
   where
@@ -185,7 +185,7 @@ all-turn {X} P Q xs ys k d same low all on one =
 -- ---- schedulers and ends
 
 -- what a condition notes
-pub cond-keeps : (b : Bool) (o : Option ℕ) (now : List ℕ) → HasAll (is_among (cond b (with_at o now) now)) now
+pub cond-keeps : (b : Bool) (o : Option ℕ) (now : List ℕ) → HasNoted (is_among (cond b (with_at o now) now)) now
 cond-keeps true o now = with-keeps o now
 cond-keeps false o now = λ k is. is
 
@@ -194,19 +194,19 @@ cond-there true o now is = with-there o now
 cond-there false o now is = absurd (false≢true is)
 
 pub cond-more : (g : Graph) (Q : (ℕ → Bool) → Type 0) (before now : List ℕ) (b : Bool) (o : Option ℕ) → ((i : ℕ) → o ≡ Some i → is_among (pipe_indices g) i ≡ true) →
-    (b ≡ true → (p : ℕ → Bool) → HasBrought g p → Q p → HasAll p now → HasAt p o) → NotesMore g Q before now → NotesMore g Q before (cond b (with_at o now) now)
+    (b ≡ true → (p : ℕ → Bool) → HasBrought g p → Q p → HasNoted p now → HasAt p o) → NotesMore g Q before now → NotesMore g Q before (cond b (with_at o now) now)
 cond-more g Q before now true o there for so = notes-step g Q before now o there (for refl) so
 cond-more g Q before now false o there for so = so
 
 -- what was noted before is
-pub kept-by : (before after xs : List ℕ) → after ≡ before ++ xs → HasAll (is_among after) before
+pub kept-by : (before after xs : List ℕ) → after ≡ before ++ xs → HasNoted (is_among after) before
 kept-by before after xs is k on = ap (λ (ys : List ℕ). is_among ys k) is ∙ in-among (before ++ xs) k (in-left before xs k (among-in before k on))
 
 module _ (plan : Plan) (sound : IsSound plan) (before now : List ℕ) where
   abbrev g : Graph
   g = plan.graph
 
-  pub sched-keeps : (p : Pipe) → HasAll (is_among (scheduler_noted g p now)) now
+  pub sched-keeps : (p : Pipe) → HasNoted (is_among (scheduler_noted g p now)) now
   sched-keeps p = cond-keeps (is_among now p.index) (index_at g p.sched) now
 
   pub sched-there : (p : Pipe) → is_among now p.index ≡ true → HasAt (is_among (scheduler_noted g p now)) (index_at g p.sched)
@@ -217,7 +217,7 @@ module _ (plan : Plan) (sound : IsSound plan) (before now : List ℕ) where
       cond-more g (λ q. ⊤) before now (is_among now p.index) (index_at g p.sched) (λ i at. index-among plan sound p.sched i at)
       (λ on q closed t all. in-all (λ (x : Pipe). q x.index ≡ true → HasAt q (index_at g x.sched)) g.pipes p closed.schedulers there (all p.index on)) so
 
-  pub end-keeps : (index : ℕ) (end : Option ℕ) → HasAll (is_among (end_noted g index end now)) now
+  pub end-keeps : (index : ℕ) (end : Option ℕ) → HasNoted (is_among (end_noted g index end now)) now
   end-keeps index end = cond-keeps (is_among now index) (end_index g end) now
 
   pub end-there : (index : ℕ) (end : Option ℕ) → is_among now index ≡ true → HasAt (is_among (end_noted g index end now)) (end_index g end)

@@ -38,7 +38,7 @@ abbrev pub split_marked : List ℕ → Comp → List Bool → List Bool
 split_marked has c marks = if splits c.kind && is_among has c.pipe then set marks c.id true else marks
 
 -- a closed set that has all that the walks lead to
-pub record Holds (g : Graph) (onward back : List Bool) (p : ℕ → Bool) : Type 0 where
+pub record IsClosedOver (g : Graph) (onward back : List Bool) (p : ℕ → Bool) : Type 0 where
   pub closed : HasBrought g p
   pub allowed : AllAllowed g false p onward
   pub allowed_back : AllAllowed g true p back
@@ -89,14 +89,14 @@ pub record AreOnceNoted (g : Graph) (has : List ℕ) : Type 0 where
   pub within : AllByRecursion (λ i. is_among (pipe_indices g) i ≡ true) has
 
 -- a set has all that is noted
-abbrev pub HasAll : (ℕ → Bool) → List ℕ → Type 0
-HasAll p has = (i : ℕ) → is_among has i ≡ true → p i ≡ true
+abbrev pub HasNoted : (ℕ → Bool) → List ℕ → Type 0
+HasNoted p has = (i : ℕ) → is_among has i ≡ true → p i ≡ true
 
 -- more is noted, each once, and no more than closed sets have of which this is so
 pub record NotesMore (g : Graph) (Q : (ℕ → Bool) → Type 0) (before after : List ℕ) : Type 0 where
   pub grown : (xs : List ℕ) × (after ≡ before ++ xs)
   pub once : AreOnceNoted g after
-  pub sound : (p : ℕ → Bool) → HasBrought g p → Q p → HasAll p before → HasAll p after
+  pub sound : (p : ℕ → Bool) → HasBrought g p → Q p → HasNoted p before → HasNoted p after
 
 -- what is brought by what was noted before
 abbrev pub BringsScheduler : Graph → List ℕ → List ℕ → Pipe → Type 0
@@ -109,10 +109,10 @@ abbrev pub IsSplitMarked : List ℕ → List Bool → Comp → Type 0
 IsSplitMarked has marks c = splits c.kind ≡ true → is_among has c.pipe ≡ true → slice_index_or marks c.id false ≡ true
 
 -- One round: what is marked and noted grows by no more than closed sets have; and where nothing new is noted, what is noted is closed.
-pub record Round (g : Graph) (onward back : List Bool) (has : List ℕ) (onward_then back_then : List Bool) (has_then : List ℕ) : Type 0 where
+pub record SpreadStep (g : Graph) (onward back : List Bool) (has : List ℕ) (onward_then back_then : List Bool) (has_then : List ℕ) : Type 0 where
   pub marked : AreKept onward onward_then
   pub marked_back : AreKept back back_then
   pub grown : (xs : List ℕ) × (has_then ≡ has ++ xs)
-  pub sound : (p : ℕ → Bool) → HasBrought g p → HasAll p has → AllAllowed g false p onward → AllAllowed g true p back →
-      HasAll p has_then × AllAllowed g false p onward_then × AllAllowed g true p back_then
-  pub closed : has_then ≡ has → Holds g onward_then back_then (is_among has_then)
+  pub sound : (p : ℕ → Bool) → HasBrought g p → HasNoted p has → AllAllowed g false p onward → AllAllowed g true p back →
+      HasNoted p has_then × AllAllowed g false p onward_then × AllAllowed g true p back_then
+  pub closed : has_then ≡ has → IsClosedOver g onward_then back_then (is_among has_then)

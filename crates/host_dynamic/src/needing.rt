@@ -303,7 +303,7 @@ fn mark_splits(graph: &Graph, needed: &[u32], marks: &mut [bool; 288])
     ensures size { length marks.new ≡ 288 }
     ensures kept { spreading.AreKept marks.old marks.new }
     ensures marked { AllByRecursion (spreading.IsSplitMarked needed.now marks.new) graph.now.comps }
-    ensures sound { (back : Bool) (p : ℕ → Bool) → need.HasBrought graph.now p → spreading.HasAll p needed.now → spreading.AllAllowed graph.now back p marks.old → spreading.AllAllowed graph.now back p marks.new }
+    ensures sound { (back : Bool) (p : ℕ → Bool) → need.HasBrought graph.now p → spreading.HasNoted p needed.now → spreading.AllAllowed graph.now back p marks.old → spreading.AllAllowed graph.now back p marks.new }
 {
     for comp in graph.comps.items() {
         mark_split(comp, needed, marks);
@@ -326,7 +326,7 @@ fn spread(
     ensures onward { length onward.new ≡ 288 }
     ensures back { length back.new ≡ 288 }
     ensures once { spreading.AreOnceNoted plan.now.graph needed.new.items }
-    ensures step { spreading.Round plan.now.graph onward.old back.old needed.old.items onward.new back.new needed.new.items }
+    ensures step { spreading.SpreadStep plan.now.graph onward.old back.old needed.old.items onward.new back.new needed.new.items }
 {
     mark_splits(&plan.graph, needed.as_slice(), onward);
     mark_splits(&plan.graph, needed.as_slice(), back);
@@ -364,8 +364,8 @@ pub fn needed_from(
     requires plan { IsSound plan.now }
     requires onward { length onward.old ≡ 288 }
     requires back { length back.old ≡ 288 }
-    ensures least { (p : ℕ → Bool) → spreading.Holds plan.now.graph onward.old back.old p → spreading.HasAll p result.items }
-    ensures enough { spreading.Holds plan.now.graph onward.old back.old (is_among result.items) }
+    ensures least { (p : ℕ → Bool) → spreading.IsClosedOver plan.now.graph onward.old back.old p → spreading.HasNoted p result.items }
+    ensures enough { spreading.IsClosedOver plan.now.graph onward.old back.old (is_among result.items) }
 {
     let table = index_table(&plan.graph);
     let mut needed: ArrayVec<u32, 32> = ArrayVec::new();

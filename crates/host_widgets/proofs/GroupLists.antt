@@ -4,7 +4,7 @@ use Rattle.std.specs.List.{flat_map, range_with_len, AllByRecursion}
 use Rattle.std.proofs.lemmas.Bool.{eq-eqb}
 use Rattle.stream_law.specs.Order.{is_among}
 use Rattle.stream_law.proofs.Members.{IsIn, in-any}
-use Rattle.host_widgets.specs.Groups.{together, alone, all_of}
+use Rattle.host_widgets.specs.Groups.{together, one_each, group_indices}
 
 pub filter-same : {X : Type 0} (p q : X → Bool) (xs : List X) → AllByRecursion (λ x. p x ≡ q x) xs → filter p xs ≡ filter q xs
 filter-same p q [] all = refl
@@ -85,19 +85,19 @@ flat-same f g [] all = refl
 flat-same {X} {Y} f g (x ∷ xs) all = ap (λ (ys : List Y). ys ++ flat_map f xs) all.0 ∙ ap (λ (ys : List Y). g x ++ ys) (flat-same f g xs all.1)
 
 -- what is made of groups of one each is made of their indices
-pub flat-alone : {Y : Type 0} (f : List ℕ → List Y) (n : List ℕ) → flat_map f (alone n) ≡ flat_map (λ i. f (i ∷ [])) n
+pub flat-alone : {Y : Type 0} (f : List ℕ → List Y) (n : List ℕ) → flat_map f (one_each n) ≡ flat_map (λ i. f (i ∷ [])) n
 flat-alone f [] = refl
 flat-alone {Y} f (i ∷ n) = ap (λ (ys : List Y). f (i ∷ []) ++ ys) (flat-alone f n)
 
--- what is made of one group alone
+-- what is made of one group one_each
 pub flat-together : {Y : Type 0} (f : List ℕ → List Y) (n : List ℕ) → flat_map f (together n) ≡ f n
 flat-together f n = append-nil (f n)
 
 -- the indices of groups
-pub all-together : (n : List ℕ) → all_of (together n) ≡ n
+pub all-together : (n : List ℕ) → group_indices (together n) ≡ n
 all-together n = append-nil n
 
-pub all-alone : (n : List ℕ) → all_of (alone n) ≡ n
+pub all-alone : (n : List ℕ) → group_indices (one_each n) ≡ n
 all-alone [] = refl
 all-alone (i ∷ n) = ap (λ (is : List ℕ). i ∷ is) (all-alone n)
 

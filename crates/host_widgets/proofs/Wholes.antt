@@ -19,7 +19,7 @@ use Rattle.host_widgets.specs.Acts.{widget_ids, widget_words, no_words}
 use Rattle.host_widgets.specs.ActLists.{bring_up, control_acts}
 use Rattle.host_widgets.specs.HostActs.{Act, Make, Join, Finish}
 use Rattle.host_widgets.specs.Indices.{pipe_indices, named_index, index_at, is_up, buffer_index, join_index}
-use Rattle.host_widgets.specs.Groups.{whole, widgets_in, is_join_in, joins_in, is_control_of, finish_ids, making_lists, making}
+use Rattle.host_widgets.specs.Groups.{whole, group_widgets, is_join_in, joins_in, is_control_of, finish_ids, making_lists, group_making}
 use Rattle.host_widgets.specs.Kept.{controls_of}
 use Rattle.host_widgets.proofs.ControlLists.{Pair, all-first}
 use Rattle.host_widgets.proofs.GroupLists.{filter-all, in-map, in-among, range-low, flat-together, all-together, map-map}
@@ -88,7 +88,7 @@ module _ (plan : Plan) (sound : IsSound plan) where
 
   -- ---- so the group of all has everything
 
-  pub widgets-whole : widgets_in plan every ≡ widget_ids plan
+  pub widgets-whole : group_widgets plan every ≡ widget_ids plan
   widgets-whole = filter-all (λ (id : ℕ). is_among every (widget_words plan id).pipe) (widget_ids plan)
       (in-each (λ (id : ℕ). is_among every (widget_words plan id).pipe ≡ true) (widget_ids plan) (λ id here. widget-in id (let low : id < 0 + length plan.widgets = range-low 0 (length plan.widgets) id here in omega (arith, low))))
 
@@ -124,7 +124,7 @@ module _ (plan : Plan) (sound : IsSound plan) where
   bring-up-lists kept = sym (λ i. listed (widget_ids plan) g.joins (controls-whole kept i) (finishes-whole i))
 
   -- and so as one group
-  pub bring-up-whole : (kept : Record) → bring_up plan kept ≡ making plan kept (whole plan)
+  pub bring-up-whole : (kept : Record) → bring_up plan kept ≡ group_making plan kept (whole plan)
   bring-up-whole kept =
       bring-up-lists kept
-      ∙ sym ((λ i. making_lists plan kept (flat-together (widgets_in plan) every i) (flat-together (joins_in g) every i) (all-together every i)) ∙ (λ i. making_lists plan kept (widgets-whole i) (joins-whole i) every))
+      ∙ sym ((λ i. making_lists plan kept (flat-together (group_widgets plan) every i) (flat-together (joins_in g) every i) (all-together every i)) ∙ (λ i. making_lists plan kept (widgets-whole i) (joins-whole i) every))

@@ -22,12 +22,12 @@ use Rattle.host_widgets.specs.Kept.{controls_of}
 abbrev pub together : List ℕ → List (List ℕ)
 together n = n ∷ []
 
-abbrev pub alone : List ℕ → List (List ℕ)
-alone n = map (λ i. i ∷ []) n
+abbrev pub one_each : List ℕ → List (List ℕ)
+one_each n = map (λ i. i ∷ []) n
 
 -- the indices of groups, one group after another
-abbrev pub all_of : List (List ℕ) → List ℕ
-all_of groups = flat_map (λ group. group) groups
+abbrev pub group_indices : List (List ℕ) → List ℕ
+group_indices groups = flat_map (λ group. group) groups
 
 -- every pipeline of a plan, as one group
 abbrev pub whole : Plan → List (List ℕ)
@@ -36,8 +36,8 @@ whole plan = together (pipe_indices plan.graph)
 -- ---- what is of a group
 
 -- its widgets, by id
-abbrev pub widgets_in : Plan → List ℕ → List ℕ
-widgets_in plan group = filter (λ id. is_among group (widget_words plan id).pipe) (widget_ids plan)
+abbrev pub group_widgets : Plan → List ℕ → List ℕ
+group_widgets plan group = filter (λ id. is_among group (widget_words plan id).pipe) (widget_ids plan)
 
 -- a join is at a buffer of it
 abbrev pub is_join_in : Graph → List ℕ → Joined → Bool
@@ -63,7 +63,7 @@ finish_ids g n = map (λ (p : Pipe). p.id) (filter (λ p. is_among n p.index) g.
 abbrev pub finish_acts_of : List ℕ → Pipe → List Act
 finish_acts_of n p = if is_among n p.index then Finish p.id ∷ [] else []
 
--- ---- making
+-- ---- group_making
 
 -- These widgets are made, and these joins; each live control of these indices is set, by component; and each pipeline of them is
 -- complete, by id.
@@ -75,5 +75,5 @@ making_lists plan kept ids joins n =
 
 -- The pipelines of these groups are made: group by group each widget by id; group by group the joins of its buffers, in the graph's
 -- order; each live control of them is set, by component; and each of them is complete, by id.
-abbrev pub making : Plan → Record → List (List ℕ) → List Act
-making plan kept groups = making_lists plan kept (flat_map (widgets_in plan) groups) (flat_map (joins_in plan.graph) groups) (all_of groups)
+abbrev pub group_making : Plan → Record → List (List ℕ) → List Act
+group_making plan kept groups = making_lists plan kept (flat_map (group_widgets plan) groups) (flat_map (joins_in plan.graph) groups) (group_indices groups)

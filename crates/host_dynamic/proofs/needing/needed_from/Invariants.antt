@@ -1,6 +1,6 @@
 use Rattle.std.proofs.Common.{◌≡◌, ℕ, ◌+◌, ◌-◌, Bool, true, false, cond, length}
 use Rattle.stream_law.specs.Order.{is_among}
-use Rattle.host_dynamic.specs.Spreading.{AllAllowed, AreKept, AreOnceNoted, HasAll, Holds}
+use Rattle.host_dynamic.specs.Spreading.{AllAllowed, AreKept, AreOnceNoted, HasNoted, IsClosedOver}
 use Rattle.host_dynamic.proofs.needing.needed_from.Given as goal
 
 abbrev pub invariant-loop-more : goal.invariant-loop-more
@@ -10,8 +10,8 @@ invariant-loop-more l = record {
   once : AreOnceNoted l.plan.graph l.needed.items;
   kept : AreKept l.fn.onward l.onward;
   kept_back : AreKept l.fn.back l.back;
-  sound : (p : ℕ → Bool) → Holds l.plan.graph l.fn.onward l.fn.back p → HasAll p l.needed.items × AllAllowed l.plan.graph false p l.onward × AllAllowed l.plan.graph true p l.back;
-  closed : l.more ≡ false → Holds l.plan.graph l.onward l.back (is_among l.needed.items);
+  sound : (p : ℕ → Bool) → IsClosedOver l.plan.graph l.fn.onward l.fn.back p → HasNoted p l.needed.items × AllAllowed l.plan.graph false p l.onward × AllAllowed l.plan.graph true p l.back;
+  closed : l.more ≡ false → IsClosedOver l.plan.graph l.onward l.back (is_among l.needed.items);
 }
 
 abbrev pub decreases-loop-more : goal.decreases-loop-more

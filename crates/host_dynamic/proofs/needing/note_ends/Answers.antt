@@ -5,7 +5,7 @@ use Rattle.std.proofs.lemmas.List.{take_all}
 use Rattle.stream_law.specs.declared.graph.Edge.{Edge}
 use Rattle.stream_law.specs.Order.{is_among}
 use Rattle.host_widgets.specs.Need.{end_index, HasAt}
-use Rattle.host_dynamic.specs.Spreading.{NotesMore, BringsEnds, HasAll}
+use Rattle.host_dynamic.specs.Spreading.{NotesMore, BringsEnds, HasNoted}
 use Rattle.host_dynamic.proofs.Noted.{has-more}
 use Rattle.host_dynamic.proofs.Spreading.{in-get, all-turn, notes-start, end-keeps, end-there, source-more, sink-more, kept-by}
 use Rattle.host_dynamic.proofs.needing.note_ends.Goals as goal
@@ -29,8 +29,8 @@ loop-edge-preserved c =
     let mid : List ℕ = c.note_source.new.needed.items in let then : List ℕ = c.note_sink.new.needed.items in let xs : List Edge = c.items-edge-items.result.now in
     let d : Edge = record { buffer = 0; pipe = 0; size = 0; source = None; sink = None } in
     let low : k < length g.edges = omega (arith, c.loop-edge-test.true, ap length c.items-edge-items.ensures) in
-    let first : HasAll (is_among mid) now = subst (λ (ys : List ℕ). HasAll (is_among ys) now) (sym c.note_source.ensures) (end-keeps plan c.requires.plan before now (get_or xs k d).pipe (get_or xs k d).source) in
-    let second : HasAll (is_among then) mid = subst (λ (ys : List ℕ). HasAll (is_among ys) mid) (sym c.note_sink.ensures) (end-keeps plan c.requires.plan before mid (get_or xs k d).pipe (get_or xs k d).sink) in
+    let first : HasNoted (is_among mid) now = subst (λ (ys : List ℕ). HasNoted (is_among ys) now) (sym c.note_source.ensures) (end-keeps plan c.requires.plan before now (get_or xs k d).pipe (get_or xs k d).source) in
+    let second : HasNoted (is_among then) mid = subst (λ (ys : List ℕ). HasNoted (is_among ys) mid) (sym c.note_sink.ensures) (end-keeps plan c.requires.plan before mid (get_or xs k d).pipe (get_or xs k d).sink) in
     record {
       more = subst (λ (ys : List ℕ). NotesMore g (λ p. ⊤) before ys) (sym c.note_sink.ensures) (sink-more plan c.requires.plan before mid (get_or xs k d) (in-get xs g.edges k d c.items-edge-items.ensures low)
           (subst (λ (ys : List ℕ). NotesMore g (λ p. ⊤) before ys) (sym c.note_source.ensures) (source-more plan c.requires.plan before now (get_or c.items-edge-items.result.now k d) (in-get xs g.edges k d c.items-edge-items.ensures low) c.loop-edge.invariant.more)));

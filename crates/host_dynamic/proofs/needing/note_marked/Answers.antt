@@ -1,6 +1,6 @@
 use Rattle.std.proofs.Common.{◌≡◌, sym, ap, subst, ℕ, ◌<◌, length, get_or, refl, zero, suc, ◌+◌, Bool, [], ◌∷◌, true, false, inl, inr, ◌⊎◌, List, arith}
 use Rattle.std.proofs.lemmas.Bool.{false≢true}
-use Rattle.host_dynamic.specs.Spreading.{NotesMore, HasAll, mark_noted}
+use Rattle.host_dynamic.specs.Spreading.{NotesMore, HasNoted, mark_noted}
 use Rattle.host_dynamic.proofs.Noted.{has-more}
 use Rattle.host_dynamic.proofs.Searchable.{index-among}
 use Rattle.stream_law.specs.Order.{is_among}
@@ -39,7 +39,7 @@ loop-id-preserved c =
     below : (x : ℕ) → get_or c.args.marks.now x false ≡ true → (x < c.loop-id.id) ⊎ (x ≡ c.loop-id.id) → HasAt (is_among c.note_mark.new.needed.items) (index_at c.args.plan.now.graph x)
     below x on (inl less) =
         has-more (is_among c.loop-id.needed.items) (is_among c.note_mark.new.needed.items) (index_at c.args.plan.now.graph x)
-        (subst (λ (ys : List ℕ). HasAll (is_among ys) c.loop-id.needed.items) (sym c.note_mark.ensures) (cond-keeps (get_or c.args.marks.now c.loop-id.id false) (index_at c.args.plan.now.graph c.loop-id.id) c.loop-id.needed.items))
+        (subst (λ (ys : List ℕ). HasNoted (is_among ys) c.loop-id.needed.items) (sym c.note_mark.ensures) (cond-keeps (get_or c.args.marks.now c.loop-id.id false) (index_at c.args.plan.now.graph c.loop-id.id) c.loop-id.needed.items))
         (c.loop-id.invariant.marked x less on)
     below x on (inr same) =
         subst (λ (ys : List ℕ). HasAt (is_among ys) (index_at c.args.plan.now.graph x)) (sym c.note_mark.ensures)

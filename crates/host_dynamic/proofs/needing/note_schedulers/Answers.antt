@@ -5,7 +5,7 @@ use Rattle.std.proofs.lemmas.List.{take_all}
 use Rattle.stream_law.specs.declared.graph.Pipe.{Pipe}
 use Rattle.stream_law.specs.Order.{is_among}
 use Rattle.host_widgets.specs.Need.{HasAt}
-use Rattle.host_dynamic.specs.Spreading.{NotesMore, BringsScheduler, HasAll}
+use Rattle.host_dynamic.specs.Spreading.{NotesMore, BringsScheduler, HasNoted}
 use Rattle.host_dynamic.proofs.Noted.{has-more}
 use Rattle.host_dynamic.proofs.Spreading.{in-get, all-turn, notes-start, sched-keeps, sched-there, sched-more, kept-by}
 use Rattle.host_dynamic.proofs.needing.note_schedulers.Goals as goal
@@ -23,7 +23,7 @@ loop-pipe-preserved c =
     let xs : List Pipe = c.items-pipe-items.result.now in
     let d : Pipe = record { id = 0; index = 0; sched = 0; period = 0; complete = false } in
     let low : k < length g.pipes = omega (arith, c.loop-pipe-test.true, ap length c.items-pipe-items.ensures) in
-    let keeps : HasAll (is_among then) now = subst (λ (ys : List ℕ). HasAll (is_among ys) now) (sym c.note_scheduler.ensures) (sched-keeps plan c.requires.plan before now (get_or xs k d)) in
+    let keeps : HasNoted (is_among then) now = subst (λ (ys : List ℕ). HasNoted (is_among ys) now) (sym c.note_scheduler.ensures) (sched-keeps plan c.requires.plan before now (get_or xs k d)) in
     record {
       more = subst (λ (ys : List ℕ). NotesMore g (λ p. ⊤) before ys) (sym c.note_scheduler.ensures) (sched-more plan c.requires.plan before now (get_or xs k d) (in-get xs g.pipes k d c.items-pipe-items.ensures low) c.loop-pipe.invariant.more);
       brought = all-turn (BringsScheduler g before now) (BringsScheduler g before then) xs g.pipes k d c.items-pipe-items.ensures low c.loop-pipe.invariant.brought

@@ -9,7 +9,7 @@ use Rattle.stream_law.specs.Ways.{splits, reaches}
 use Rattle.stream_law.specs.Order.{is_among}
 use Rattle.stream_law.proofs.Members.{in-all, in-each}
 use Rattle.host_widgets.specs.Need.{end_index, HasAt, is_joined_to}
-use Rattle.host_dynamic.specs.Spreading.{AllAllowed, HasAll, BringsScheduler, BringsEnds, IsSplitMarked}
+use Rattle.host_dynamic.specs.Spreading.{AllAllowed, HasNoted, BringsScheduler, BringsEnds, IsSplitMarked}
 use Rattle.host_dynamic.proofs.Noted.{has-more}
 use Rattle.host_dynamic.proofs.Searchable.{comps-low, joins-low}
 use Rattle.host_dynamic.proofs.Spreading.{again, kept-by, allowed-at, closed-allows}
@@ -40,23 +40,23 @@ returns-clause-step c =
     let plan = c.args.plan.now in let g : Graph = plan.graph in
     let n0 : List ℕ = c.args.needed.now.items in let n1 : List ℕ = c.note_marked.new.needed.items in let n2 : List ℕ = c.note_marked-2.new.needed.items in let n3 : List ℕ = c.note_ends.new.needed.items in let n4 : List ℕ = c.note_schedulers.new.needed.items in
     let o : List Bool = c.walk.new.marks in let b : List Bool = c.walk-2.new.marks in
-    let k1 : HasAll (is_among n1) n0 = kept-by n0 n1 c.note_marked.ensures.more.grown.0 c.note_marked.ensures.more.grown.1 in
-    let k2 : HasAll (is_among n2) n1 = kept-by n1 n2 c.note_marked-2.ensures.more.grown.0 c.note_marked-2.ensures.more.grown.1 in
-    let k3 : HasAll (is_among n3) n2 = kept-by n2 n3 c.note_ends.ensures.more.grown.0 c.note_ends.ensures.more.grown.1 in
-    let k4 : HasAll (is_among n4) n3 = kept-by n3 n4 c.note_schedulers.ensures.more.grown.0 c.note_schedulers.ensures.more.grown.1 in
+    let k1 : HasNoted (is_among n1) n0 = kept-by n0 n1 c.note_marked.ensures.more.grown.0 c.note_marked.ensures.more.grown.1 in
+    let k2 : HasNoted (is_among n2) n1 = kept-by n1 n2 c.note_marked-2.ensures.more.grown.0 c.note_marked-2.ensures.more.grown.1 in
+    let k3 : HasNoted (is_among n3) n2 = kept-by n2 n3 c.note_ends.ensures.more.grown.0 c.note_ends.ensures.more.grown.1 in
+    let k4 : HasNoted (is_among n4) n3 = kept-by n3 n4 c.note_schedulers.ensures.more.grown.0 c.note_schedulers.ensures.more.grown.1 in
     record {
       marked = λ x is. c.walk.ensures.kept x (c.mark_splits.ensures.kept x is);
       marked_back = λ x is. c.walk-2.ensures.kept x (c.mark_splits-2.ensures.kept x is);
       grown = four n0 n1 n2 n3 n4 c.note_marked.ensures.more.grown c.note_marked-2.ensures.more.grown c.note_ends.ensures.more.grown c.note_schedulers.ensures.more.grown;
       sound = λ p closed held on back.
-          let o1 = c.walk.ensures.sound p (c.mark_splits.ensures.sound false p closed (subst (λ (xs : List ℕ). HasAll p xs) (sym c.as_slice.ensures.value) held) on) in
-          let b1 = c.walk-2.ensures.sound p (c.mark_splits-2.ensures.sound true p closed (subst (λ (xs : List ℕ). HasAll p xs) (sym c.as_slice-2.ensures.value) held) back) in
+          let o1 = c.walk.ensures.sound p (c.mark_splits.ensures.sound false p closed (subst (λ (xs : List ℕ). HasNoted p xs) (sym c.as_slice.ensures.value) held) on) in
+          let b1 = c.walk-2.ensures.sound p (c.mark_splits-2.ensures.sound true p closed (subst (λ (xs : List ℕ). HasNoted p xs) (sym c.as_slice-2.ensures.value) held) back) in
           let h1 = c.note_marked.ensures.more.sound p closed (allowed-at g false p o o1) held in
           let h2 = c.note_marked-2.ensures.more.sound p closed (allowed-at g true p b b1) h1 in
           let h3 = c.note_ends.ensures.more.sound p closed tt h2 in
           (c.note_schedulers.ensures.more.sound p closed tt h3, o1, b1);
       closed = λ same.
-          let down : HasAll (is_among n0) n4 = λ i is. ap (λ (xs : List ℕ). is_among xs i) (sym same) ∙ is in
+          let down : HasNoted (is_among n0) n4 = λ i is. ap (λ (xs : List ℕ). is_among xs i) (sym same) ∙ is in
           let on : (x : ℕ) → get_or o x false ≡ true → HasAt (is_among n4) (index_at g x) = λ x is. has-more (is_among n1) (is_among n4) (index_at g x) (λ i h. k4 i (k3 i (k2 i h))) (c.note_marked.ensures.marked x is) in
           let back : (x : ℕ) → get_or b x false ≡ true → HasAt (is_among n4) (index_at g x) = λ x is. has-more (is_among n2) (is_among n4) (index_at g x) (λ i h. k4 i (k3 i h)) (c.note_marked-2.ensures.marked x is) in
           let allowed : AllAllowed g false (is_among n4) o = closed-allows g (joins-low plan c.requires.plan) false (is_among n4) o c.walk.ensures.closed on in

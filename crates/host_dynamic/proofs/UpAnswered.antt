@@ -127,13 +127,7 @@ module _ (plan : Plan) where
       kept-there (Ok passed) left (g, on_g, same_g) = there-so (done now.kept) (keeps now.kept ∙ now-power) left.1 g on_g same_g
       kept-there (Err faults.LinkDown) left up = ap there_on (ap (λ (y : World D). means.on y.device) left.1.2 ∙ left.1.1.0.on)
       kept-there (Err (faults.Refused e)) left (g, on_g, same_g) = there-so now.kept now-power left.1 g on_g same_g
-      kept-there (Err faults.NotLoaded) left (g, on_g, same_g) = there-so now.kept now-power left.1 g on_g same_g
-      kept-there (Err faults.Loaded) left (g, on_g, same_g) = there-so now.kept now-power left.1 g on_g same_g
-      kept-there (Err (faults.NoSuch name)) left (g, on_g, same_g) = there-so now.kept now-power left.1 g on_g same_g
-      kept-there (Err (faults.State found)) left (g, on_g, same_g) = there-so now.kept now-power left.1 g on_g same_g
-      kept-there (Err faults.Off) left (g, on_g, same_g) = there-so now.kept now-power left.1 g on_g same_g
-      kept-there (Err (faults.Range k)) left (g, on_g, same_g) = there-so now.kept now-power left.1 g on_g same_g
-      kept-there (Err (faults.Blob k)) left (g, on_g, same_g) = there-so now.kept now-power left.1 g on_g same_g
+      kept-there (Err fault) left (g, on_g, same_g) = there-so now.kept now-power left.1 g on_g same_g
 
       now-up : u.up ≡ now.up
       now-up = sym (all-up s.passed u) ∙ ap (λ (y : UpState). y.up) (sym h.left)

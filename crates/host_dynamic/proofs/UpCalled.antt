@@ -148,15 +148,8 @@ module _ {D : Type 0} (means : Meaning D) (plan : Plan) (sound : IsSound plan) (
 
     first-fails : (fault : HostFault) (rest : Outcome) → first_of (Err fault) rest ≡ Ok tt → ⊥
     first-fails fault (Ok done) is = cc is
-    first-fails fault (Err faults.LinkDown) is = cc is
     first-fails fault (Err (faults.Refused e)) is = cc is
-    first-fails fault (Err faults.NotLoaded) is = cc is
-    first-fails fault (Err faults.Loaded) is = cc is
-    first-fails fault (Err (faults.NoSuch other)) is = cc is
-    first-fails fault (Err (faults.State stands)) is = cc is
-    first-fails fault (Err faults.Off) is = cc is
-    first-fails fault (Err (faults.Range c)) is = cc is
-    first-fails fault (Err (faults.Blob c)) is = cc is
+    first-fails fault (Err other) is = cc is
 
     -- where all was made the record stays
     made-kept : (power : Power) (ids : List ℕ) (kept1 : Record) (v : World D) (result : Outcome) → MadeWhereOn means plan heap ids power kept kept1 w v result → result ≡ Ok tt → kept1 ≡ kept

@@ -85,13 +85,7 @@ plain-walk {S} {A} {Q} rules next (act ∷ acts) kept q = by (outcome_by (next q
     by (Ok done) plain rest = rest
     by (Err (faults.Refused e)) plain rest = tt
     by (Err faults.LinkDown) plain rest = tt
-    by (Err faults.NotLoaded) plain rest = absurd plain
-    by (Err faults.Loaded) plain rest = absurd plain
-    by (Err (faults.NoSuch name)) plain rest = absurd plain
-    by (Err (faults.State stands)) plain rest = absurd plain
-    by (Err faults.Off) plain rest = absurd plain
-    by (Err (faults.Range k)) plain rest = absurd plain
-    by (Err (faults.Blob k)) plain rest = absurd plain
+    by (Err fault) plain rest = absurd plain
 
 -- a stream's acts ask for nothing that is staged
 close-loose : (host : ℕ) (stands : Found) (f : FwState) → StagedFirst (close_by host stands) f

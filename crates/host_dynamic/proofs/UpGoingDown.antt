@@ -228,14 +228,7 @@ module _ (plan : Plan) (sound : IsSound plan) where
           IsWentDown u (walk (up_act_rules plan) true next u (next q).1 acts) → IsWentDown u (left o)
       by (Ok done) passed refused = (passed.0 ∙ are.0.halts, passed.1)
       by (Err (faults.Refused e)) passed refused = refused
-      by (Err faults.LinkDown) passed refused = (refl, refl)
-      by (Err faults.NotLoaded) passed refused = (refl, refl)
-      by (Err faults.Loaded) passed refused = (refl, refl)
-      by (Err (faults.NoSuch name)) passed refused = (refl, refl)
-      by (Err (faults.State found)) passed refused = (refl, refl)
-      by (Err faults.Off) passed refused = (refl, refl)
-      by (Err (faults.Range n)) passed refused = (refl, refl)
-      by (Err (faults.Blob n)) passed refused = (refl, refl)
+      by (Err fault) passed refused = (refl, refl)
 
   -- ---- over any device
 

@@ -50,13 +50,7 @@ module _ (plan : Plan) {D : Type 0} (means : Meaning D) (heap : ℕ) (done : Rec
       by (Ok passed) there led = stays (done u.kept).power (powered u.kept ∙ on) there led
       by (Err faults.LinkDown) there led = cut-none means plan heap sent v led
       by (Err (faults.Refused e)) there led = stays u.kept.power on there led
-      by (Err faults.NotLoaded) there led = stays u.kept.power on there led
-      by (Err faults.Loaded) there led = stays u.kept.power on there led
-      by (Err (faults.NoSuch name)) there led = stays u.kept.power on there led
-      by (Err (faults.State found)) there led = stays u.kept.power on there led
-      by (Err faults.Off) there led = stays u.kept.power on there led
-      by (Err (faults.Range k)) there led = stays u.kept.power on there led
-      by (Err (faults.Blob k)) there led = stays u.kept.power on there led
+      by (Err fault) there led = stays u.kept.power on there led
 
   module _ (kept : Record) (up : List ℕ) (w : World D) (is : IsUpState plan (up_state_in means kept up w.device)) (switched : IsSwitched kept.power (means.on w.device)) (answer : Answer) where
     abbrev s : UpState

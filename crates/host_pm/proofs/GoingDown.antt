@@ -18,7 +18,7 @@ use Rattle.mbox_link.specs.Meetings.{Meeting}
 use Rattle.tplg_plan.specs.declared.plans.Plan.{Plan}
 use Rattle.tplg_plan.specs.declared.plans.StreamPlan.{StreamPlan}
 use Rattle.tplg_plan.specs.Sound.{IsSound}
-use Rattle.host_widgets.specs.declared.answers.HostFault.TheVariants.{NotLoaded, Loaded, NoSuch, State, Off, Range, Refused, LinkDown, Blob}
+use Rattle.host_widgets.specs.declared.answers.HostFault.TheVariants.{Off, Refused}
 use Rattle.host_widgets.specs.declared.kept.Found.{Found}
 use Rattle.host_widgets.specs.declared.kept.Found.TheVariants.{Closed, Open, Prepared, Running, Paused, On as Found_On}
 use Rattle.host_widgets.specs.declared.kept.Power.TheVariants as powers
@@ -117,14 +117,7 @@ module _ (plan : Plan) (heap : ℕ) where
       by : (o : Outcome) → went_down (walk (act_rules plan heap) true next_of (after plan act now) (next_of ms).1 acts).kept ≡ went_down (after plan act now) → went_down (walk (act_rules plan heap) true next_of now (next_of ms).1 acts).kept ≡ went_down now → went_down (left o) ≡ went_down now
       by (Ok done) passed refused = passed ∙ are.0.halts
       by (Err (Refused e)) passed refused = refused
-      by (Err LinkDown) passed refused = refl
-      by (Err NotLoaded) passed refused = refl
-      by (Err Loaded) passed refused = refl
-      by (Err (NoSuch name)) passed refused = refl
-      by (Err (State found)) passed refused = refl
-      by (Err Off) passed refused = refl
-      by (Err (Range n)) passed refused = refl
-      by (Err (Blob n)) passed refused = refl
+      by (Err fault) passed refused = refl
 
   -- ---- the acts before a cut
 

@@ -9,7 +9,7 @@ use Rattle.mbox_link.specs.Calls.{World, Meaning, Boot, Cut, Did, Led}
 use Rattle.tplg_plan.specs.declared.plans.Plan.{Plan}
 use Rattle.tplg_plan.specs.Sound.{IsSound}
 use Rattle.host_widgets.specs.declared.answers.HostFault.{HostFault}
-use Rattle.host_widgets.specs.declared.answers.HostFault.TheVariants.{NotLoaded, Loaded, NoSuch, State, Off, Range, Refused, LinkDown, Blob}
+use Rattle.host_widgets.specs.declared.answers.HostFault.TheVariants.{Off, Refused}
 use Rattle.host_widgets.specs.declared.kept.Power.{Power}
 use Rattle.host_widgets.specs.declared.kept.Power.TheVariants as powers
 use Rattle.host_widgets.specs.declared.kept.Power.TheVariants.{On}
@@ -71,14 +71,7 @@ module _ {D : Type 0} (means : Meaning D) (plan : Plan) (heap : ℕ) where
           (did_acts (after plan x kept) xs ms mid m → (walked (after plan x kept) ms xs).outcome ≡ Ok tt → did_acts (walked (after plan x kept) ms xs).kept ys ns m v → Joined (after plan x kept) xs ys ms ns mid v) → Left o
       by (Ok done) on ok more go = let r = go on ok more in (r.did, r.outcome)
       by (Err (Refused e)) on ok more go = absurd (cc ok)
-      by (Err LinkDown) on ok more go = absurd (cc ok)
-      by (Err NotLoaded) on ok more go = absurd (cc ok)
-      by (Err Loaded) on ok more go = absurd (cc ok)
-      by (Err (NoSuch name)) on ok more go = absurd (cc ok)
-      by (Err (State found)) on ok more go = absurd (cc ok)
-      by (Err Off) on ok more go = absurd (cc ok)
-      by (Err (Range n)) on ok more go = absurd (cc ok)
-      by (Err (Blob n)) on ok more go = absurd (cc ok)
+      by (Err fault) on ok more go = absurd (cc ok)
 
   -- no act after one that failed
   pub record Ended (kept : Record) (xs ys : List Act) (ms : List Meeting) (w v : World D) : Type 0 where
@@ -103,14 +96,7 @@ module _ {D : Type 0} (means : Meaning D) (plan : Plan) (heap : ℕ) where
           (did_acts (after plan x kept) xs ms mid v → (walked (after plan x kept) ms xs).outcome ≡ Err fault → Ended (after plan x kept) xs ys ms mid v) → Left o
       by (Ok done) on is go = let r = go on is in (r.did, r.outcome)
       by (Err (Refused e)) on is go = (on, refl)
-      by (Err LinkDown) on is go = (on, refl)
-      by (Err NotLoaded) on is go = (on, refl)
-      by (Err Loaded) on is go = (on, refl)
-      by (Err (NoSuch name)) on is go = (on, refl)
-      by (Err (State found)) on is go = (on, refl)
-      by (Err Off) on is go = (on, refl)
-      by (Err (Range n)) on is go = (on, refl)
-      by (Err (Blob n)) on is go = (on, refl)
+      by (Err fault) on is go = (on, refl)
 
   -- no more ticks are pending after them
   acts-fewer : (acts : List Act) (ms : List Meeting) (kept : Record) (w v : World D) → did_acts kept acts ms w v → means.pending v.device ≤ means.pending w.device

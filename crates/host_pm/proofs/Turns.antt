@@ -30,14 +30,7 @@ IsUp o = (o ≡ Ok tt) ⊎ ((e : Errno) × (o ≡ Err (Refused e)))
 up-is : (goes_on : Bool) (o : Outcome) → goes_past goes_on o ≡ true → IsUp o
 up-is goes_on (Ok done) is = inl refl
 up-is goes_on (Err (Refused e)) is = inr (e, refl)
-up-is goes_on (Err LinkDown) is = absurd (cc is)
-up-is goes_on (Err NotLoaded) is = absurd (cc is)
-up-is goes_on (Err Loaded) is = absurd (cc is)
-up-is goes_on (Err (NoSuch name)) is = absurd (cc is)
-up-is goes_on (Err (State found)) is = absurd (cc is)
-up-is goes_on (Err Off) is = absurd (cc is)
-up-is goes_on (Err (Range n)) is = absurd (cc is)
-up-is goes_on (Err (Blob n)) is = absurd (cc is)
+up-is goes_on (Err fault) is = absurd (cc is)
 
 -- where a failure ends them
 pub none-past : (fault : HostFault) → goes_past false (Err fault) ≡ false
@@ -54,14 +47,7 @@ none-past (Blob n) = refl
 past-refusals : (e d : Errno) (c : Outcome) → first_of (Err (Refused e)) (first_of (Err (Refused d)) c) ≡ first_of (Err (Refused e)) c
 past-refusals e d (Ok done) = refl
 past-refusals e d (Err (Refused c)) = refl
-past-refusals e d (Err LinkDown) = refl
-past-refusals e d (Err NotLoaded) = refl
-past-refusals e d (Err Loaded) = refl
-past-refusals e d (Err (NoSuch name)) = refl
-past-refusals e d (Err (State found)) = refl
-past-refusals e d (Err Off) = refl
-past-refusals e d (Err (Range n)) = refl
-past-refusals e d (Err (Blob n)) = refl
+past-refusals e d (Err fault) = refl
 
 three : (a b c : Outcome) → IsUp a → IsUp b → first_of a (first_of b c) ≡ first_of (first_of a b) c
 three a b c (inl is) up = (λ i. first_of (is i) (first_of b c)) ∙ (λ i. first_of (first_of (sym is i) b) c)

@@ -38,14 +38,7 @@ pub record IsMet (plan : Plan) (heap : ℕ) (So : FwState → Type 0) (kept : Re
 refused-first : (e : Errno) (rest : Outcome) → first_of (Err (Refused e)) rest ≡ Ok tt → ⊥
 refused-first e (Ok done) is = cc is
 refused-first e (Err (Refused d)) is = cc is
-refused-first e (Err LinkDown) is = cc is
-refused-first e (Err NotLoaded) is = cc is
-refused-first e (Err Loaded) is = cc is
-refused-first e (Err (NoSuch name)) is = cc is
-refused-first e (Err (State found)) is = cc is
-refused-first e (Err Off) is = cc is
-refused-first e (Err (Range n)) is = cc is
-refused-first e (Err (Blob n)) is = cc is
+refused-first e (Err fault) is = cc is
 
 module _ (plan : Plan) (heap : ℕ) (goes_on : Bool) (End : View → Type 0) (So : FwState → Type 0) where
   -- acts, by the record and the view so far; after a refusal too, where acts go on

@@ -6,7 +6,7 @@ use Rattle.stream_law.specs.Past.{Moment, Now}
 use Rattle.mbox_link.specs.Calls.{World, Meaning}
 use Rattle.tplg_plan.specs.declared.plans.Plan.{Plan}
 use Rattle.tplg_plan.specs.Sound.{IsSound}
-use Rattle.host_widgets.specs.declared.answers.HostFault.TheVariants.{NotLoaded, Loaded, NoSuch, State, Off, Range, Refused, LinkDown, Blob}
+use Rattle.host_widgets.specs.declared.answers.HostFault.TheVariants.{Refused, LinkDown}
 use Rattle.host_widgets.specs.Host.{Outcome}
 use Rattle.mbox_link.specs.Meetings.{Meeting}
 use Rattle.host_widgets.specs.declared.kept.Record.{Record}
@@ -25,14 +25,8 @@ use Rattle.host_widgets.proofs.StandingOn.{StandsOn, ReadsOn, stands-none, stand
 abbrev pub ByLink : Outcome → Type 0 → Type 0 → Type 0
 ByLink (Ok done) Up Down = Up
 ByLink (Err LinkDown) Up Down = Down
-ByLink (Err NotLoaded) Up Down = Up
-ByLink (Err Loaded) Up Down = Up
-ByLink (Err (NoSuch name)) Up Down = Up
-ByLink (Err (State found)) Up Down = Up
-ByLink (Err Off) Up Down = Up
-ByLink (Err (Range n)) Up Down = Up
 ByLink (Err (Refused e)) Up Down = Up
-ByLink (Err (Blob n)) Up Down = Up
+ByLink (Err fault) Up Down = Up
 
 -- what is said where the link did not fail
 abbrev pub WhereUp : Outcome → Type 0 → Type 0
@@ -95,27 +89,14 @@ module _ {D : Type 0} (means : Meaning D) (plan : Plan) (heap : ℕ) (goes_on : 
   -- the first fault of a refusal and of what came after it
   after-refusal : (e : _) (rest : Outcome) (Up Down : Type 0) → ByLink rest Up Down → ByLink (first_of (Err (Refused e)) rest) Up Down
   after-refusal e (Ok done) Up Down x = x
-  after-refusal e (Err LinkDown) Up Down x = x
-  after-refusal e (Err NotLoaded) Up Down x = x
-  after-refusal e (Err Loaded) Up Down x = x
-  after-refusal e (Err (NoSuch name)) Up Down x = x
-  after-refusal e (Err (State found)) Up Down x = x
-  after-refusal e (Err Off) Up Down x = x
-  after-refusal e (Err (Range n)) Up Down x = x
   after-refusal e (Err (Refused d)) Up Down x = x
-  after-refusal e (Err (Blob n)) Up Down x = x
+  after-refusal e (Err fault) Up Down x = x
 
   by-map : (o : Outcome) (Up Up' Down Down' : Type 0) → (Up → Up') → (Down → Down') → ByLink o Up Down → ByLink o Up' Down'
   by-map (Ok done) Up Up' Down Down' f g x = f x
   by-map (Err LinkDown) Up Up' Down Down' f g x = g x
-  by-map (Err NotLoaded) Up Up' Down Down' f g x = f x
-  by-map (Err Loaded) Up Up' Down Down' f g x = f x
-  by-map (Err (NoSuch name)) Up Up' Down Down' f g x = f x
-  by-map (Err (State found)) Up Up' Down Down' f g x = f x
-  by-map (Err Off) Up Up' Down Down' f g x = f x
-  by-map (Err (Range n)) Up Up' Down Down' f g x = f x
   by-map (Err (Refused d)) Up Up' Down Down' f g x = f x
-  by-map (Err (Blob n)) Up Up' Down Down' f g x = f x
+  by-map (Err fault) Up Up' Down Down' f g x = f x
 
   abbrev met_walk : Record → List Meeting → List Act → Walked Record Act (List Meeting)
   met_walk kept ms acts = walk (act_rules plan heap) goes_on next_of kept ms acts
@@ -177,13 +158,7 @@ module _ {D : Type 0} (means : Meaning D) (plan : Plan) (heap : ℕ) (goes_on : 
         let first = held (λ g. goes_on ≡ true → AreReady plan goes_on acts g) kept (lag_of m) h in
         refused act acts kept ms (lag_of m) f w mid v e goes_on first more (λ goes did. on_refused goes did first.state first.is_on first.record_now first.keeps_now (h.so goes))
     by_outcome v ms on_passed on_refused (Err LinkDown) h more = subst (λ (x : World D). ReadBy f w x (lag_of m)) (sym more.1) h
-    by_outcome v ms on_passed on_refused (Err NotLoaded) h more = subst (λ (x : World D). Held f w x kept (lag_of m)) (sym more.1) (held (λ g. goes_on ≡ true → AreReady plan goes_on acts g) kept (lag_of m) h)
-    by_outcome v ms on_passed on_refused (Err Loaded) h more = subst (λ (x : World D). Held f w x kept (lag_of m)) (sym more.1) (held (λ g. goes_on ≡ true → AreReady plan goes_on acts g) kept (lag_of m) h)
-    by_outcome v ms on_passed on_refused (Err (NoSuch name)) h more = subst (λ (x : World D). Held f w x kept (lag_of m)) (sym more.1) (held (λ g. goes_on ≡ true → AreReady plan goes_on acts g) kept (lag_of m) h)
-    by_outcome v ms on_passed on_refused (Err (State found)) h more = subst (λ (x : World D). Held f w x kept (lag_of m)) (sym more.1) (held (λ g. goes_on ≡ true → AreReady plan goes_on acts g) kept (lag_of m) h)
-    by_outcome v ms on_passed on_refused (Err Off) h more = subst (λ (x : World D). Held f w x kept (lag_of m)) (sym more.1) (held (λ g. goes_on ≡ true → AreReady plan goes_on acts g) kept (lag_of m) h)
-    by_outcome v ms on_passed on_refused (Err (Range n)) h more = subst (λ (x : World D). Held f w x kept (lag_of m)) (sym more.1) (held (λ g. goes_on ≡ true → AreReady plan goes_on acts g) kept (lag_of m) h)
-    by_outcome v ms on_passed on_refused (Err (Blob n)) h more = subst (λ (x : World D). Held f w x kept (lag_of m)) (sym more.1) (held (λ g. goes_on ≡ true → AreReady plan goes_on acts g) kept (lag_of m) h)
+    by_outcome v ms on_passed on_refused (Err fault) h more = subst (λ (x : World D). Held f w x kept (lag_of m)) (sym more.1) (held (λ g. goes_on ≡ true → AreReady plan goes_on acts g) kept (lag_of m) h)
 
   walk-by : (acts : List Act) (ms : List Meeting) (kept : Record) (w v : World D) → ActsDid means (act_rules plan heap) goes_on kept acts ms w v → HaveLaw plan goes_on kept acts → IsRecordOf plan kept →
       (f : FwState) → means.on w.device ≡ Some f → KeepsRecord plan heap kept f → AreReady plan goes_on acts f → HeldBy f w v (met_walk kept ms acts)

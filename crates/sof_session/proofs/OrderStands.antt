@@ -11,7 +11,7 @@ use Rattle.mbox_link.specs.Meetings.{Meeting}
 use Rattle.tplg_plan.specs.declared.plans.Plan.{Plan}
 use Rattle.tplg_plan.specs.Sound.{IsSound}
 use Rattle.host_widgets.specs.declared.answers.Answer.{Answer}
-use Rattle.host_widgets.specs.declared.answers.HostFault.TheVariants.{NotLoaded, Loaded, NoSuch, State, Off, Range, Refused, LinkDown, Blob}
+use Rattle.host_widgets.specs.declared.answers.HostFault.TheVariants.{Refused, LinkDown}
 use Rattle.host_widgets.specs.declared.kept.Record.{Record}
 use Rattle.host_widgets.specs.Host.{Outcome, IsRecordOf}
 use Rattle.host_widgets.specs.Keeps.{KeepsRecord}
@@ -34,26 +34,13 @@ use Rattle.sof_session.proofs.Carrying.{doing, from-start}
 pub plain-ends : (done : Record → Record) (now : Record) (o : Outcome) (Up Down : Type 0) → ByLink o Up Down → (((plain_end done now o).1 ≡ Cut ∷ []) × Down) ⊎ (Up × ((plain_end done now o).1 ≡ []))
 plain-ends done now (Ok all) Up Down x = inr (x, refl)
 plain-ends done now (Err LinkDown) Up Down x = inl (refl, x)
-plain-ends done now (Err NotLoaded) Up Down x = inr (x, refl)
-plain-ends done now (Err Loaded) Up Down x = inr (x, refl)
-plain-ends done now (Err (NoSuch name)) Up Down x = inr (x, refl)
-plain-ends done now (Err (State found)) Up Down x = inr (x, refl)
-plain-ends done now (Err Off) Up Down x = inr (x, refl)
-plain-ends done now (Err (Range n)) Up Down x = inr (x, refl)
 plain-ends done now (Err (Refused e)) Up Down x = inr (x, refl)
-plain-ends done now (Err (Blob n)) Up Down x = inr (x, refl)
+plain-ends done now (Err fault) Up Down x = inr (x, refl)
 
 both-ways : (o : Outcome) → ByLink o (Unit {0}) (Unit {0})
 both-ways (Ok all) = tt
-both-ways (Err LinkDown) = tt
-both-ways (Err NotLoaded) = tt
-both-ways (Err Loaded) = tt
-both-ways (Err (NoSuch name)) = tt
-both-ways (Err (State found)) = tt
-both-ways (Err Off) = tt
-both-ways (Err (Range n)) = tt
 both-ways (Err (Refused e)) = tt
-both-ways (Err (Blob n)) = tt
+both-ways (Err fault) = tt
 
 -- whatever its result
 pub plain-cuts : (done : Record → Record) (now : Record) (o : Outcome) → ((plain_end done now o).1 ≡ Cut ∷ []) ⊎ ((plain_end done now o).1 ≡ [])
@@ -63,14 +50,8 @@ plain-cuts done now o = ⊎_elim (λ cut. inl cut.0) (λ up. inr up.1) (plain-en
 pub by-down : (o : Outcome) (Up Down : Type 0) → (Up → Down) → ByLink o Up Down → Down
 by-down (Ok all) Up Down f x = f x
 by-down (Err LinkDown) Up Down f x = x
-by-down (Err NotLoaded) Up Down f x = f x
-by-down (Err Loaded) Up Down f x = f x
-by-down (Err (NoSuch name)) Up Down f x = f x
-by-down (Err (State found)) Up Down f x = f x
-by-down (Err Off) Up Down f x = f x
-by-down (Err (Range n)) Up Down f x = f x
 by-down (Err (Refused e)) Up Down f x = f x
-by-down (Err (Blob n)) Up Down f x = f x
+by-down (Err fault) Up Down f x = f x
 
 -- ---- over a link
 

@@ -6,7 +6,7 @@ use Rattle.mbox_link.specs.Exchange.{more}
 use Rattle.mbox_link.specs.Calls.{World, Meaning, Led}
 use Rattle.mbox_link.specs.Meetings.{Meeting, Doing, next_meeting}
 use Rattle.tplg_plan.specs.declared.plans.Plan.{Plan}
-use Rattle.host_widgets.specs.declared.answers.HostFault.TheVariants.{NotLoaded, Loaded, NoSuch, State, Off, Range, Refused, LinkDown, Blob}
+use Rattle.host_widgets.specs.declared.answers.HostFault.TheVariants.{Refused}
 use Rattle.host_widgets.specs.declared.kept.Record.{Record}
 use Rattle.host_widgets.specs.Kept.{first_record}
 use Rattle.host_widgets.specs.HostActs.{Act, after, fresh_in}
@@ -66,15 +66,8 @@ none-walked plan heap past_refusals next (act ∷ acts) kept q =
 -- nor those of the end
 none-plain : (done : Record → Record) (now : Record) (outcome : Outcome) → NoBoot (plain_end done now outcome).1
 none-plain done now (Ok passed) = refl
-none-plain done now (Err LinkDown) = refl
-none-plain done now (Err NotLoaded) = refl
-none-plain done now (Err Loaded) = refl
-none-plain done now (Err (NoSuch name)) = refl
-none-plain done now (Err (State found)) = refl
-none-plain done now (Err Off) = refl
-none-plain done now (Err (Range n)) = refl
 none-plain done now (Err (Refused e)) = refl
-none-plain done now (Err (Blob n)) = refl
+none-plain done now (Err fault) = refl
 
 none-brought : (done : Record → Record) (failed now : Record) (outcome : Outcome) → NoBoot (brought_end done failed now outcome).1
 none-brought done failed now (Ok passed) = refl

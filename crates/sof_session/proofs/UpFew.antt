@@ -198,14 +198,7 @@ module _ (plan : Plan) (sound : IsSound plan) {Q : Type 0} (next : Q → Meeting
   making-ends : (host : ℕ) (ns : List ℕ) (now : UpState) (q : Q) (n : ℕ) → 288 ≤ n → (o : Outcome) → Sends n now q (after_making plan host ns now o)
   making-ends host ns now q n most (Ok passed) = tt
   making-ends host ns now q n most (Err (faults.Refused e)) = unmade-few ns (λ x. x) now q n most
-  making-ends host ns now q n most (Err faults.NotLoaded) = tt
-  making-ends host ns now q n most (Err faults.Loaded) = tt
-  making-ends host ns now q n most (Err (faults.NoSuch name)) = tt
-  making-ends host ns now q n most (Err (faults.State found)) = tt
-  making-ends host ns now q n most (Err faults.Off) = tt
-  making-ends host ns now q n most (Err (faults.Range k)) = tt
-  making-ends host ns now q n most (Err faults.LinkDown) = tt
-  making-ends host ns now q n most (Err (faults.Blob k)) = tt
+  making-ends host ns now q n most (Err fault) = tt
 
   lacking-once : (up : List ℕ) (host : ℕ) → AreOnce (lacking plan up host)
   lacking-once up host = once-filter (λ (i : ℕ). not (is_among up i)) (need_in plan.graph host) (once-filter (is_needed plan.graph host) (pipe_indices plan.graph) (distinct-once (pipe_indices plan.graph) sound.indices))
@@ -221,14 +214,7 @@ module _ (plan : Plan) (sound : IsSound plan) {Q : Type 0} (next : Q → Meeting
   closing-ends : (host : ℕ) (now : UpState) (q : Q) (n : ℕ) → 288 ≤ n → (o : Outcome) → Sends n now q (after_closing plan host now o)
   closing-ends host now q n most (Ok passed) = unmade-few (parting plan host now) (with_stream_shut plan host) now q n most
   closing-ends host now q n most (Err (faults.Refused e)) = tt
-  closing-ends host now q n most (Err faults.NotLoaded) = tt
-  closing-ends host now q n most (Err faults.Loaded) = tt
-  closing-ends host now q n most (Err (faults.NoSuch name)) = tt
-  closing-ends host now q n most (Err (faults.State found)) = tt
-  closing-ends host now q n most (Err faults.Off) = tt
-  closing-ends host now q n most (Err (faults.Range k)) = tt
-  closing-ends host now q n most (Err faults.LinkDown) = tt
-  closing-ends host now q n most (Err (faults.Blob k)) = tt
+  closing-ends host now q n most (Err fault) = tt
 
   few-close : (host : ℕ) (found : Found) → length (close_by host found) ≤ 2
   few-close host founds.Running = omega arith

@@ -358,14 +358,7 @@ module _ (plan : Plan) (sound : IsSound plan) where
     making-paced : (host : ℕ) (n : List ℕ) (now : UpState) (o : Outcome) → Paced (after_making plan host n now o)
     making-paced host n now (Ok passed) = (tt, refl)
     making-paced host n now (Err (faults.Refused e)) = unmade-paced n (λ x. x) now
-    making-paced host n now (Err faults.NotLoaded) = (tt, refl)
-    making-paced host n now (Err faults.Loaded) = (tt, refl)
-    making-paced host n now (Err (faults.NoSuch name)) = (tt, refl)
-    making-paced host n now (Err (faults.State found)) = (tt, refl)
-    making-paced host n now (Err faults.Off) = (tt, refl)
-    making-paced host n now (Err (faults.Range k)) = (tt, refl)
-    making-paced host n now (Err faults.LinkDown) = (tt, refl)
-    making-paced host n now (Err (faults.Blob k)) = (tt, refl)
+    making-paced host n now (Err fault) = (tt, refl)
 
     opening-paced : (s : UpState) (host : ℕ) (n : List ℕ) (power : Power) → Paced (opening_by power plan host n s)
     opening-paced s host n powers.On = (all-ordinary plan (making_acts plan s.kept n) (making-few s.kept n), λ now o. making-paced host n now o)
@@ -375,14 +368,7 @@ module _ (plan : Plan) (sound : IsSound plan) where
     closed-paced : (host : ℕ) (now : UpState) (o : Outcome) → Paced (after_closing plan host now o)
     closed-paced host now (Ok passed) = unmade-paced (parting plan host now) (with_stream_shut plan host) now
     closed-paced host now (Err (faults.Refused e)) = (tt, refl)
-    closed-paced host now (Err faults.NotLoaded) = (tt, refl)
-    closed-paced host now (Err faults.Loaded) = (tt, refl)
-    closed-paced host now (Err (faults.NoSuch name)) = (tt, refl)
-    closed-paced host now (Err (faults.State found)) = (tt, refl)
-    closed-paced host now (Err faults.Off) = (tt, refl)
-    closed-paced host now (Err (faults.Range k)) = (tt, refl)
-    closed-paced host now (Err faults.LinkDown) = (tt, refl)
-    closed-paced host now (Err (faults.Blob k)) = (tt, refl)
+    closed-paced host now (Err fault) = (tt, refl)
 
     close-few : (host : ℕ) (found : Found) → AllDynamic plan (close_by host found)
     close-few host founds.Running = (tt, (tt, tt))

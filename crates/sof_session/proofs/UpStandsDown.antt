@@ -132,14 +132,8 @@ module _ (plan : Plan) (sound : IsSound plan) (plays : PlaysAtStages plan) (stag
   cut-then : (o : Outcome) (Up : Type 0) (Down : Type 0) → Up → Down → ByLink o Up Down
   cut-then (Ok passed) Up Down up down = up
   cut-then (Err faults.LinkDown) Up Down up down = down
-  cut-then (Err faults.NotLoaded) Up Down up down = up
-  cut-then (Err faults.Loaded) Up Down up down = up
-  cut-then (Err (faults.NoSuch name)) Up Down up down = up
-  cut-then (Err (faults.State found)) Up Down up down = up
-  cut-then (Err faults.Off) Up Down up down = up
-  cut-then (Err (faults.Range k)) Up Down up down = up
   cut-then (Err (faults.Refused e)) Up Down up down = up
-  cut-then (Err (faults.Blob k)) Up Down up down = up
+  cut-then (Err fault) Up Down up down = up
 
   pub suspend-leads-by : (s : UpState) → IsUpState plan s → s.kept.power ≡ powers.On → LeadsBy plan s (plain_job plan s (suspending plan s.kept)).routine
   suspend-leads-by s is on =

@@ -111,14 +111,8 @@ module _ (plan : Plan) (sound : IsSound plan) (plays : PlaysAtStages plan) (stag
   unmaking-ends : (done : UpState → UpState) (s : UpState) (o : Outcome) → ByLink o (LeadsBy plan s (after_unmaking done s o)) (IsCutThen (after_unmaking done s o))
   unmaking-ends done s (Ok passed) = inl refl
   unmaking-ends done s (Err faults.LinkDown) = refl
-  unmaking-ends done s (Err faults.NotLoaded) = inr refl
-  unmaking-ends done s (Err faults.Loaded) = inr refl
-  unmaking-ends done s (Err (faults.NoSuch name)) = inr refl
-  unmaking-ends done s (Err (faults.State found)) = inr refl
-  unmaking-ends done s (Err faults.Off) = inr refl
-  unmaking-ends done s (Err (faults.Range k)) = inr refl
   unmaking-ends done s (Err (faults.Refused e)) = inr refl
-  unmaking-ends done s (Err (faults.Blob k)) = inr refl
+  unmaking-ends done s (Err fault) = inr refl
 
   pub unmade-leads : (u : UpState) (up n : List ℕ) (done : UpState → UpState) → IsServing plan u.kept up → AllMay u.kept → AreApart up n → HasBrought plan.graph (is_among up) → (st : Stage) → IsAmid plan up n st → IsStage plan u.kept st u.there → LeadsBy plan u (unmade plan n done u)
   unmade-leads u up n done serving_is may apart brought st amid is = (
@@ -165,14 +159,8 @@ module _ (plan : Plan) (sound : IsSound plan) (plays : PlaysAtStages plan) (stag
       come : (o : Outcome) → Met plan Mid End o u.there → ByLink o (LeadsBy plan u (after_making plan host n u o)) (IsCutThen (after_making plan host n u o))
       come (Ok passed) met = inl refl
       come (Err faults.LinkDown) met = refl
-      come (Err faults.NotLoaded) met = inr refl
-      come (Err faults.Loaded) met = inr refl
-      come (Err (faults.NoSuch name)) met = inr refl
-      come (Err (faults.State stands)) met = inr refl
-      come (Err faults.Off) met = inr refl
-      come (Err (faults.Range k)) met = inr refl
       come (Err (faults.Refused e)) met = refused met
-      come (Err (faults.Blob k)) met = inr refl
+      come (Err fault) met = inr refl
 
     pub opening-leads : LeadsBy plan s (opening_by powers.On plan host n s)
     opening-leads = (
@@ -244,14 +232,8 @@ module _ (plan : Plan) (sound : IsSound plan) (plays : PlaysAtStages plan) (stag
     closed : (u : UpState) (o : Outcome) → Came plan (IsUpState plan) Freed o u → ByLink o (LeadsBy plan u (after_closing plan host u o)) (IsCutThen (after_closing plan host u o))
     closed u (Ok passed) h = parts-lead u h
     closed u (Err faults.LinkDown) h = refl
-    closed u (Err faults.NotLoaded) h = inr refl
-    closed u (Err faults.Loaded) h = inr refl
-    closed u (Err (faults.NoSuch name)) h = inr refl
-    closed u (Err (faults.State stands)) h = inr refl
-    closed u (Err faults.Off) h = inr refl
-    closed u (Err (faults.Range k)) h = inr refl
     closed u (Err (faults.Refused e)) h = inl refl
-    closed u (Err (faults.Blob k)) h = inr refl
+    closed u (Err fault) h = inr refl
 
     pub closing-leads : LeadsBy plan s (closing_by powers.On plan host p.1.found s)
     closing-leads = (

@@ -225,14 +225,8 @@ module _ (plan : Plan) (sound : IsSound plan) (s : UpState) (is : IsUpState plan
   resuming-ends : (now : UpState) (o : Outcome) → ByLink o (LeadsBy plan now (after_resuming s now o)) (IsCutThen (after_resuming s now o))
   resuming-ends now (Ok passed) = inl refl
   resuming-ends now (Err faults.LinkDown) = refl
-  resuming-ends now (Err faults.NotLoaded) = inr refl
-  resuming-ends now (Err faults.Loaded) = inr refl
-  resuming-ends now (Err (faults.NoSuch name)) = inr refl
-  resuming-ends now (Err (faults.State found)) = inr refl
-  resuming-ends now (Err faults.Off) = inr refl
-  resuming-ends now (Err (faults.Range n)) = inr refl
   resuming-ends now (Err (faults.Refused e)) = inr refl
-  resuming-ends now (Err (faults.Blob n)) = inr refl
+  resuming-ends now (Err fault) = inr refl
 
   pub resuming-leads : (heap : ℕ) → LeadsBy plan (resuming_job plan heap s).from (resuming_job plan heap s).routine
   resuming-leads heap = (

@@ -95,14 +95,8 @@ module _ (plan : Plan) (sound : IsSound plan) (plays : PlaysAtStages plan) (stag
   plain-ends : (done : Record → Record) (u : UpState) (o : Outcome) → (let e = plain_end done u.kept o in ByLink o (LeadsBy plan u (Finished (settled e.0 u) e.1)) (IsCutThen (Finished (settled e.0 u) e.1)))
   plain-ends done u (Ok passed) = inl refl
   plain-ends done u (Err faults.LinkDown) = refl
-  plain-ends done u (Err faults.NotLoaded) = inl refl
-  plain-ends done u (Err faults.Loaded) = inl refl
-  plain-ends done u (Err (faults.NoSuch name)) = inl refl
-  plain-ends done u (Err (faults.State found)) = inl refl
-  plain-ends done u (Err faults.Off) = inl refl
-  plain-ends done u (Err (faults.Range k)) = inl refl
   plain-ends done u (Err (faults.Refused e)) = inl refl
-  plain-ends done u (Err (faults.Blob k)) = inl refl
+  plain-ends done u (Err fault) = inl refl
 
   -- what acts that neither make nor unmake ask
   pub record AreSent (xs : List Act) : Type 0 where

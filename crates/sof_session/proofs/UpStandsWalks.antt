@@ -14,7 +14,7 @@ use Rattle.mbox_link.specs.Exchange.{ticks, ticked}
 use Rattle.mbox_link.specs.Calls.{World, Meaning, Led}
 use Rattle.mbox_link.specs.Meetings.{Meeting}
 use Rattle.tplg_plan.specs.declared.plans.Plan.{Plan}
-use Rattle.host_widgets.specs.declared.answers.HostFault.TheVariants.{NotLoaded, Loaded, NoSuch, State, Off, Range, Refused, LinkDown, Blob}
+use Rattle.host_widgets.specs.declared.answers.HostFault.TheVariants.{Refused, LinkDown}
 use Rattle.host_widgets.specs.Host.{Outcome, verdict, errno}
 use Rattle.host_widgets.specs.HostActs.{Part, Act, fresh_in}
 use Rattle.host_widgets.specs.OneAct.{Performed, performed, lag_of, outcome_by}
@@ -62,39 +62,20 @@ staged-still act f g same staged = tt
 by-map : (o : Outcome) (Up Up' Down Down' : Type 0) → (Up → Up') → (Down → Down') → ByLink o Up Down → ByLink o Up' Down'
 by-map (Ok done) Up Up' Down Down' f g x = f x
 by-map (Err LinkDown) Up Up' Down Down' f g x = g x
-by-map (Err NotLoaded) Up Up' Down Down' f g x = f x
-by-map (Err Loaded) Up Up' Down Down' f g x = f x
-by-map (Err (NoSuch name)) Up Up' Down Down' f g x = f x
-by-map (Err (State found)) Up Up' Down Down' f g x = f x
-by-map (Err Off) Up Up' Down Down' f g x = f x
-by-map (Err (Range n)) Up Up' Down Down' f g x = f x
 by-map (Err (Refused d)) Up Up' Down Down' f g x = f x
-by-map (Err (Blob n)) Up Up' Down Down' f g x = f x
+by-map (Err fault) Up Up' Down Down' f g x = f x
 
 by-both : (o : Outcome) (Up Up' Down Down' All : Type 0) → (Up → Up' → All) → (Down → Down' → All) → ByLink o Up Down → ByLink o Up' Down' → All
 by-both (Ok done) Up Up' Down Down' All f g x y = f x y
 by-both (Err LinkDown) Up Up' Down Down' All f g x y = g x y
-by-both (Err NotLoaded) Up Up' Down Down' All f g x y = f x y
-by-both (Err Loaded) Up Up' Down Down' All f g x y = f x y
-by-both (Err (NoSuch name)) Up Up' Down Down' All f g x y = f x y
-by-both (Err (State found)) Up Up' Down Down' All f g x y = f x y
-by-both (Err Off) Up Up' Down Down' All f g x y = f x y
-by-both (Err (Range n)) Up Up' Down Down' All f g x y = f x y
 by-both (Err (Refused d)) Up Up' Down Down' All f g x y = f x y
-by-both (Err (Blob n)) Up Up' Down Down' All f g x y = f x y
+by-both (Err fault) Up Up' Down Down' All f g x y = f x y
 
 -- the first fault of a refusal and of what came after it
 after-refusal : (e : _) (rest : Outcome) (Up Down : Type 0) → ByLink rest Up Down → ByLink (first_of (Err (Refused e)) rest) Up Down
 after-refusal e (Ok done) Up Down x = x
-after-refusal e (Err LinkDown) Up Down x = x
-after-refusal e (Err NotLoaded) Up Down x = x
-after-refusal e (Err Loaded) Up Down x = x
-after-refusal e (Err (NoSuch name)) Up Down x = x
-after-refusal e (Err (State found)) Up Down x = x
-after-refusal e (Err Off) Up Down x = x
-after-refusal e (Err (Range n)) Up Down x = x
 after-refusal e (Err (Refused d)) Up Down x = x
-after-refusal e (Err (Blob n)) Up Down x = x
+after-refusal e (Err fault) Up Down x = x
 
 module _ {D : Type 0} (means : Meaning D) (plan : Plan) (goes_on : Bool) where
   -- what is kept is there in the device, and these moments later what stood stands
@@ -273,13 +254,7 @@ module _ {D : Type 0} (means : Meaning D) (plan : Plan) (goes_on : Bool) where
     by_outcome v ms on_passed on_refused (Err (Refused e)) h more =
         refused act acts u ms (lag_of m) f w mid v e goes_on h.held more (λ goes did. on_refused goes did h.held.state h.held.is_on h.held.there (h.so goes))
     by_outcome v ms on_passed on_refused (Err LinkDown) h more = subst (λ (x : World D). ReadSo f w x (lag_of m)) (sym more.1) h
-    by_outcome v ms on_passed on_refused (Err NotLoaded) h more = subst (λ (x : World D). HeldSo f w x u (lag_of m)) (sym more.1) h.held
-    by_outcome v ms on_passed on_refused (Err Loaded) h more = subst (λ (x : World D). HeldSo f w x u (lag_of m)) (sym more.1) h.held
-    by_outcome v ms on_passed on_refused (Err (NoSuch name)) h more = subst (λ (x : World D). HeldSo f w x u (lag_of m)) (sym more.1) h.held
-    by_outcome v ms on_passed on_refused (Err (State found)) h more = subst (λ (x : World D). HeldSo f w x u (lag_of m)) (sym more.1) h.held
-    by_outcome v ms on_passed on_refused (Err Off) h more = subst (λ (x : World D). HeldSo f w x u (lag_of m)) (sym more.1) h.held
-    by_outcome v ms on_passed on_refused (Err (Range n)) h more = subst (λ (x : World D). HeldSo f w x u (lag_of m)) (sym more.1) h.held
-    by_outcome v ms on_passed on_refused (Err (Blob n)) h more = subst (λ (x : World D). HeldSo f w x u (lag_of m)) (sym more.1) h.held
+    by_outcome v ms on_passed on_refused (Err fault) h more = subst (λ (x : World D). HeldSo f w x u (lag_of m)) (sym more.1) h.held
 
   pub walk-leads : (acts : List Act) (ms : List Meeting) (u : UpState) (w v : World D) → ActsDid means (up_act_rules plan) goes_on u acts ms w v → AreLed plan goes_on u acts →
       (f : FwState) → means.on w.device ≡ Some f → there_in f ≡ u.there → StagedFirst acts f → HeldBy f w v (met_walk u ms acts)

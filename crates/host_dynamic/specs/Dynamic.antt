@@ -17,7 +17,7 @@ use Rattle.host_widgets.specs.declared.kept.StreamRec.{StreamRec}
 use Rattle.host_widgets.specs.declared.kept.Record.{Record}
 use Rattle.host_widgets.specs.ActLists.{close_by, prepare_acts}
 use Rattle.host_widgets.specs.Host.{Outcome}
-use Rattle.host_widgets.specs.HostActs.{after, Act}
+use Rattle.host_widgets.specs.HostActs.{Act}
 use Rattle.host_widgets.specs.Kept.{with_power, with_stream}
 use Rattle.host_widgets.specs.Orders.{Procedure, goes_on_after_refusal, end_by, where_on}
 use Rattle.host_widgets.specs.Routines.{Routine, Finished, Sending, Job}

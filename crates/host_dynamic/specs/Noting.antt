@@ -4,7 +4,7 @@ use Rattle.std.specs.List.{AllByRecursion}
 use Rattle.stream_law.specs.declared.graph.Join.{Join}
 use Rattle.stream_law.specs.declared.graph.Graph.{Graph}
 use Rattle.stream_law.specs.Order.{is_among}
-use Rattle.stream_law.specs.Ways.{components, buffers, reaches}
+use Rattle.stream_law.specs.Ways.{reaches}
 use Rattle.host_widgets.specs.Need.{IsPiped}
 
 -- the ids of a join are below the most that a plan has

@@ -1,5 +1,5 @@
 // Which pipelines a stream needs: those of all that walks lead to from its host, or to it, and what these bring.
-ghost use Rattle.std.specs.Prelude.{◌≡◌, ◌↔◌, ◌==◌, ◌<◌, ◌≤◌, ℕ, Bool, None, Some, ⊤, true, false, length, map, find, slice_index_or, option_copied, option_and_then};
+ghost use Rattle.std.specs.Prelude.{◌≡◌, ◌↔◌, ◌==◌, ◌<◌, ℕ, Bool, None, Some, ⊤, true, false, length, find, slice_index_or, option_copied, option_and_then};
 ghost use Rattle.std.specs.List.{list_any, AllByRecursion};
 ghost use Rattle.stream_law.specs.Ways.{is_capture as captures, is_of, splits};
 ghost use Rattle.stream_law.specs.Order.{is_among};

@@ -1,5 +1,5 @@
 -- What is kept where what is up may be a part of a plan, and the rules of one message over it.
-use Rattle.std.specs.Prelude.{ℕ, List, [], not, Option, Some, None, if◌then◌else◌}
+use Rattle.std.specs.Prelude.{ℕ, List, [], Option, Some, None, if◌then◌else◌}
 use Rattle.std.specs.List.{zip, list_any}
 use Rattle.sof_base.specs.Holes.{rounded, fits}
 use Rattle.sof_base.specs.declared.errno.Errno.{Errno}

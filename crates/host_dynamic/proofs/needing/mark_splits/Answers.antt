@@ -1,8 +1,7 @@
-use Rattle.std.proofs.Common.{◌≡◌, sym, ap, subst, ◌∙◌, ℕ, ◌<◌, length, get_or, Bool, true, false, List, arith}
-use Rattle.std.specs.List.{AllByRecursion}
+use Rattle.std.proofs.Common.{◌≡◌, sym, ap, subst, ◌∙◌, ◌<◌, length, get_or, Bool, true, false, List, arith}
 use Rattle.stream_law.specs.declared.graph.Comp.{Comp}
 use Rattle.stream_law.proofs.Members.{IsIn, in-all}
-use Rattle.host_dynamic.specs.Spreading.{AllAllowed, AreKept, IsSplitMarked, split_marked}
+use Rattle.host_dynamic.specs.Spreading.{AllAllowed, IsSplitMarked, split_marked}
 use Rattle.host_dynamic.proofs.Spreading.{at-in, all-turn, split-size, split-keeps, split-there, split-allows}
 use Rattle.host_dynamic.proofs.needing.mark_splits.Goals as goal
 

@@ -2,7 +2,7 @@ use Rattle.std.proofs.Common.{◌≡◌, sym, ap, subst, ◌∙◌, ℕ, List, t
 use Rattle.std.specs.List.{IsDistinct}
 use Rattle.std.proofs.lemmas.Bool.{false≢true, true≢false, ltb-false}
 use Rattle.stream_law.specs.Order.{is_among}
-use Rattle.host_dynamic.specs.Spreading.{AreOnceNoted, IsClosedOver}
+use Rattle.host_dynamic.specs.Spreading.{AreOnceNoted}
 use Rattle.std.proofs.Common.{arith, ◌≤◌}
 use Rattle.std.specs.Prelude.{nat_lt}
 use Rattle.host_dynamic.proofs.Spreading.{same-long}

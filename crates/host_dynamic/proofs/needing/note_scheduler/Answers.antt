@@ -1,4 +1,4 @@
-use Rattle.std.proofs.Common.{◌≡◌, sym, ◌∙◌}
+use Rattle.std.proofs.Common.{sym, ◌∙◌}
 use Rattle.host_dynamic.proofs.Searchable.{index-among}
 use Rattle.host_dynamic.proofs.Spreading.{room-at}
 use Rattle.host_dynamic.proofs.needing.note_scheduler.Goals as goal

@@ -1,4 +1,4 @@
-use Rattle.std.proofs.Common.{◌≡◌, sym, ◌∙◌}
+use Rattle.std.proofs.Common.{sym, ◌∙◌}
 use Rattle.host_dynamic.proofs.Searchable.{end-among}
 use Rattle.host_dynamic.proofs.Spreading.{room-at, table-end}
 use Rattle.host_dynamic.proofs.needing.note_sink.Goals as goal

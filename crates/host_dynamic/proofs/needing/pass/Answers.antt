@@ -1,6 +1,6 @@
-use Rattle.std.proofs.Common.{◌≡◌, sym, ap, subst, ◌∙◌, ℕ, ◌<◌, length, get_or, Bool, true, false, List, arith}
+use Rattle.std.proofs.Common.{sym, ap, subst, ◌∙◌, ◌<◌, length, get_or, Bool, true, false, List, arith}
 use Rattle.host_dynamic.specs.Noting.{IsLowJoin}
-use Rattle.host_dynamic.specs.Spreading.{AllAllowed, AreKept}
+use Rattle.host_dynamic.specs.Spreading.{AllAllowed}
 use Rattle.host_dynamic.proofs.Spreading.{in-get, all-get, passed-size, passed-keeps, passed-allows}
 use Rattle.host_dynamic.proofs.needing.pass.Goals as goal
 

@@ -1,11 +1,10 @@
-use Rattle.std.proofs.Common.{◌≡◌, sym, ap, subst, ◌∙◌, ℕ, ◌<◌, ◌≤◌, List, length, get_or, set, Bool, true, false, Some, None, arith}
+use Rattle.std.proofs.Common.{◌≡◌, sym, ap, subst, ◌∙◌, ℕ, length, get_or, set, true, false, Some, arith}
 use Rattle.std.specs.Prelude.{find, option_copied}
 use Rattle.std.proofs.lemmas.List.{length-set}
 use Rattle.std.proofs.lemmas.Bool.{and_parts}
-use Rattle.stream_law.specs.declared.graph.Join.{Join}
-use Rattle.stream_law.proofs.Members.{IsIn, find-in}
+use Rattle.stream_law.proofs.Members.{find-in}
 use Rattle.host_dynamic.specs.Noting.{walk_from, walk_to, is_unwalked}
-use Rattle.host_dynamic.specs.Spreading.{AllAllowed, AreKept}
+use Rattle.host_dynamic.specs.Spreading.{AllAllowed}
 use Rattle.host_dynamic.proofs.Marked.{still_unmarked, fewer-unmarked, set-keeps, is-low, is-new}
 use Rattle.host_dynamic.proofs.Spreading.{kept-fewer, set-allows, allow-on}
 use Rattle.host_dynamic.proofs.needing.walk.Goals as goal

@@ -1,4 +1,4 @@
-use Rattle.std.proofs.Common.{◌≡◌, ℕ, length}
+use Rattle.std.proofs.Common.{◌≡◌, length}
 use Rattle.host_dynamic.proofs.NeededNoted.{Allow, Serve}
 use Rattle.host_dynamic.proofs.opening.needed.Given as goal
 

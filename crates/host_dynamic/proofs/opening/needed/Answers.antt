@@ -38,16 +38,15 @@ loop-place-preserved c =
     let plan = c.args.plan.now in let kept = c.args.kept.now in let k = c.loop-place.place in let s = c.index-items-place.result in
     let low : k < length plan.streams = omega (arith, c.loop-place-test.true, ap length c.items-count.ensures) in
     let s_is : s ≡ get_or plan.streams k s = c.index-items-place.is ∙ ap (λ (xs : List StreamPlan). get_or xs k s) c.items.ensures in
-    let r_is = same-read c.items-in-loop-place.result.now kept.streams k _ c.items-in-loop-place.ensures (omega (arith, low, c.requires.streams)) in
     let host_is : s.host < 288 = host-low plan.graph s.host (searchable plan c.requires.plan s.host (host-here plan k s low s_is)) in
     let on = c.mark_stream.ensures.onward in let back = c.mark_stream.ensures.back in
     record {
       size = ap length on ∙ onward-size plan.graph (s, _) c.loop-place.onward ∙ c.loop-place.invariant.size;
       size_back = ap length back ∙ back-size plan.graph (s, _) c.loop-place.back ∙ c.loop-place.invariant.size_back;
       allow = subst (λ (m : List Bool × List Bool). Allow plan kept (k + 1) m.0 m.1) (λ i. (sym on i, sym back i))
-          (allow-more plan c.requires.plan kept c.requires.streams k s _ c.loop-place.onward c.loop-place.back low s_is r_is c.loop-place.invariant.allow);
+          (allow-more plan c.requires.plan kept c.requires.streams k s _ c.loop-place.onward c.loop-place.back low s_is (same-read c.items-in-loop-place.result.now kept.streams k _ c.items-in-loop-place.ensures (omega (arith, low, c.requires.streams))) c.loop-place.invariant.allow);
       serve = subst (λ (m : List Bool × List Bool). Serve plan kept (k + 1) m.0 m.1) (λ i. (sym on i, sym back i))
-          (serve-more plan c.requires.plan kept c.requires.streams k s _ c.loop-place.onward c.loop-place.back low s_is r_is
+          (serve-more plan c.requires.plan kept c.requires.streams k s _ c.loop-place.onward c.loop-place.back low s_is (same-read c.items-in-loop-place.result.now kept.streams k _ c.items-in-loop-place.ensures (omega (arith, low, c.requires.streams)))
           (omega (arith, host_is, c.loop-place.invariant.size)) (omega (arith, host_is, c.loop-place.invariant.size_back)) c.loop-place.invariant.serve);
     }
 

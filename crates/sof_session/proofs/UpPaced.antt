@@ -181,10 +181,6 @@ module _ (plan : Plan) where
   abbrev AllDynamic : List Act → Type 0
   AllDynamic xs = AllByRecursion (λ (act : Act). IsFewDynamic plan act) xs
 
-  all-ordinary : (xs : List Act) → AllDynamic xs → AllByRecursion (IsFewDynamic plan) xs
-  all-ordinary [] all = tt
-  all-ordinary (x ∷ xs) all = (all.0, all-ordinary xs all.1)
-
   all-more : (xs ys : List Act) → AllDynamic xs → AllDynamic ys → AllDynamic (xs ++ ys)
   all-more [] ys first rest = rest
   all-more (x ∷ xs) ys first rest = (first.0, all-more xs ys first.1 rest)
@@ -361,7 +357,7 @@ module _ (plan : Plan) (sound : IsSound plan) where
     making-paced host n now (Err fault) = (tt, refl)
 
     opening-paced : (s : UpState) (host : ℕ) (n : List ℕ) (power : Power) → Paced (opening_by power plan host n s)
-    opening-paced s host n powers.On = (all-ordinary plan (making_acts plan s.kept n) (making-few s.kept n), λ now o. making-paced host n now o)
+    opening-paced s host n powers.On = (making-few s.kept n, λ now o. making-paced host n now o)
     opening-paced s host n powers.Off = (tt, refl)
     opening-paced s host n powers.Unloaded = (tt, refl)
 
@@ -379,7 +375,7 @@ module _ (plan : Plan) (sound : IsSound plan) where
     close-few host founds.On = tt
 
     closing-paced : (s : UpState) (host : ℕ) (found : Found) (power : Power) → Paced (closing_by power plan host found s)
-    closing-paced s host found powers.On = (all-ordinary plan (close_by host found) (close-few host found), λ now o. closed-paced host now o)
+    closing-paced s host found powers.On = (close-few host found, λ now o. closed-paced host now o)
     closing-paced s host found powers.Off = (tt, refl)
     closing-paced s host found powers.Unloaded = (tt, refl)
 
@@ -399,14 +395,13 @@ module _ (plan : Plan) (sound : IsSound plan) where
     resuming-paced : (heap : ℕ) (s : UpState) → AllFew s.kept.streams → Paced (resuming_job plan heap s).routine
     resuming-paced heap s few =
         let prepares = flat_map prepare_acts (zip plan.streams s.kept.streams) in (
-          all-ordinary plan (making_acts plan s.kept s.up ++ prepares)
-              (all-more plan (making_acts plan s.kept s.up) prepares (making-few s.kept s.up)
-              (both-few plan prepares (none-flat prepare_acts (λ p. none-prepare p.0.host p.1.found p.1.params) (zip plan.streams s.kept.streams)) (few-prepares plan.streams s.kept.streams few))),
+          all-more plan (making_acts plan s.kept s.up) prepares (making-few s.kept s.up)
+              (both-few plan prepares (none-flat prepare_acts (λ p. none-prepare p.0.host p.1.found p.1.params) (zip plan.streams s.kept.streams)) (few-prepares plan.streams s.kept.streams few)),
           λ now o. resuming-ends s now o,
         )
 
     plain-paced : (s : UpState) (o : Procedure) → AllByRecursion MakesNone o.acts → AreFewActs o.acts → Paced (plain_job plan s o).routine
-    plain-paced s o none few = (all-ordinary plan o.acts (both-few plan o.acts none few), λ now outcome. end-paced o.ending plan o.done s.kept now.kept outcome)
+    plain-paced s o none few = (both-few plan o.acts none few, λ now outcome. end-paced o.ending plan o.done s.kept now.kept outcome)
 
     control-paced : (b : Bool) (s : UpState) (o : Procedure) → AllByRecursion MakesNone o.acts → AreFewActs o.acts → Paced (plain_job plan s (cond b o (unsent o))).routine
     control-paced true s o none few = plain-paced s o none few

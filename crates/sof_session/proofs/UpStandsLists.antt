@@ -141,28 +141,21 @@ module _ (plan : Plan) (plays : PlaysAtStages plan) (rows : RowsAtStages plan) w
 
   -- ---- making
 
-  abbrev BuildsOne : Act → Type 0
-  BuildsOne act = Builds act
-
-  builds-ordinary : (xs : List Act) → AllByRecursion BuildsOne xs → AllByRecursion Builds xs
-  builds-ordinary [] all = tt
-  builds-ordinary (act ∷ xs) all = (all.0, builds-ordinary xs all.1)
-
-  control-builds : (comp : ℕ) (kind : ControlKind) (c : ControlRec) → AllByRecursion BuildsOne (control_acts_by comp kind c)
+  control-builds : (comp : ℕ) (kind : ControlKind) (c : ControlRec) → AllByRecursion Builds (control_acts_by comp kind c)
   control-builds comp (kinds.Volume min max channels lowest step mute) c = (tt, tt)
   control-builds comp (kinds.Choice items) c = (tt, tt)
   control-builds comp (kinds.Masks min max channels) c = (tt, tt)
-  control-builds comp (kinds.Blob most initial) c = all-mapped BuildsOne (Part comp c.blob) (part_numbers c.blob) (λ k. tt)
+  control-builds comp (kinds.Blob most initial) c = all-mapped Builds (Part comp c.blob) (part_numbers c.blob) (λ k. tt)
 
   pub making-builds : (kept : Record) (n : List ℕ) → AllByRecursion Builds (making_acts plan kept n)
-  making-builds kept n = builds-ordinary (making_acts plan kept n)
-      (all-both BuildsOne (map Make (widgets_of plan n)) (map (λ (j : Join). acts.Join j.source j.sink) (flat_map (buffer_joins plan.graph) n) ++ (flat_map control_acts (filter (is_control_of plan n) (controls_of plan kept)) ++ map Finish (finish_ids plan.graph n)))
-      (all-mapped BuildsOne Make (widgets_of plan n) (λ id. tt))
-      (all-both BuildsOne (map (λ (j : Join). acts.Join j.source j.sink) (flat_map (buffer_joins plan.graph) n)) (flat_map control_acts (filter (is_control_of plan n) (controls_of plan kept)) ++ map Finish (finish_ids plan.graph n))
-      (all-mapped BuildsOne (λ (j : Join). acts.Join j.source j.sink) (flat_map (buffer_joins plan.graph) n) (λ j. tt))
-      (all-both BuildsOne (flat_map control_acts (filter (is_control_of plan n) (controls_of plan kept))) (map Finish (finish_ids plan.graph n))
-      (all-flat BuildsOne control_acts (filter (is_control_of plan n) (controls_of plan kept)) (λ p. control-builds p.0.comp p.0.kind p.1))
-      (all-mapped BuildsOne Finish (finish_ids plan.graph n) (λ id. tt)))))
+  making-builds kept n =
+      (all-both Builds (map Make (widgets_of plan n)) (map (λ (j : Join). acts.Join j.source j.sink) (flat_map (buffer_joins plan.graph) n) ++ (flat_map control_acts (filter (is_control_of plan n) (controls_of plan kept)) ++ map Finish (finish_ids plan.graph n)))
+      (all-mapped Builds Make (widgets_of plan n) (λ id. tt))
+      (all-both Builds (map (λ (j : Join). acts.Join j.source j.sink) (flat_map (buffer_joins plan.graph) n)) (flat_map control_acts (filter (is_control_of plan n) (controls_of plan kept)) ++ map Finish (finish_ids plan.graph n))
+      (all-mapped Builds (λ (j : Join). acts.Join j.source j.sink) (flat_map (buffer_joins plan.graph) n) (λ j. tt))
+      (all-both Builds (flat_map control_acts (filter (is_control_of plan n) (controls_of plan kept))) (map Finish (finish_ids plan.graph n))
+      (all-flat Builds control_acts (filter (is_control_of plan n) (controls_of plan kept)) (λ p. control-builds p.0.comp p.0.kind p.1))
+      (all-mapped Builds Finish (finish_ids plan.graph n) (λ id. tt)))))
 
   module _ (sound : IsSound plan) where
     -- what is up with these is between

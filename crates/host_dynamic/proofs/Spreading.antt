@@ -286,9 +286,6 @@ put-size t id i = by (is_some (get_or t id None))
     by true = refl
     by false = length-set t id (Some i)
 
-either-or : (o : Option ℕ) → option_or None o ≡ o
-either-or o = refl
-
 comp-end : (cs : List Comp) (c : Comp) (x : ℕ) → named_index (find (λ (k : Comp). k.id == x) (cs ++ c ∷ [])) None ≡ option_or (named_index (find (λ (k : Comp). k.id == x) cs) None) (cond (c.id == x) (Some c.pipe) None)
 comp-end [] c x = by (c.id == x)
   where

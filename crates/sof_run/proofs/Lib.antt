@@ -1,5 +1,7 @@
 pub mod Throughout
 mod RecordEntries
+mod RightDeeds
+mod RightRuns
 mod TracedViews
 pub mod OnePlay
 pub mod TraceFiles

@@ -1,11 +1,15 @@
 -- The laws of plays that public calls state.
-use Rattle.std.specs.Prelude.{◌≡◌, ℕ, List, Some, option_map}
+use Rattle.std.specs.Prelude.{◌≡◌, ◌⊎◌, ◌≤◌, ℕ, List, length, Some, None, option_map}
 use Rattle.sof_desk.specs.Desk.{DeskMeaning, DeskPlace, Slot}
 use Rattle.stream_law.specs.State.{view_of}
 use Rattle.mbox_link.specs.Calls.{Meaning}
+use Rattle.tplg_plan.specs.declared.plans.Plan.{Plan}
+use Rattle.sof_script.specs.declared.script.Command.{Command}
 use Rattle.sof_session.specs.SessionStep.{Calm}
 use Rattle.run_play.specs.Keeping.{trace_slot}
+use Rattle.run_play.specs.Met.{met}
 use Rattle.run_words.specs.TraceForms.{replay_of}
+use Rattle.run_replay.specs.Replays.{replay_fault}
 use Rattle.run_play.specs.Plays.{ToPlay, AreFilesTold}
 use Rattle.sof_run.specs.Run.{RunContract}
 
@@ -26,3 +30,16 @@ ReplaysAlike {D} {P} {E} {Q} means dsp others device =
     play.form.trace ≡ Some name → AreFilesTold (means.holds old) play → RunContract means dsp words old p 0 new q → Calm dsp p q → means.wrote new (Slot trace_slot) ≡ Some bytes →
     replay_of again ≡ Some file → others.holds before file ≡ Some bytes → RunContract others device again before r 0 after s → Calm device r s →
     option_map view_of (device.on s) ≡ option_map view_of (dsp.on q)
+
+-- No record of those that a run leaves is at fault in a replay over a device whose room its heap does not exceed.
+abbrev pub TracesReplay : Type 0
+TracesReplay = (plan : Plan) (heap room : ℕ) (commands : List Command) → heap ≤ room → replay_fault room (met plan heap commands) None ≡ None
+
+-- So a replay of a trace that was kept whole ends with status 0 and that view, or since the desk failed or memory was missing: over a device whose room
+-- the traced heap does not exceed, of a trace of at most the replay's limit, where neither device did anything of its own accord.
+abbrev pub ReplaysEnd : {D P E Q : Type 0} → DeskMeaning D → Meaning P → DeskMeaning E → Meaning Q → Type 0
+ReplaysEnd {D} {P} {E} {Q} means dsp others device =
+    (words again : List (List ℕ)) (old new : D) (p q : P) (before after : E) (r s : Q) (status : ℕ) (play : ToPlay (dsp.most p) words) (name file bytes : List ℕ) →
+    play.form.trace ≡ Some name → AreFilesTold (means.holds old) play → RunContract means dsp words old p 0 new q → Calm dsp p q → means.wrote new (Slot trace_slot) ≡ Some bytes →
+    play.form.heap ≤ device.most r → length bytes ≤ 16777216 → replay_of again ≡ Some file → others.holds before file ≡ Some bytes → RunContract others device again before r status after s → Calm device r s →
+    ((status ≡ 3) ⊎ (status ≡ 7)) ⊎ ((status ≡ 0) × (option_map view_of (device.on s) ≡ option_map view_of (dsp.on q)))

@@ -1,5 +1,5 @@
 // What the contract of `run` entails. Nothing runs here.
-ghost use Rattle.sof_run.specs.PlayLaws.{PlaysAreOne, ReplaysAlike};
+ghost use Rattle.sof_run.specs.PlayLaws.{PlaysAreOne, ReplaysAlike, TracesReplay, ReplaysEnd};
 
 use mbox_link::Dsp;
 use sof_desk::Desk;
@@ -14,4 +14,16 @@ pub fn one_play<D: Desk, P: Dsp>()
 /// end with status 0 and neither device did anything of its own accord.
 pub fn one_view<D: Desk, P: Dsp, E: Desk, Q: Dsp>()
     ensures { ReplaysAlike D.means P.means E.means Q.means }
+{}
+
+/// A trace that `run` keeps has no fault that `replay` tells, over a device that has room for the traced heap: of every plan and all commands,
+/// where the traced device did nothing of its own accord.
+pub fn right_traces()
+    ensures { TracesReplay }
+{}
+
+/// The replay of a whole trace, which is not longer than a replay takes, ends with status 0 over a device that has room for the traced heap,
+/// where neither device did anything of its own accord. It has the view that the traced one had. Or the desk failed, or memory was missing.
+pub fn replays_end<D: Desk, P: Dsp, E: Desk, Q: Dsp>()
+    ensures { ReplaysEnd D.means P.means E.means Q.means }
 {}

@@ -6,7 +6,7 @@ mod laws;
 mod stress;
 mod top;
 
-pub use laws::{one_play, one_view};
+pub use laws::{one_play, one_view, replays_end, right_traces};
 pub use run_desk::Ended;
 pub use run_replay::{ReplayFault, record_at_fault};
 pub use top::run;

@@ -53,6 +53,7 @@ pub mod TickModes
 pub mod PlanCounts
 pub mod PartCounts
 pub mod SentOrders
+pub mod StillOrders
 pub mod SentSteps
 pub mod ControlCalls
 pub mod ActsLed

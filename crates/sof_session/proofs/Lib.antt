@@ -99,3 +99,4 @@ pub mod UpRanks
 pub mod UpOneRun
 pub mod UpPlainRows
 pub mod SteadyLives
+mod BootCounts

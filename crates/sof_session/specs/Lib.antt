@@ -18,6 +18,7 @@ pub mod RunOver
 pub mod RunLaws
 pub mod UpCommands
 pub mod UpLaws
+pub mod BootLaws
 pub mod UpRows
 pub mod FaultRows
 pub mod Modes

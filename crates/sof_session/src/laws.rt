@@ -1,4 +1,5 @@
 // What the definitions of a run entail. Nothing runs here.
+ghost use Rattle.sof_session.specs.BootLaws.{LoadBoots, UpBoots};
 ghost use Rattle.sof_session.specs.FaultRows.{RefusedUnmakingCuts, LostUnmakingIsDown, RefusedCloseCuts, DroppedMakingIsDown};
 ghost use Rattle.sof_session.specs.RunLaws as law;
 ghost use Rattle.sof_session.specs.UpLaws.{UpIsShown, FirstIsShown, RunShowsUp};
@@ -36,4 +37,10 @@ pub fn up_shown()
     ensures first { FirstIsShown }
     ensures kept { UpIsShown }
     ensures runs { RunShowsUp }
+{}
+
+/// A load or a resume that passes its test boots the device once, and no other command boots it: in both modes, whatever messages meet.
+pub fn boots()
+    ensures at_load { LoadBoots }
+    ensures on_use { UpBoots }
 {}

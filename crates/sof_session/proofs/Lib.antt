@@ -100,3 +100,4 @@ pub mod UpOneRun
 pub mod UpPlainRows
 pub mod SteadyLives
 mod BootCounts
+mod Successes

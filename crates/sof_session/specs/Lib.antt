@@ -19,6 +19,7 @@ pub mod RunLaws
 pub mod UpCommands
 pub mod UpLaws
 pub mod BootLaws
+pub mod SuccessLaws
 pub mod UpRows
 pub mod FaultRows
 pub mod Modes

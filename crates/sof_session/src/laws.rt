@@ -2,6 +2,7 @@
 ghost use Rattle.sof_session.specs.BootLaws.{LoadBoots, UpBoots};
 ghost use Rattle.sof_session.specs.FaultRows.{RefusedUnmakingCuts, LostUnmakingIsDown, RefusedCloseCuts, DroppedMakingIsDown};
 ghost use Rattle.sof_session.specs.RunLaws as law;
+ghost use Rattle.sof_session.specs.SuccessLaws.{LoadSucceedsExactly, OpenSucceedsExactly};
 ghost use Rattle.sof_session.specs.UpLaws.{UpIsShown, FirstIsShown, RunShowsUp};
 ghost use Rattle.sof_session.specs.UpRows.{SecondStreamIsRefused, SharedPipelineStays, RefusedShowsUp, SharedShowsUp};
 
@@ -43,4 +44,11 @@ pub fn up_shown()
 pub fn boots()
     ensures at_load { LoadBoots }
     ensures on_use { UpBoots }
+{}
+
+/// When a command is done that makes a graph. A load from unloaded is, exactly where the stated sizes fit the heap and each of its messages
+/// passes. An open on use is, while the power is on and its test passes, exactly where each widget finds a hole and each message passes.
+pub fn successes()
+    ensures load { LoadSucceedsExactly }
+    ensures open { OpenSucceedsExactly }
 {}

@@ -9,5 +9,5 @@ mod show;
 mod words;
 
 pub use dyn_session::DynSession;
-pub use laws::{boots, fault_rows, mix_rows, one_run, up_shown};
+pub use laws::{boots, fault_rows, mix_rows, one_run, successes, up_shown};
 pub use session::Session;

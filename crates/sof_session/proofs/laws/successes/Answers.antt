@@ -1,0 +1,8 @@
+use Rattle.sof_session.proofs.Successes.{load-exactly, open-exactly}
+use Rattle.sof_session.proofs.laws.successes.Goals as goal
+
+pub returns-clause-load : goal.returns-clause-load
+returns-clause-load c = load-exactly
+
+pub returns-clause-open : goal.returns-clause-open
+returns-clause-open c = open-exactly

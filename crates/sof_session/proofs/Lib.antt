@@ -96,6 +96,7 @@ pub mod UpSuspending
 pub mod UpShown
 pub mod UpEdges
 pub mod UpRanks
+mod PlannedEdges
 pub mod UpOneRun
 pub mod UpPlainRows
 pub mod SteadyLives

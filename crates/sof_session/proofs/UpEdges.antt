@@ -54,16 +54,16 @@ module _ (plan : Plan) where
   abbrev pub IsPlanned : ℕ → ℕ → Type 0
   IsPlanned source sink = IsIn (join source sink) plan.graph.joins
 
-  abbrev FilledBy : Option ℕ → ℕ → Type 0
+  abbrev pub FilledBy : Option ℕ → ℕ → Type 0
   FilledBy None b = Unit {0}
   FilledBy (Some a) b = IsPlanned a b
 
-  abbrev DrainedTo : ℕ → Option ℕ → Type 0
+  abbrev pub DrainedTo : ℕ → Option ℕ → Type 0
   DrainedTo b None = Unit {0}
   DrainedTo b (Some c) = IsPlanned b c
 
   -- the plan joins an edge's buffer to its ends
-  abbrev IsEdgeOf : Edge → Type 0
+  abbrev pub IsEdgeOf : Edge → Type 0
   IsEdgeOf e = FilledBy e.source e.buffer × DrainedTo e.buffer e.sink
 
   abbrev pub AreEdges : There → Type 0

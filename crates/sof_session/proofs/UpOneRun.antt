@@ -8,10 +8,11 @@ use Rattle.tplg_plan.specs.Sound.{IsSound}
 use Rattle.host_widgets.specs.UpState.{UpState}
 use Rattle.sof_script.specs.declared.script.Command.{Command}
 use Rattle.sof_session.specs.Commands.{Known}
-use Rattle.sof_session.specs.RunLaws.{HasRanks, UpRunIsOne}
+use Rattle.sof_session.specs.RunLaws.{HasRanks, IsRankedPlace, UpFirstIsRanked, UpRunGoesOnAsOne, UpRunIsOne, UpRunKeepsRanks}
 use Rattle.sof_session.specs.UpCommands.{up_rules}
-use Rattle.sof_session.specs.Written.{Basis, Ground, At, Leg, LegStep, IsLeg, IsRun, came_at, out_of, first_at}
+use Rattle.sof_session.specs.Written.{Basis, Ground, At, Leg, LegStep, IsLeg, IsRun, came_at, out_of, first_at, end_of}
 use Rattle.sof_session.proofs.RankedRuns.{empty-ranks, are-ranked, leads-ranks}
+use Rattle.sof_session.proofs.PlannedEdges.{from-planned, to-planned}
 use Rattle.sof_session.proofs.UpEdges.{AreEdges}
 use Rattle.sof_session.proofs.UpRanks.{came-ranked}
 use Rattle.host_widgets.specs.HostActs.{Act}
@@ -21,7 +22,7 @@ module _ (g : Ground) (sound : IsSound g.plan) (doing : Doing) where
   b = record { rules = up_rules g.plan g.heap; whole = g.whole; slots = g.slots }
 
   -- the view of a place has ranks, and what is there is joined as the plan joins it
-  abbrev IsRankedAt : At UpState → Type 0
+  abbrev pub IsRankedAt : At UpState → Type 0
   IsRankedAt at = HasRanks at.past.view × AreEdges g.plan at.known.kept.there
 
   abbrev moments_at : Command → At UpState → List Moment
@@ -52,17 +53,37 @@ module _ (g : Ground) (sound : IsSound g.plan) (doing : Doing) where
         subst (λ (k : Known UpState). AreEdges g.plan k.kept.there) (sym is.goes.known) came.1,
       )
 
-  one-run : (commands : List Command) (old : At UpState) (xs ys : List (Leg UpState)) → IsRankedAt old → IsRun b doing commands old xs → IsRun b doing commands old ys → xs ≡ ys
-  one-run [] old xs ys ranks x y = x ∙ sym y
-  one-run (command ∷ commands) old [] ys ranks x y = absurd x
-  one-run (command ∷ commands) old (a ∷ xs) [] ranks x y = absurd y
-  one-run (command ∷ commands) old (a ∷ xs) (c ∷ ys) ranks x y =
+  pub run-from : (commands : List Command) (old : At UpState) (xs ys : List (Leg UpState)) → IsRankedAt old → IsRun b doing commands old xs → IsRun b doing commands old ys → xs ≡ ys
+  run-from [] old xs ys ranks x y = x ∙ sym y
+  run-from (command ∷ commands) old [] ys ranks x y = absurd x
+  run-from (command ∷ commands) old (a ∷ xs) [] ranks x y = absurd y
+  run-from (command ∷ commands) old (a ∷ xs) (c ∷ ys) ranks x y =
       let same = one-leg command old a c ranks x.0 y.0 in
       let rest = leg-ranked command old a ranks x.0 in
-      λ i. same i ∷ one-run commands a.at xs ys rest x.1 (subst (λ (leg : Leg UpState). IsRun b doing commands leg.at ys) (sym same) y.1) i
+      λ i. same i ∷ run-from commands a.at xs ys rest x.1 (subst (λ (leg : Leg UpState). IsRun b doing commands leg.at ys) (sym same) y.1) i
+
+  -- where it ends
+  pub run-ranked : (commands : List Command) (old : At UpState) (legs : List (Leg UpState)) → IsRankedAt old → IsRun b doing commands old legs → IsRankedAt (end_of old legs)
+  run-ranked [] old legs ranks run = subst (λ (xs : List (Leg UpState)). IsRankedAt (end_of old xs)) (sym run) ranks
+  run-ranked (command ∷ commands) old [] ranks run = ranks
+  run-ranked (command ∷ commands) old (leg ∷ legs) ranks run = run-ranked commands leg.at legs (leg-ranked command old leg ranks run.0) run.1
 
   pub from-first : (commands : List Command) (xs ys : List (Leg UpState)) → IsRun b doing commands (first_at b) xs → IsRun b doing commands (first_at b) ys → xs ≡ ys
-  from-first commands xs ys x y = one-run commands (first_at b) xs ys (empty-ranks, tt) x y
+  from-first commands xs ys x y = run-from commands (first_at b) xs ys (empty-ranks, tt) x y
 
 pub up-one-run : UpRunIsOne
 up-one-run g sound doing commands xs ys x y = from-first g sound doing commands xs ys x y
+
+-- ---- from any place
+
+pub up-goes-on : UpRunGoesOnAsOne
+up-goes-on g sound doing commands old xs ys ranks x y =
+    run-from g sound doing commands old xs ys (ranks.0, from-planned g.plan old.known.kept.there.graph.edges ranks.1) x y
+
+pub up-keeps-ranks : UpRunKeepsRanks
+up-keeps-ranks g sound doing commands old legs ranks run =
+    let ended = run-ranked g sound doing commands old legs (ranks.0, from-planned g.plan old.known.kept.there.graph.edges ranks.1) run in
+    (ended.0, to-planned g.plan (end_of old legs).known.kept.there.graph.edges ended.1)
+
+pub up-first-ranked : UpFirstIsRanked
+up-first-ranked g = (empty-ranks, tt)

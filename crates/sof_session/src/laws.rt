@@ -7,13 +7,17 @@ ghost use Rattle.sof_session.specs.UpLaws.{UpIsShown, FirstIsShown, RunShowsUp};
 ghost use Rattle.sof_session.specs.UpRows.{SecondStreamIsRefused, SharedPipelineStays, RefusedShowsUp, SharedShowsUp};
 
 /// The run of a sound plan is one: the same commands, doings of the device and whole inputs lead to the same legs, from the
-/// first place, and from any place whose view has edges without a cycle. Such a place is each that a run from the first reaches. It is
-/// also one, from the first place, where pipelines are made on use.
+/// first place, and from any place whose view has edges without a cycle. Such a place is each that a run from the first comes to. It is
+/// also one where pipelines are made on use: from the first place, and from any whose view has edges without a cycle and where what is
+/// there is joined as the plan joins it. Such a place is the first, and each that a run from one comes to.
 pub fn one_run()
     ensures from_first { law.RunIsOne }
     ensures made_on_use { law.UpRunIsOne }
     ensures goes_on { law.RunGoesOnAsOne }
     ensures ranks { law.RunKeepsRanks }
+    ensures goes_on_on_use { law.UpRunGoesOnAsOne }
+    ensures ranks_on_use { law.UpRunKeepsRanks }
+    ensures first_on_use { law.UpFirstIsRanked }
 {}
 
 /// Two streams that share a pipeline, over a heap that holds one of them and over one that holds both; after each command the firmware

@@ -1,7 +1,7 @@
 use Rattle.sof_session.specs.Written.{first_at, basis_of}
 use Rattle.sof_session.proofs.OneRun.{one-run, run-ranks}
 use Rattle.sof_session.proofs.RankedRuns.{empty-ranks}
-use Rattle.sof_session.proofs.UpOneRun.{up-one-run}
+use Rattle.sof_session.proofs.UpOneRun.{up-one-run, up-goes-on, up-keeps-ranks, up-first-ranked}
 use Rattle.sof_session.proofs.laws.one_run.Goals as goal
 
 pub returns : goal.returns
@@ -10,4 +10,7 @@ returns c = record {
   made_on_use = up-one-run;
   goes_on = λ g sound doing commands old xs ys ranks x y. one-run g sound doing commands old xs ys ranks x y;
   ranks = λ g sound doing commands old legs ranks run. run-ranks g sound doing commands old legs ranks run;
+  goes_on_on_use = up-goes-on;
+  ranks_on_use = up-keeps-ranks;
+  first_on_use = up-first-ranked;
 }

@@ -1,10 +1,11 @@
 // How a run uses the files of a desk over real files.
-ghost use Rattle.std.specs.Prelude.{◌≡◌, ◌<◌, vec_len, vec_capacity, is_ok, true, IsOk, OnOk, OnErr};
+ghost use Rattle.std.specs.Prelude.{◌≡◌, ◌↔◌, ◌<◌, vec_len, vec_capacity, is_ok, is_some, true, IsOk, IsTrue, OnOk, OnErr};
+ghost use Rattle.std.specs.Fs.{file_type, IsFile};
 ghost use Rattle.sof_desk.specs.FileUses.{may_use};
 ghost use Rattle.sof_files.specs.UsedFiles.{is_same_file, use_in, MayTake, IsTaken};
 
 use sof_desk::FileUse;
-use std::fs::OpenFile;
+use std::fs::{Metadata, OpenFile};
 use std::io;
 use std::os::unix::fs::MetadataExt;
 
@@ -30,16 +31,23 @@ impl UsedFile {
     }
 }
 
-/// Which file an open file is; none for a special file, as a terminal or a pipe, which several calls may share.
-pub fn id_of<F: OpenFile>(file: &F) -> io::Result<Option<FileId>> {
-    let about = file.metadata()?;
+/// Which file has this metadata; none for a special file, as a terminal or a pipe, which several calls may share.
+pub fn id_in(about: &Metadata) -> Option<FileId>
+    ensures { IsTrue (is_some result) ↔ IsFile (file_type about.now) }
+{
     if !about.is_file() {
-        return Ok(None);
+        return None;
     }
-    Ok(Some(FileId {
+    Some(FileId {
         device: about.dev(),
         number: about.ino(),
-    }))
+    })
+}
+
+/// Which file an open file is, by its metadata.
+pub fn id_of<F: OpenFile>(file: &F) -> io::Result<Option<FileId>> {
+    let about = file.metadata()?;
+    Ok(id_in(&about))
 }
 
 /// How a file is used.

@@ -112,3 +112,100 @@ fn a_check_that_fails_leaves_a_front_of_its_lines(rt: HostRuntime) {
         check_ends(&rt, rt.alloc(), &topology, failing, status, length);
     }
 }
+
+const RECORDS: &[u8] = b"\x01\x00\x00\x00\x04\x00\x00\x00\xe0\x03\x00\x00\x05\x00\x00\x00\x00\x00\x00\x00";
+
+// Words over a file of these bytes, where a call fails.
+fn file_ends(
+    rt: &impl Abort,
+    alloc: Global,
+    words: &[&str],
+    failing: Failing,
+    want: (u8, bool),
+    said: Option<&[u8]>,
+) {
+    let mut desk = desk_with(rt, alloc, RECORDS, b"", failing);
+    let call = failing.0 as usize;
+    let on = ends(rt, alloc, call, words, &mut desk, want.0, said);
+    same(rt, &call, &on, &want.1);
+}
+
+// The load is the first call, and then each record has a line. A fourth call never comes.
+#[test]
+fn a_decode_that_fails_leaves_a_front_of_its_lines(rt: HostRuntime) {
+    let lines = b"boot 992\ntick\n".as_slice();
+    for (call, passes, status, length) in [
+        (1u32, 0u32, 3u8, 0usize),
+        (2, 0, 3, 0),
+        (3, 0, 3, 9),
+        (2, 4, 3, 4),
+        (4, 0, 0, 14),
+    ] {
+        let failing = (call, passes);
+        let words = ["decode", "a.tplg"];
+        file_ends(
+            &rt,
+            rt.alloc(),
+            &words,
+            failing,
+            (status, false),
+            lines.get(..length),
+        );
+    }
+}
+
+// The load is the first call, and then each of four lines is one, once all records were given. A sixth call never comes.
+#[test]
+fn a_replay_that_fails_leaves_a_front_of_its_lines(rt: HostRuntime) {
+    let lines = b"boots 1\nmessages 0\nticks 1\npower on\n".as_slice();
+    for (call, passes, status, on, length) in [
+        (1u32, 0u32, 3u8, false, 0usize),
+        (2, 0, 3, true, 0),
+        (3, 0, 3, true, 8),
+        (4, 0, 3, true, 19),
+        (5, 0, 3, true, 27),
+        (3, 5, 3, true, 13),
+        (6, 0, 0, true, 36),
+    ] {
+        let failing = (call, passes);
+        let words = ["replay", "a.tplg"];
+        file_ends(
+            &rt,
+            rt.alloc(),
+            &words,
+            failing,
+            (status, on),
+            lines.get(..length),
+        );
+    }
+}
+
+// The first two calls load the topology and the script, the third creates the trace, the fourth appends the records of the load, and the fifth
+// is its line. A sixth call never comes.
+#[test]
+fn each_call_of_a_trace_that_fails_leaves_a_front(rt: HostRuntime) {
+    let topology = graph(&rt, rt.alloc(), THIN);
+    for (call, passes, status, on, length) in [
+        (1u32, 0u32, 3u8, false, 0usize),
+        (2, 0, 3, false, 0),
+        (3, 0, 3, false, 0),
+        (4, 0, 3, true, 0),
+        (5, 0, 3, true, 0),
+        (5, 3, 3, true, 3),
+        (6, 0, 0, true, 5),
+    ] {
+        let words = ["trace", "992", "a.tplg", "s.txt", "x.trace"];
+        let mut desk = desk_with(&rt, rt.alloc(), &topology, b"load\n", (call, passes));
+        let said = b"1 ok\n".as_slice();
+        let was_on = ends(
+            &rt,
+            rt.alloc(),
+            call as usize,
+            &words,
+            &mut desk,
+            status,
+            said.get(..length),
+        );
+        same(&rt, &call, &was_on, &on);
+    }
+}

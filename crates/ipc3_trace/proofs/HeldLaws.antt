@@ -10,8 +10,9 @@ use Rattle.ipc3_trace.specs.declared.entry.Entry.{Entry}
 use Rattle.ipc3_trace.specs.declared.entry.Entry.TheVariants.{Boot, Cut, Request, Tick}
 use Rattle.ipc3_trace.specs.Records.{IsEntry, record_bytes, records_bytes}
 use Rattle.ipc3_trace.specs.HeldRecords.{HeldRecords, held_where, piece_fits, exchange_piece}
-use Rattle.ipc3_trace.specs.Tracing.{Traced, tracer, traced, kept_where, back_of}
-use Rattle.ipc3_trace.specs.CallRecords.{entries_by, entries_along, HoldsRecords, TracerIsDevice}
+use Rattle.ipc3_trace.specs.Tracing.{Traced, tracer, traced, kept_where}
+use Rattle.ipc3_trace.specs.AlongCalls.{back_of, entries_by, entries_along}
+use Rattle.ipc3_trace.specs.CallRecords.{HoldsRecords, TracerIsDevice}
 
 -- nothing was cut short, and this piece is held after what was
 abbrev Joins : HeldRecords → HeldRecords → List ℕ → Type 0

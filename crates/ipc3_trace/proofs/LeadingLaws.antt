@@ -9,7 +9,8 @@ use Rattle.mbox_link.specs.Calls.{World, Meaning, Call, Did, Led, Exchanged}
 use Rattle.ipc3_trace.specs.declared.entry.Entry.{Entry}
 use Rattle.ipc3_trace.specs.declared.entry.Entry.TheVariants.{Request, Tick}
 use Rattle.ipc3_trace.specs.Steps.{quiescent, AreAlike, no_ports, step_by, steps_from}
-use Rattle.ipc3_trace.specs.CallRecords.{entries_by, entries_along, IsPlain, ArePlain, RecordsLead, RepliesAreFirmware}
+use Rattle.ipc3_trace.specs.AlongCalls.{entries_by, entries_along}
+use Rattle.ipc3_trace.specs.CallRecords.{IsPlain, ArePlain, RecordsLead, RepliesAreFirmware}
 use Rattle.ipc3_trace.proofs.StepLaws.{step-alike, tick-alike}
 
 -- ---- states that are alike

@@ -14,7 +14,8 @@ use Rattle.mbox_link.specs.Calls.{World, Meaning, Exchanged}
 use Rattle.ipc3_trace.specs.declared.entry.Entry.TheVariants.{Reply}
 use Rattle.ipc3_trace.specs.Records.{IsEntry, record_bytes}
 use Rattle.ipc3_trace.specs.HeldRecords.{HeldRecords, kept_exchange}
-use Rattle.ipc3_trace.specs.Tracing.{tracer, with_records, back_of}
+use Rattle.ipc3_trace.specs.AlongCalls.{back_of}
+use Rattle.ipc3_trace.specs.Tracing.{tracer, with_records}
 
 abbrev pub at : {D : Type 0} → D → Io → World D
 at device io = record { device = device; io = io }

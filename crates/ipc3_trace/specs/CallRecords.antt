@@ -1,30 +1,15 @@
 -- The records of calls on a device, one after another.
-use Rattle.std.specs.Prelude.{◌≡◌, ◌+◌, ◌≤◌, ℕ, Bool, true, false, List, [], ◌∷◌, ◌++◌, length, Option, Some, is_some}
+use Rattle.std.specs.Prelude.{◌≡◌, ◌+◌, ◌≤◌, ℕ, true, false, List, [], ◌∷◌, ◌++◌, length, Option, Some, is_some}
 use Rattle.std.specs.List.{AllByRecursion}
 use Rattle.stream_law.specs.State.{FwState}
 use Rattle.mbox_link.specs.Exchange.{Rose}
 use Rattle.mbox_link.specs.Calls as calls
 use Rattle.mbox_link.specs.Calls.{World, Meaning, Call, Did, Led}
 use Rattle.mbox_link.specs.Step.{step}
-use Rattle.ipc3_trace.specs.declared.entry.Entry.{Entry}
-use Rattle.ipc3_trace.specs.declared.entry.Entry.TheVariants.{Boot, Cut, Request, Tick}
+use Rattle.ipc3_trace.specs.AlongCalls.{entries_along}
 use Rattle.ipc3_trace.specs.Records.{IsEntry, records_bytes}
 use Rattle.ipc3_trace.specs.Steps.{steps_from, AreAlike}
-use Rattle.ipc3_trace.specs.Tracing.{Traced, tracer, traced, back_of}
-
--- the records of a call that meets a device that is on, or off
-abbrev pub entries_by : Bool → Call → List Entry
-entries_by on (calls.Boot heap) = Boot heap ∷ []
-entries_by true calls.Cut = Cut ∷ []
-entries_by false calls.Cut = []
-entries_by on (calls.Exchange request answer) = Request request ∷ back_of answer ∷ []
-entries_by true calls.Tick = Tick ∷ []
-entries_by false calls.Tick = []
-
--- and of calls
-abbrev pub entries_along : {D : Type 0} (means : Meaning D) (w : World D) (cs : List Call) (v : World D) → Led means w cs v → List Entry
-entries_along means w [] v led = []
-entries_along means w (call ∷ cs) v led = entries_by (is_some (means.on w.device)) call ++ entries_along means led.0 cs v led.2
+use Rattle.ipc3_trace.specs.Tracing.{Traced, tracer, traced}
 
 -- A tracer to which all records of these calls fit holds them after those that it held, and a reader takes each of them.
 abbrev pub HoldsRecords : {P : Type 0} → Meaning P → Type 0

@@ -1,8 +1,8 @@
 -- A device that keeps the records of its calls: it means what the device in it means.
-use Rattle.std.specs.Prelude.{◌≡◌, ℕ, Bool, true, false, List, Option, Some, None, is_some}
+use Rattle.std.specs.Prelude.{◌≡◌, ℕ, Bool, true, false, List, is_some}
 use Rattle.mbox_link.specs.Calls.{World, Meaning, BootedDevice, CutOff, Exchanged, Ticked}
-use Rattle.ipc3_trace.specs.declared.entry.Entry.{Entry}
-use Rattle.ipc3_trace.specs.declared.entry.Entry.TheVariants.{Boot, Cut, Reply, Tick, Lost}
+use Rattle.ipc3_trace.specs.declared.entry.Entry.TheVariants.{Boot, Cut, Tick}
+use Rattle.ipc3_trace.specs.AlongCalls.{back_of}
 use Rattle.ipc3_trace.specs.Records.{IsEntry, record_bytes}
 use Rattle.ipc3_trace.specs.HeldRecords.{HeldRecords, no_records, kept, kept_exchange}
 
@@ -20,11 +20,6 @@ abbrev pub traced : {P : Type 0} → World (Traced P) → World P
 traced w = record { device = w.device.device; io = w.io }
 
 -- ---- the records that each call adds
-
--- what came back of an exchange
-abbrev pub back_of : Option (List ℕ) → Entry
-back_of (Some reply) = Reply reply
-back_of None = Lost
 
 -- of a device that is off, a cut and a tick add none
 abbrev pub kept_where : Bool → List ℕ → HeldRecords → HeldRecords

@@ -14,9 +14,10 @@ use Rattle.ipc3_trace.specs.declared.kind.RecordKind.TheVariants as kinds
 use Rattle.ipc3_trace.specs.declared.entry.Entry.{Entry}
 use Rattle.ipc3_trace.specs.declared.entry.Entry.TheVariants.{Boot, Cut, Request, Reply, Tick, Lost}
 use Rattle.ipc3_trace.specs.Records.{IsEntry, record_kind, content_of, record_bytes, records_bytes}
-use Rattle.ipc3_trace.specs.Tracing.{Traced, tracer, back_of}
+use Rattle.ipc3_trace.specs.Tracing.{Traced, tracer}
 use Rattle.ipc3_trace.specs.Steps.{AreAlike, quiescent, no_ports, steps_from, Deed, Start, Stop, Send, Wait, recorded}
-use Rattle.ipc3_trace.specs.CallRecords.{entries_by, entries_along, ArePlain}
+use Rattle.ipc3_trace.specs.AlongCalls.{back_of, entries_by, entries_along}
+use Rattle.ipc3_trace.specs.CallRecords.{ArePlain}
 use Rattle.ipc3_trace.proofs.Stands.{length-spelled, takes-entry}
 use Rattle.ipc3_trace.proofs.LeadingLaws.{records-lead, reply-is}
 use Rattle.sof_session.specs.SessionStep.{Calm}

@@ -9,7 +9,7 @@ use Rattle.mbox_link.specs.Link.{inner}
 use Rattle.ipc3_trace.specs.declared.entry.Entry.{Entry}
 use Rattle.ipc3_trace.specs.HeldRecords.{HeldRecords, no_records}
 use Rattle.ipc3_trace.specs.Records.{records_bytes}
-use Rattle.ipc3_trace.specs.CallRecords.{entries_along}
+use Rattle.ipc3_trace.specs.AlongCalls.{entries_along}
 use Rattle.ipc3_trace.specs.Tracing.{Traced, tracer, traced, new_tracer, Emptied}
 use Rattle.ipc3_trace.proofs.HeldLaws.{holds-records, tracer-is-device}
 use Rattle.ipc3_trace.proofs.FitLaws.{fits-records}

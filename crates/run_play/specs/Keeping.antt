@@ -7,7 +7,7 @@ use Rattle.sof_desk.specs.Desk.{DeskAct, Create}
 use Rattle.mbox_link.specs.Calls.{Meaning, Call, Led}
 use Rattle.ipc3_trace.specs.declared.entry.Entry.{Entry}
 use Rattle.ipc3_trace.specs.Records.{IsEntry, records_bytes}
-use Rattle.ipc3_trace.specs.CallRecords.{entries_along}
+use Rattle.ipc3_trace.specs.AlongCalls.{entries_along}
 use Rattle.sof_script.specs.Tasks.{Out, Task, Carry, Turn}
 use Rattle.sof_session.specs.Written.{with_bytes}
 use Rattle.ipc3_trace.specs.Steps.{AreAlike, recorded, steps_from}

@@ -11,7 +11,8 @@ use Rattle.ipc3_trace.specs.declared.entry.Entry.{Entry}
 use Rattle.ipc3_trace.specs.declared.entry.Entry.TheVariants.{Boot, Cut, Request, Reply, Tick, Lost}
 use Rattle.ipc3_trace.specs.declared.fault.TraceFault.{TraceFault}
 use Rattle.ipc3_trace.specs.Steps.{quiescent, AreAlike, step_by, steps_from}
-use Rattle.ipc3_trace.specs.CallRecords.{entries_by, IsPlain}
+use Rattle.ipc3_trace.specs.AlongCalls.{entries_by}
+use Rattle.ipc3_trace.specs.CallRecords.{IsPlain}
 use Rattle.ipc3_trace.proofs.LeadingLaws.{led-leads, replies-are}
 use Rattle.sof_session.specs.Lives.{Life, Bare, Turns, device_of}
 use Rattle.sof_script.specs.Tasks.{Turn}

@@ -1,5 +1,6 @@
 -- The commands of a host that makes pipelines when a stream that needs them is opened, and unmakes them once no stream does.
 use Rattle.std.specs.Prelude.{ℕ, List, [], ◌∷◌, ◌++◌, map, filter, unwrap_or, Option}
+use Rattle.std.specs.List.{zip}
 use Rattle.stream_law.specs.Order.{is_among}
 use Rattle.stream_law.specs.declared.graph.Edge.{Edge}
 use Rattle.tplg_plan.specs.declared.plans.Plan.{Plan}
@@ -8,6 +9,7 @@ use Rattle.host_widgets.specs.declared.answers.HostFault.TheVariants.{NotLoaded,
 use Rattle.host_widgets.specs.declared.kept.Power.{Power}
 use Rattle.host_widgets.specs.declared.kept.Record.{Record}
 use Rattle.host_widgets.specs.declared.kept.Power.TheVariants as powers
+use Rattle.host_widgets.specs.Kept.{controls_of}
 use Rattle.host_widgets.specs.Routines.{Job}
 use Rattle.host_pcm.specs.Asks.{stream_place, stream_at}
 use Rattle.host_pcm.specs.StreamCalls.{host_at}
@@ -19,9 +21,7 @@ use Rattle.sof_script.specs.declared.script.Command.TheVariants as commands
 use Rattle.sof_session.specs.CommandRules.{CommandRules}
 use Rattle.sof_session.specs.CommandTests.{fault_of}
 use Rattle.sof_session.specs.Commands.{order_of}
-use Rattle.sof_session.specs.Show.{power_words, widget_line, edge_line}
-use Rattle.sof_session.specs.StateLines.{state_lines}
-use Rattle.host_widgets.specs.HostActs.{Act}
+use Rattle.sof_session.specs.Show.{power_words, widget_line, edge_line, stream_line, control_line}
 
 -- ---- all commands
 
@@ -52,7 +52,7 @@ down_fault power = Off
 
 -- the edges that are up, and all streams and controls
 abbrev pub up_edge_lines : Plan → Record → List ℕ → List (List ℕ)
-up_edge_lines plan kept up = map edge_line (filter (λ (e : Edge). is_among up e.pipe) plan.graph.edges) ++ state_lines plan kept
+up_edge_lines plan kept up = map edge_line (filter (λ (e : Edge). is_among up e.pipe) plan.graph.edges) ++ map (stream_line plan) (zip plan.streams kept.streams) ++ map (control_line plan) (controls_of plan kept)
 
 -- the widgets that are up, and then these
 abbrev pub up_lines : Plan → Record → List ℕ → List (List ℕ)

@@ -16,3 +16,11 @@ returns-clause-empty c = refl
 pub returns-clause-cycle : goal.returns-clause-cycle
 unfolding ruling_of number_of text_of until_zero
 returns-clause-cycle c = refl
+
+pub returns-clause-echo : goal.returns-clause-echo
+unfolding ruling_of number_of text_of until_zero
+returns-clause-echo c = refl
+
+pub returns-clause-crossing : goal.returns-clause-crossing
+unfolding ruling_of number_of text_of until_zero
+returns-clause-crossing c = refl

@@ -101,4 +101,4 @@ pub mod UpOneRun
 pub mod UpPlainRows
 pub mod SteadyLives
 mod BootCounts
-mod Successes
+mod LoadSuccesses

@@ -1,4 +1,4 @@
-use Rattle.sof_session.proofs.Successes.{load-exactly, open-exactly}
+use Rattle.sof_session.proofs.LoadSuccesses.{load-exactly, open-exactly}
 use Rattle.sof_session.proofs.laws.successes.Goals as goal
 
 pub returns-clause-load : goal.returns-clause-load

@@ -1,3 +1,4 @@
+pub mod Acyclic
 pub mod Ascending
 pub mod BootKept
 pub mod ChangeKept

@@ -2,5 +2,4 @@ pub mod Rules
 pub mod FirstFailing
 pub mod Cycles
 pub mod Echoes
-pub mod WalkLaws
 pub mod Reach

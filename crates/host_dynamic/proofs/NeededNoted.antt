@@ -87,20 +87,20 @@ module _ (plan : Plan) (sound : IsSound plan) (host : ℕ) where
 
 -- ---- those of a stream
 
-pub onward-size : (g : Graph) (q : StreamPair) (marks : List Bool) → length (stream_onward g q marks) ≡ length marks
-onward-size g (s, r) marks = by (is_closed r.found) (is_of g is_capture s.host)
+pub onward-size : (g : Graph) (host : ℕ) (closed : Bool) (marks after : List Bool) → after ≡ cond closed marks (host_onward g host marks) → length after ≡ length marks
+onward-size g host closed marks after is = ap length is ∙ by closed (is_of g is_capture host)
   where
-    by : (a b : Bool) → length (cond a marks (cond b marks (set marks s.host true))) ≡ length marks
+    by : (a b : Bool) → length (cond a marks (cond b marks (set marks host true))) ≡ length marks
     by true b = refl
     by false true = refl
-    by false false = length-set marks s.host true
+    by false false = length-set marks host true
 
-pub back-size : (g : Graph) (q : StreamPair) (marks : List Bool) → length (stream_back g q marks) ≡ length marks
-back-size g (s, r) marks = by (is_closed r.found) (is_of g is_capture s.host)
+pub back-size : (g : Graph) (host : ℕ) (closed : Bool) (marks after : List Bool) → after ≡ cond closed marks (host_back g host marks) → length after ≡ length marks
+back-size g host closed marks after is = ap length is ∙ by closed (is_of g is_capture host)
   where
-    by : (a b : Bool) → length (cond a marks (cond b (set marks s.host true) marks)) ≡ length marks
+    by : (a b : Bool) → length (cond a marks (cond b (set marks host true) marks)) ≡ length marks
     by true b = refl
-    by false true = length-set marks s.host true
+    by false true = length-set marks host true
     by false false = refl
 
 onward-keeps : (g : Graph) (q : StreamPair) (marks : List Bool) → AreKept marks (stream_onward g q marks)

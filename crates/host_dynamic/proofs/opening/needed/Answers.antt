@@ -41,8 +41,8 @@ loop-place-preserved c =
     let host_is : s.host < 288 = host-low plan.graph s.host (searchable plan c.requires.plan s.host (host-here plan k s low s_is)) in
     let on = c.mark_stream.ensures.onward in let back = c.mark_stream.ensures.back in
     record {
-      size = ap length on ∙ onward-size plan.graph (s, _) c.loop-place.onward ∙ c.loop-place.invariant.size;
-      size_back = ap length back ∙ back-size plan.graph (s, _) c.loop-place.back ∙ c.loop-place.invariant.size_back;
+      size = onward-size plan.graph s.host _ c.loop-place.onward _ on ∙ c.loop-place.invariant.size;
+      size_back = back-size plan.graph s.host _ c.loop-place.back _ back ∙ c.loop-place.invariant.size_back;
       allow = subst (λ (m : List Bool × List Bool). Allow plan kept (k + 1) m.0 m.1) (λ i. (sym on i, sym back i))
           (allow-more plan c.requires.plan kept c.requires.streams k s _ c.loop-place.onward c.loop-place.back low s_is (same-read c.items-in-loop-place.result.now kept.streams k _ c.items-in-loop-place.ensures (omega (arith, low, c.requires.streams))) c.loop-place.invariant.allow);
       serve = subst (λ (m : List Bool × List Bool). Serve plan kept (k + 1) m.0 m.1) (λ i. (sym on i, sym back i))

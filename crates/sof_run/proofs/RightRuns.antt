@@ -13,13 +13,13 @@ use Rattle.mbox_link.specs.Meetings.{Meeting, Queue, next_meeting}
 use Rattle.tplg_plan.specs.declared.plans.Plan.{Plan}
 use Rattle.host_widgets.specs.declared.answers.Answer.TheVariants as answers
 use Rattle.host_widgets.specs.declared.answers.HostFault.{HostFault}
-use Rattle.host_widgets.specs.declared.answers.HostFault.TheVariants.{NotLoaded, Loaded, NoSuch, State, Off as IsOff, Range, Refused, LinkDown, Blob}
+use Rattle.host_widgets.specs.declared.answers.HostFault.TheVariants.{LinkDown}
 use Rattle.host_widgets.specs.declared.kept.Power.{Power}
 use Rattle.host_widgets.specs.declared.kept.Power.TheVariants.{Unloaded, On, Off}
 use Rattle.host_widgets.specs.declared.kept.Record.{Record}
 use Rattle.host_widgets.specs.Host.{Outcome}
 use Rattle.host_widgets.specs.Kept.{first_record, with_power, with_control}
-use Rattle.host_widgets.specs.HostActs.{Act, Make, Join, Put, Part, Finish, Prepare, Trig, Free, Save, Ask, after, with_blob}
+use Rattle.host_widgets.specs.HostActs.{Act, Make, Join, Put, Part, Finish, Prepare, Trig, Free, Save, Ask, Unmake, after, with_blob}
 use Rattle.mbox_link.specs.BlobParts.{is_last}
 use Rattle.host_widgets.specs.ActMessages.{act_message}
 use Rattle.stream_law.specs.Past.{Moment}
@@ -64,6 +64,7 @@ after-power plan (Trig host what) now = refl
 after-power plan (Free host) now = refl
 after-power plan Save now = refl
 after-power plan (Ask comp k) now = refl
+after-power plan (Unmake id) now = refl
 
 performed-power : (plan : Plan) (heap : ℕ) (act : Act) (now : Record) (ticks : List Moment) (outcome : Outcome) → (performed (act_rules plan heap) act now ticks outcome).kept.power ≡ now.power
 performed-power plan heap act now ticks (Ok done) = after-power plan act now
@@ -141,14 +142,7 @@ module _ (plan : Plan) (heap room : ℕ) (fits : heap ≤ room) where
         AreRight room on (moment_deeds heap (plain_end done now outcome).1) (is_powered (plain_end done now outcome).0.power)
     plain-right done keeps now (Ok passed) same = ap is_powered (sym (keeps now ∙ same))
     plain-right done keeps now (Err LinkDown) same = refl
-    plain-right done keeps now (Err NotLoaded) same = ap is_powered (sym same)
-    plain-right done keeps now (Err Loaded) same = ap is_powered (sym same)
-    plain-right done keeps now (Err (NoSuch name)) same = ap is_powered (sym same)
-    plain-right done keeps now (Err (State found)) same = ap is_powered (sym same)
-    plain-right done keeps now (Err IsOff) same = ap is_powered (sym same)
-    plain-right done keeps now (Err (Range n)) same = ap is_powered (sym same)
-    plain-right done keeps now (Err (Refused e)) same = ap is_powered (sym same)
-    plain-right done keeps now (Err (Blob n)) same = ap is_powered (sym same)
+    plain-right done keeps now (Err fault) same = ap is_powered (sym same)
 
     brought-right : (failed now : Record) (outcome : Outcome) → is_powered failed.power ≡ false →
         AreRight room true (moment_deeds heap (brought_end (with_power On) failed now outcome).1) (is_powered (brought_end (with_power On) failed now outcome).0.power)

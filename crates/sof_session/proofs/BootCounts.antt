@@ -12,7 +12,8 @@ use Rattle.host_widgets.specs.declared.kept.Power.TheVariants.{Unloaded, On, Off
 use Rattle.host_widgets.specs.declared.kept.Record.{Record}
 use Rattle.host_widgets.specs.Orders.{Procedure, where_on}
 use Rattle.host_widgets.specs.Routines.{Job, order_job, not_begun, walk_routine}
-use Rattle.host_dynamic.specs.Dynamic.{UpState, unsent, control_order, is_control_up}
+use Rattle.host_widgets.specs.UpState.{UpState}
+use Rattle.host_dynamic.specs.Dynamic.{unsent, is_control_up}
 use Rattle.sof_script.specs.declared.script.Command.{Command}
 use Rattle.sof_script.specs.declared.script.Command.TheVariants as commands
 use Rattle.sof_session.specs.AskedOrders.{asked_order}
@@ -26,7 +27,7 @@ use Rattle.sof_session.proofs.RoutineBoots.{NoneBoots, none-routine}
 use Rattle.sof_session.proofs.RoutineNumbers.{planned-by, tested-is}
 use Rattle.sof_session.proofs.RunBoots.{NoBoot, none-ended}
 use Rattle.sof_session.proofs.StillOrders.{set-still, bytes-still, get-still, read-still, asked-still}
-use Rattle.sof_session.proofs.UpFew.{up-none}
+use Rattle.sof_session.proofs.RoutineEnds.{up-none}
 
 -- what comes after moments, and boots nothing, adds no boot
 boots-front : (a b : List Moment) → NoBoot b → boots_in (a ++ b) ≡ boots_in a

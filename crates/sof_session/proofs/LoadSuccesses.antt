@@ -35,9 +35,10 @@ use Rattle.host_widgets.specs.Walk.{Walked, followed_by, first_of, goes_past, wa
 use Rattle.host_widgets.proofs.Makes.{needed-rises}
 use Rattle.mbox_link.specs.BlobParts.{part_numbers}
 use Rattle.host_pcm.specs.StreamCalls.{host_at}
-use Rattle.host_dynamic.specs.Dynamic.{UpState, up_act_rules, lacking, after_making, after_unmaking, opening_by, unmade}
-use Rattle.host_dynamic.specs.DynamicActs.{DynamicAct, unmaking_acts}
-use Rattle.host_dynamic.specs.There.{ids_there_of}
+use Rattle.host_widgets.specs.There.{ids_there_of}
+use Rattle.host_widgets.specs.UpActs.{unmaking_acts}
+use Rattle.host_widgets.specs.UpState.{UpState, up_act_rules}
+use Rattle.host_dynamic.specs.Dynamic.{lacking, after_making, after_unmaking, opening_by}
 use Rattle.sof_script.specs.declared.script.Command.TheVariants as commands
 use Rattle.sof_session.specs.Commands.{Known, answer_by, carried, command_rules, tested}
 use Rattle.sof_session.specs.SuccessLaws.{PassNext, NoneRefused, LoadSucceedsExactly, OpenSucceedsExactly, opening_acts}
@@ -220,17 +221,17 @@ load-exactly plan heap doing known unloaded = subst (IsExact plan heap doing kno
 -- ---- an open
 
 module _ (plan : Plan) (heap : ℕ) (doing : Doing) where
-  abbrev On_walk : Walked UpState DynamicAct Queue → Routine UpState DynamicAct → Outcome
+  abbrev On_walk : Walked UpState Act Queue → Routine UpState Act → Outcome
   On_walk before routine = (walk_on (up_act_rules plan) (next_meeting doing) before routine).outcome
 
   -- what was made before a refusal is unmade, and no open is done
-  unmaking-ends : (before now : Walked UpState DynamicAct Queue) (fault : HostFault) (o : Outcome) → before.outcome ≡ Err fault →
+  unmaking-ends : (before now : Walked UpState Act Queue) (fault : HostFault) (o : Outcome) → before.outcome ≡ Err fault →
       On_walk (followed before now) (after_unmaking (λ s. s) now.kept o) ≡ Ok tt → {X : Type 0} → X
   unmaking-ends before now fault (Ok done) same is = never fault now.outcome (ap (λ (x : Outcome). first_of x now.outcome) (sym same) ∙ is)
   unmaking-ends before now fault (Err other) same is = never fault now.outcome (ap (λ (x : Outcome). first_of x now.outcome) (sym same) ∙ is)
 
   -- a making ends as its acts do
-  making-ends : (host : ℕ) (ns : List ℕ) (before : Walked UpState DynamicAct Queue) (now : UpState) (o : Outcome) → before.outcome ≡ o → (On_walk before (after_making plan host ns now o) ≡ Ok tt) ↔ (o ≡ Ok tt)
+  making-ends : (host : ℕ) (ns : List ℕ) (before : Walked UpState Act Queue) (now : UpState) (o : Outcome) → before.outcome ≡ o → (On_walk before (after_making plan host ns now o) ≡ Ok tt) ↔ (o ≡ Ok tt)
   making-ends host ns before now (Ok tt) same = (λ is. sym same ∙ is, λ is. same ∙ is)
   making-ends host ns before now (Err (Refused e)) same =
       let later = walk (up_act_rules plan) false (next_meeting doing) before.kept before.queue (unmaking_acts plan (ids_there_of plan ns now.there)) in
@@ -248,7 +249,7 @@ module _ (plan : Plan) (heap : ℕ) (doing : Doing) where
     abbrev s : UpState
     s = known.kept
 
-    abbrev acts : List DynamicAct
+    abbrev acts : List Act
     acts = opening_acts plan s name
 
     abbrev ns : List ℕ

@@ -8,9 +8,9 @@ use Rattle.stream_law.specs.StreamLaws.{IsRanked}
 use Rattle.mbox_link.specs.Meetings.{Doing}
 use Rattle.tplg_plan.specs.declared.plans.Plan.{Plan}
 use Rattle.tplg_plan.specs.Sound.{IsSound}
-use Rattle.host_dynamic.specs.Dynamic.{UpState}
-use Rattle.host_dynamic.specs.DynamicActs.{DynamicAct}
-use Rattle.host_dynamic.specs.There.{There}
+use Rattle.host_widgets.specs.HostActs.{Act}
+use Rattle.host_widgets.specs.There.{There}
+use Rattle.host_widgets.specs.UpState.{UpState}
 use Rattle.sof_script.specs.declared.script.Command.{Command}
 use Rattle.sof_session.specs.UpCommands.{up_rules}
 use Rattle.sof_session.specs.Written.{Basis, Ground, basis_of, At, Leg, IsRun, first_at, end_of}
@@ -30,7 +30,7 @@ abbrev pub RunIsOne : Type 0
 RunIsOne = IsOneRun basis_of
 
 -- where they are made on use
-abbrev pub up_basis : Ground → Basis UpState DynamicAct
+abbrev pub up_basis : Ground → Basis UpState Act
 up_basis g = record { rules = up_rules g.plan g.heap; whole = g.whole; slots = g.slots }
 
 abbrev pub UpRunIsOne : Type 0

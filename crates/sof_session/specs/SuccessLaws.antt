@@ -1,5 +1,5 @@
 -- The laws of success in the written machine: when a load, and an open that makes pipelines, are answered as done.
-use Rattle.std.specs.Prelude.{◌≡◌, ◌↔◌, ℕ, zero, suc, List, [], ◌∷◌, length, map, None}
+use Rattle.std.specs.Prelude.{◌≡◌, ◌↔◌, ℕ, zero, suc, List, [], ◌∷◌, length, None}
 use Rattle.mbox_link.specs.declared.fates.Fate.TheVariants.{Pass}
 use Rattle.mbox_link.specs.Meetings.{Doing, Queue, next_meeting}
 use Rattle.tplg_plan.specs.declared.plans.Plan.{Plan}
@@ -9,9 +9,11 @@ use Rattle.host_widgets.specs.declared.kept.Record.{Record}
 use Rattle.host_widgets.specs.ActLists.{bring_up}
 use Rattle.host_widgets.specs.ActRules.{ActRules}
 use Rattle.host_widgets.specs.Bringing.{Fits}
+use Rattle.host_widgets.specs.HostActs.{Act}
 use Rattle.host_pcm.specs.StreamCalls.{host_at}
-use Rattle.host_dynamic.specs.Dynamic.{UpState, up_act_rules, lacking}
-use Rattle.host_dynamic.specs.DynamicActs.{DynamicAct, Ordinary, making_acts}
+use Rattle.host_widgets.specs.UpActs.{making_acts}
+use Rattle.host_widgets.specs.UpState.{UpState, up_act_rules}
+use Rattle.host_dynamic.specs.Dynamic.{lacking}
 use Rattle.sof_script.specs.declared.script.Command.TheVariants as commands
 use Rattle.sof_session.specs.Commands.{Known, command_rules, next}
 use Rattle.sof_session.specs.UpCommands.{up_rules, up_fault, place_named}
@@ -32,8 +34,8 @@ LoadSucceedsExactly = (plan : Plan) (heap : ℕ) (doing : Doing) (known : Known 
     ((next (command_rules plan heap) doing known commands.Load).answer ≡ Done) ↔ (Fits plan heap × PassNext doing known.queue (length (bring_up plan known.kept)))
 
 -- what an open makes of pipelines
-abbrev pub opening_acts : Plan → UpState → List ℕ → List DynamicAct
-opening_acts plan s name = map Ordinary (making_acts plan s.kept (lacking plan s.up (host_at plan (place_named plan name))))
+abbrev pub opening_acts : Plan → UpState → List ℕ → List Act
+opening_acts plan s name = making_acts plan s.kept (lacking plan s.up (host_at plan (place_named plan name)))
 
 -- While the power is on, an open that passes its test is answered as done exactly where each widget finds a hole, one after another, and each
 -- message passes.

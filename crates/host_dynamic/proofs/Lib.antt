@@ -1,5 +1,4 @@
 pub mod PartViews
-pub mod PlainJobs
 pub mod UpUnmaking
 pub mod UpNeeds
 pub mod UpStanding

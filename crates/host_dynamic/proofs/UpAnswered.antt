@@ -16,12 +16,12 @@ use Rattle.host_widgets.specs.declared.kept.Power.{Power}
 use Rattle.host_widgets.specs.declared.kept.Power.TheVariants as powers
 use Rattle.host_widgets.specs.declared.kept.Record.{Record}
 use Rattle.host_widgets.specs.ActCalls.{calls_of, next_of}
-use Rattle.host_widgets.specs.AnsweredOrders.{ActsAnswered, OrderAnswered, TestedAnswered}
+use Rattle.host_widgets.specs.AnsweredOrders.{ActsAnswered, OrderAnswered}
 use Rattle.host_widgets.specs.Host.{Outcome, verdict}
 use Rattle.host_widgets.specs.HostActs.{Act, Make, Join, Put, Part, Finish, Prepare, Trig, Free, Save, Ask, Unmake, after, with_blob}
 use Rattle.host_widgets.specs.Kept.{with_control}
-use Rattle.host_widgets.specs.Orders.{Procedure, plain_end, sends}
-use Rattle.host_widgets.specs.Routines.{JobDone, JobTested}
+use Rattle.host_widgets.specs.Orders.{plain_end, sends}
+use Rattle.host_widgets.specs.Routines.{JobDone}
 use Rattle.host_widgets.specs.Walk.{walk}
 use Rattle.host_widgets.proofs.AnsweredActs.{Answering}
 use Rattle.host_widgets.proofs.Exchanges.{state_of}
@@ -182,12 +182,3 @@ module _ (plan : Plan) where
           by powers.On is x = let s = state_of (means.on w.device) (on is) in acts-job keeps at_first is acts w s.0 s.1 (sym (ap there_on s.1)) (staged s.0) (answered is) kept' v result x answer
           by powers.Off is x = none-sent (off (λ e. cc (sym is ∙ e))) answer kept' v result x
           by powers.Unloaded is x = none-sent (off (λ e. cc (sym is ∙ e))) answer kept' v result x
-
-      -- by a test
-      pub tested-job : (test : Option HostFault) (o : Procedure) (kept' : Record) (v : World D) (result : Outcome) → TestedAnswered means plan heap test o kept kept' w v result →
-          (OrderAnswered means plan heap o kept kept' w v result → JobDone means (up_act_rules plan) heap (plain_job plan at_first o) (up_state_in means kept' up v.device) w v result) →
-          JobTested means (up_act_rules plan) heap test (plain_job plan at_first o) at_first (up_state_in means kept' up v.device) w v result
-      tested-job test o kept' v result x done_so = record {
-        early = λ fault is. (let e = x.early fault is in (e.0, e.1, λ i. record { kept = e.2 i; up = up; there = there_on (means.on (e.1 i).device) }));
-        late = λ none. done_so (x.late none);
-      }

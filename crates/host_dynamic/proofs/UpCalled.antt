@@ -208,12 +208,6 @@ module _ {D : Type 0} (means : Meaning D) (plan : Plan) (sound : IsSound plan) (
         a : Split plan means heap (with_stream plan (host_at plan k) shut) s (close_by (host_at plan k) p.1.found) kept1 w m1 result1
         a = split plan means heap (with_stream plan (host_at plan k) shut) (close_by (host_at plan k) p.1.found) s kept1 w m1 result1 by_acts
 
-      -- while it is off, the record alone changes
-      alone : (power : Power) → (power ≡ powers.On → ⊥) → OrderAnswered means plan heap (sends power (close_by (host_at plan k) p.1.found) (with_stream plan (host_at plan k) shut) answers.Done) kept kept1 w m1 result1 → (kept1 ≡ without_stream plan (host_at plan k) kept) × (m1 ≡ w) × (result1 ≡ Ok tt)
-      alone powers.On off answered = absurd (off refl)
-      alone powers.Off off answered = answered
-      alone powers.Unloaded off answered = answered
-
       -- its messages did not pass
       pub closed-not : (fault : HostFault) → result1 ≡ Err fault → Called (early_fault plan kept name Closing) closed_named kept1 up m1 (Err fault)
       closed-not fault failed = by kept.power refl answered

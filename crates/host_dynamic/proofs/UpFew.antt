@@ -44,9 +44,6 @@ module _ (plan : Plan) (sound : IsSound plan) where
     pub up-widgets : length (widgets_of plan s.up) ≤ 288
     up-widgets = omega (arith, few-widgets-of plan s.up up-once, few-widgets plan sound)
 
-    pub up-few : length s.up ≤ 32
-    up-few = omega (arith, few-once s.up (pipe_indices plan.graph) up-once up-index, length-map plan.graph.pipes (λ (p : Pipe). p.index), sound.pipes)
-
     module _ (host : ℕ) where
       abbrev n : List ℕ
       n = lacking plan s.up host

@@ -52,7 +52,6 @@ use Rattle.host_dynamic.proofs.UpTriggers.{pairs-at}
 use Rattle.host_widgets.proofs.UpStages.{StreamPair, at_stage, IsStage, up_stage}
 use Rattle.host_dynamic.proofs.UpStanding.{there-stage, stage-there}
 use Rattle.host_dynamic.proofs.UpStreams.{changed-state}
-use Rattle.host_widgets.proofs.UpWalks.{Steps}
 
 -- what takes parameters is not closed
 takes-open : (found : Found) → takes_params found ≡ true → is_closed found ≡ false
@@ -169,6 +168,3 @@ module _ (plan : Plan) (sound : IsSound plan) (s : UpState) (is : IsUpState plan
       by : (c : Bool) → list_any (conflicts plan host params) pairs ≡ c → SaysSo plan s (Prepare host params) (cond c (Some (errno invalid)) None) (told (row f (PcmParams host (direction_of plan host) params)))
       by true e = (invalid, said ∙ ap said_by e, refl)
       by false e = said ∙ ap said_by e ∙ (λ i. Ok (sym (there-then e) i))
-
-  pub preparing-steps : Steps plan (IsUpState plan) s ((Prepare host params) ∷ []) (IsUpState plan)
-  preparing-steps = (is, λ free. prepared-state free)

@@ -1,19 +1,16 @@
 -- Acts over a device, one after another: their calls, how many messages they send over a link, and that endpoints stay.
-use Rattle.std.proofs.Common.{◌≡◌, ap, ◌∙◌, ℕ, ◌+◌, ◌-◌, ◌≤◌, Bool, true, false, List, [], ◌∷◌, length, Option, Some, arith}
+use Rattle.std.proofs.Common.{◌≡◌, ap, ◌∙◌, ℕ, ◌-◌, Bool, true, false, List, [], ◌∷◌, Option, Some, arith}
 use Rattle.sof_base.specs.Ports.{Io}
 use Rattle.stream_law.specs.State.{FwState}
 use Rattle.ipc3_model.specs.Messages.{message_spelling}
 use Rattle.mbox_link.specs.Exchange.{ticks}
 use Rattle.mbox_link.specs.Calls.{World, Meaning, Call, Exchange, Led, Exchanged}
-use Rattle.mbox_link.specs.Link.{link}
 use Rattle.mbox_link.specs.Meetings.{Meeting}
-use Rattle.mbox_link.specs.Wire.{Wire}
 use Rattle.host_widgets.specs.ActRules.{ActRules}
 use Rattle.host_widgets.specs.OneAct.{one_act}
 use Rattle.host_widgets.specs.Walk.{goes_past}
 use Rattle.host_widgets.specs.ActCalls.{ActsDid, Onwards}
 use Rattle.host_widgets.proofs.Exchanges as exchanges
-use Rattle.sof_session.proofs.LinkFates.{exchange_sent, more-few}
 use Rattle.sof_session.proofs.Writings.{bound_ends, ticks-ends}
 
 module _ {D S A : Type 0} (means : Meaning D) (rules : ActRules S A) (on_refusal : Bool) where
@@ -77,17 +74,3 @@ module _ {D S A : Type 0} (means : Meaning D) (rules : ActRules S A) (on_refusal
 -- ---- over a link
 
 module _ {P S A : Type 0} (means : Meaning P) (rules : ActRules S A) where
-  -- at most one message for each act
-  pub acts-sent : (on_refusal : Bool) (acts : List A) (ms : List Meeting) (kept : S) (w v : World (Wire P)) → ActsDid (link means) rules on_refusal kept acts ms w v → v.device.sent ≤ w.device.sent + length acts
-  acts-sent on_refusal [] ms kept w v did = let same : v.device.sent ≡ w.device.sent = ap (λ (x : World (Wire P)). x.device.sent) did.1 in omega (arith, same)
-  acts-sent on_refusal (act ∷ acts) [] kept w v did = absurd did
-  acts-sent on_refusal (act ∷ acts) (m ∷ ms) kept w v did =
-      let a = one_act rules kept act m in
-      let one = exchange_sent means (message_spelling (rules.message act)) did.1.answer w did.0 did.1.exchanged in
-      let rest = by (goes_past on_refusal a.outcome) (acts-sent on_refusal acts ms a.kept did.0 v) did.2 in
-      omega (arith, one, more-few w.device.sent, rest)
-    where
-      by : (b : Bool) → (ActsDid (link means) rules on_refusal (one_act rules kept act m).kept acts ms did.0 v → v.device.sent ≤ did.0.device.sent + length acts) →
-          Onwards b ms did.0 v (ActsDid (link means) rules on_refusal (one_act rules kept act m).kept acts ms did.0 v) → v.device.sent ≤ did.0.device.sent + length acts
-      by true rest on = rest on
-      by false rest on = let same : v.device.sent ≡ did.0.device.sent = ap (λ (x : World (Wire P)). x.device.sent) on.1 in omega (arith, same)

@@ -11,12 +11,11 @@ use Rattle.host_widgets.specs.declared.kept.Power.{Power}
 use Rattle.host_widgets.specs.declared.kept.Power.TheVariants.{Unloaded, On, Off}
 use Rattle.host_widgets.specs.declared.kept.Record.{Record}
 use Rattle.host_widgets.specs.Orders.{Procedure, where_on}
-use Rattle.host_widgets.specs.Routines.{Job, order_job, not_begun, walk_routine}
+use Rattle.host_widgets.specs.Routines.{Job, not_begun, walk_routine}
 use Rattle.host_widgets.specs.UpState.{UpState}
 use Rattle.host_dynamic.specs.Dynamic.{unsent, is_control_up}
 use Rattle.sof_script.specs.declared.script.Command.{Command}
 use Rattle.sof_script.specs.declared.script.Command.TheVariants as commands
-use Rattle.sof_session.specs.AskedOrders.{asked_order}
 use Rattle.sof_session.specs.BootLaws.{tested_boots, LoadBoots, UpBoots}
 use Rattle.sof_session.specs.CommandRules.{CommandRules}
 use Rattle.sof_session.specs.CommandTests.{asking}

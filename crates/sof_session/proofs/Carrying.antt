@@ -63,9 +63,6 @@ module _ {P : Type 0} (means : Meaning P) (heap : ℕ) where
     abbrev pub met : Walked Record Act (List Meeting)
     met = walk (act_rules plan heap) (goes_on_after_refusal o.ending) next_of kept c.meetings o.acts
 
-    pub begun-quiet : means.pending c.begun.device.device ≡ 0
-    begun-quiet = first.pending ∙ none
-
     last : Quietly c.sent v
     last = quietly (end_by o.ending plan o.done kept met.kept met.outcome).1 c.sent v c.ends.1
 

@@ -91,10 +91,6 @@ module _ {P : Type 0} (means : Meaning P) where
   call_steady (Exchange request answer) w v d = exchange_steady request answer w v d
   call_steady Tick w v d = one_call Tick (inner w) (inner v) d.did.0
 
-  -- after a boot
-  pub boot_fated : (heap : ℕ) (w v : World (Wire P)) → IsFated w.device → Did (link means) (Boot heap) w v → IsFated v.device
-  boot_fated heap w v fated d = over_fated w.device v.device.device v.device fated d.0.did.1
-
   -- calls, one after the other
   pub Led-fated : (calls : List Call) (w v : World (Wire P)) → IsFated w.device → Led (link means) w calls v → IsFated v.device
   Led-fated [] w v fated led = subst (λ (x : World (Wire P)). IsFated x.device) (sym led) fated

@@ -8,7 +8,7 @@ use Rattle.stream_law.specs.declared.graph.Join.{Join as Wire}
 use Rattle.stream_law.specs.declared.graph.Pipe.{Pipe}
 use Rattle.mbox_link.specs.declared.fates.Fate.{Fate}
 use Rattle.mbox_link.specs.declared.fates.Fate.TheVariants.{Pass, Refuse, Drop, Lose}
-use Rattle.mbox_link.specs.Meetings.{Meeting, Doing, Queue, next_meeting}
+use Rattle.mbox_link.specs.Meetings.{Doing, Queue, next_meeting}
 use Rattle.mbox_link.specs.Step.{no_memory}
 use Rattle.tplg_plan.specs.declared.plans.Plan.{Plan}
 use Rattle.tplg_plan.specs.declared.plans.ControlPlan.{ControlPlan}
@@ -16,18 +16,18 @@ use Rattle.tplg_plan.specs.declared.plans.ControlKind.{ControlKind}
 use Rattle.tplg_plan.specs.declared.plans.ControlKind.TheVariants as controls
 use Rattle.host_widgets.specs.declared.answers.Answer.TheVariants as answers
 use Rattle.host_widgets.specs.declared.answers.HostFault.{HostFault}
-use Rattle.host_widgets.specs.declared.answers.HostFault.TheVariants.{NotLoaded, Loaded, NoSuch, State, Off, Range, Refused, LinkDown, Blob}
+use Rattle.host_widgets.specs.declared.answers.HostFault.TheVariants.{Refused, LinkDown}
 use Rattle.host_widgets.specs.declared.kept.ControlRec.{ControlRec}
 use Rattle.host_widgets.specs.declared.kept.Power.{Power}
-use Rattle.host_widgets.specs.declared.kept.Power.TheVariants.{Unloaded, On}
+use Rattle.host_widgets.specs.declared.kept.Power.TheVariants.{On}
 use Rattle.host_widgets.specs.declared.kept.Record.{Record}
 use Rattle.host_widgets.specs.Acts.{widget_ids}
-use Rattle.host_widgets.specs.ActLists.{bring_up, part_acts, control_acts, control_acts_by}
+use Rattle.host_widgets.specs.ActLists.{bring_up, control_acts, control_acts_by}
 use Rattle.host_widgets.specs.ActRules.{ActRules}
 use Rattle.host_widgets.specs.Bringing.{Fits}
 use Rattle.host_widgets.specs.Expected.{needed_by}
 use Rattle.host_widgets.specs.Host.{Outcome, errno}
-use Rattle.host_widgets.specs.HostActs.{Act, Make, Join, Put, Part, Finish}
+use Rattle.host_widgets.specs.HostActs.{Act, Make, Join, Part, Finish}
 use Rattle.host_widgets.specs.OneAct.{act_rules, own, outcome_by, performed, lag_of}
 use Rattle.host_widgets.specs.Orders.{fault_of_load, loading}
 use Rattle.host_widgets.specs.Routines.{order_job, walk_on, not_begun, followed, Routine}
@@ -40,7 +40,7 @@ use Rattle.host_widgets.specs.UpActs.{unmaking_acts}
 use Rattle.host_widgets.specs.UpState.{UpState, up_act_rules}
 use Rattle.host_dynamic.specs.Dynamic.{lacking, after_making, after_unmaking, opening_by}
 use Rattle.sof_script.specs.declared.script.Command.TheVariants as commands
-use Rattle.sof_session.specs.Commands.{Known, answer_by, carried, command_rules, tested}
+use Rattle.sof_session.specs.Commands.{Known, answer_by, command_rules, tested}
 use Rattle.sof_session.specs.SuccessLaws.{PassNext, NoneRefused, LoadSucceedsExactly, OpenSucceedsExactly, opening_acts}
 use Rattle.sof_session.specs.UpCommands.{up_rules, up_job, place_named}
 
@@ -56,28 +56,14 @@ came-pass Lose refusal is = absurd (cc is)
 
 -- after a fault no act goes on
 stops : (fault : HostFault) → goes_past false (Err fault) ≡ false
-stops NotLoaded = refl
-stops Loaded = refl
-stops (NoSuch name) = refl
-stops (State found) = refl
-stops Off = refl
-stops (Range n) = refl
 stops (Refused e) = refl
-stops LinkDown = refl
-stops (Blob n) = refl
+stops fault = refl
 
 -- what follows a fault does not make it done
 never : (fault : HostFault) (rest : Outcome) → first_of (Err fault) rest ≡ Ok tt → {X : Type 0} → X
 never fault (Ok done) is = absurd (cc is)
 never fault (Err LinkDown) is = absurd (cc is)
-never fault (Err NotLoaded) is = absurd (cc is)
-never fault (Err Loaded) is = absurd (cc is)
-never fault (Err (NoSuch name)) is = absurd (cc is)
-never fault (Err (State found)) is = absurd (cc is)
-never fault (Err Off) is = absurd (cc is)
-never fault (Err (Range n)) is = absurd (cc is)
-never fault (Err (Refused e)) is = absurd (cc is)
-never fault (Err (Blob n)) is = absurd (cc is)
+never fault (Err other) is = absurd (cc is)
 
 answer-done : (o : Outcome) → (answer_by answers.Done o ≡ answers.Done) ↔ (o ≡ Ok tt)
 answer-done (Ok tt) = (λ is. refl, λ is. refl)
@@ -209,8 +195,7 @@ module _ (plan : Plan) (heap : ℕ) where
     loads =
         let acts = bring_up plan known.kept in
         let o = (walk (act_rules plan heap) false (next_meeting doing) known.kept known.queue acts).outcome in
-        let all = walk-passes (act_rules plan heap) doing acts known.kept known.queue in
-        (
+        let all = walk-passes (act_rules plan heap) doing acts known.kept known.queue in (
           λ is. let both = all.0 ((answer-done o).0 is) in (brought-fits known.kept both.0, both.1),
           λ both. (answer-done o).1 (all.1 (none-refused acts known.kept (free-brought known.kept both.0), both.1)),
         )
@@ -236,14 +221,7 @@ module _ (plan : Plan) (heap : ℕ) (doing : Doing) where
   making-ends host ns before now (Err (Refused e)) same =
       let later = walk (up_act_rules plan) false (next_meeting doing) before.kept before.queue (unmaking_acts plan (ids_there_of plan ns now.there)) in
       (λ is. unmaking-ends before later (Refused e) later.outcome same is, λ is. absurd (cc is))
-  making-ends host ns before now (Err NotLoaded) same = (λ is. sym same ∙ is, λ is. absurd (cc is))
-  making-ends host ns before now (Err Loaded) same = (λ is. sym same ∙ is, λ is. absurd (cc is))
-  making-ends host ns before now (Err (NoSuch name)) same = (λ is. sym same ∙ is, λ is. absurd (cc is))
-  making-ends host ns before now (Err (State found)) same = (λ is. sym same ∙ is, λ is. absurd (cc is))
-  making-ends host ns before now (Err Off) same = (λ is. sym same ∙ is, λ is. absurd (cc is))
-  making-ends host ns before now (Err (Range n)) same = (λ is. sym same ∙ is, λ is. absurd (cc is))
-  making-ends host ns before now (Err LinkDown) same = (λ is. sym same ∙ is, λ is. absurd (cc is))
-  making-ends host ns before now (Err (Blob n)) same = (λ is. sym same ∙ is, λ is. absurd (cc is))
+  making-ends host ns before now (Err fault) same = (λ is. sym same ∙ is, λ is. absurd (cc is))
 
   module _ (known : Known UpState) (name : List ℕ) where
     abbrev s : UpState
@@ -265,8 +243,7 @@ module _ (plan : Plan) (heap : ℕ) (doing : Doing) where
     opens-on =
         let now = walk (up_act_rules plan) false (next_meeting doing) s known.queue acts in
         let ends = making-ends (host_at plan (place_named plan name)) ns (followed (not_begun s known.queue) now) now.kept now.outcome refl in
-        let all = walk-passes (up_act_rules plan) doing acts s known.queue in
-        (
+        let all = walk-passes (up_act_rules plan) doing acts s known.queue in (
           λ is. all.0 (ends.0 ((answer-done (Opened On)).0 is)),
           λ both. (answer-done (Opened On)).1 (ends.1 (all.1 both)),
         )

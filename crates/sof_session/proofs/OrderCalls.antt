@@ -1,5 +1,5 @@
 -- The calls of an order over a link, and how many messages they send at most.
-use Rattle.std.proofs.Common.{ℕ, ◌+◌, ◌≤◌, List, ◌++◌, length, arith}
+use Rattle.std.proofs.Common.{ℕ, ◌+◌, List, ◌++◌}
 use Rattle.stream_law.specs.Past.{Moment}
 use Rattle.mbox_link.specs.Calls.{World, Meaning, Call, Led}
 use Rattle.mbox_link.specs.Link.{link}
@@ -12,8 +12,7 @@ use Rattle.host_widgets.specs.OneAct.{act_rules}
 use Rattle.host_widgets.specs.Walk.{walk}
 use Rattle.host_widgets.specs.ActCalls.{calls_of, next_of}
 use Rattle.host_widgets.specs.Orders.{Procedure, Carried, end_by, goes_on_after_refusal}
-use Rattle.sof_session.proofs.ActsLed.{acts-led, acts-sent}
-use Rattle.sof_session.proofs.Carrying.{quietly}
+use Rattle.sof_session.proofs.ActsLed.{acts-led}
 
 module _ {P : Type 0} (means : Meaning P) (plan : Plan) (heap : ℕ) where
   module _ (o : Procedure) (kept kept' : Record) (w v : World (Wire P)) (result : Outcome) (c : Carried (link means) plan heap o kept kept' w v result) where
@@ -25,11 +24,3 @@ module _ {P : Type 0} (means : Meaning P) (plan : Plan) (heap : ℕ) where
     carried-led =
         let acts = acts-led (link means) (act_rules plan heap) (goes_on_after_refusal o.ending) o.acts c.meetings kept c.begun c.sent c.walked in
         (calls_of heap o.first ++ (acts.0 ++ calls_of heap last), Led-append (link means) (calls_of heap o.first) (acts.0 ++ calls_of heap last) w c.begun v c.first (Led-append (link means) acts.0 (calls_of heap last) c.begun c.sent v acts.1 c.ends.1))
-
-    pub carried-sent : v.device.sent ≤ w.device.sent + length o.acts
-    carried-sent = omega (
-      arith,
-      (quietly means heap o.first w c.begun c.first).sent,
-      acts-sent means (act_rules plan heap) (goes_on_after_refusal o.ending) o.acts c.meetings kept c.begun c.sent c.walked,
-      (quietly means heap last c.sent v c.ends.1).sent,
-    )

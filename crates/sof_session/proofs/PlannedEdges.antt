@@ -1,5 +1,5 @@
 -- What the plan joins, as a test and as a member of its joins.
-use Rattle.std.proofs.Common.{◌≡◌, ◌⊎◌, inl, inr, sym, subst, ap, ◌∙◌, ℕ, Bool, true, false, ◌==◌, ◌&&◌, List, [], ◌∷◌, Option, Some, None, refl}
+use Rattle.std.proofs.Common.{◌≡◌, ◌⊎◌, inl, inr, sym, ap, ℕ, Bool, true, false, ◌==◌, ◌&&◌, List, [], ◌∷◌, Option, Some, None, refl}
 use Rattle.std.specs.List.{AllByRecursion, list_any}
 use Rattle.std.specs.Option.{option_map_or}
 use Rattle.std.proofs.lemmas.Bool.{false≢true, eqb-true, eq-eqb, and_parts, and_from, or_left, or_right, or_cases}
@@ -55,8 +55,7 @@ module _ (plan : Plan) where
 
   pub to-planned : (es : List Edge) → AllByRecursion (IsEdgeOf plan) es → AllByRecursion (λ (e : Edge). is_planned_edge plan e ≡ true) es
   to-planned [] all = tt
-  to-planned (e ∷ es) all =
-      (
-        and_from (option_map_or (λ (a : ℕ). is_planned_join plan a e.buffer) e.source true) (option_map_or (λ (c : ℕ). is_planned_join plan e.buffer c) e.sink true) (filled-to e.source e.buffer all.0.0) (drained-to e.buffer e.sink all.0.1),
-        to-planned es all.1,
-      )
+  to-planned (e ∷ es) all = (
+    and_from (option_map_or (λ (a : ℕ). is_planned_join plan a e.buffer) e.source true) (option_map_or (λ (c : ℕ). is_planned_join plan e.buffer c) e.sink true) (filled-to e.source e.buffer all.0.0) (drained-to e.buffer e.sink all.0.1),
+    to-planned es all.1,
+  )

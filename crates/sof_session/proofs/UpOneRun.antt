@@ -8,7 +8,7 @@ use Rattle.tplg_plan.specs.Sound.{IsSound}
 use Rattle.host_widgets.specs.UpState.{UpState}
 use Rattle.sof_script.specs.declared.script.Command.{Command}
 use Rattle.sof_session.specs.Commands.{Known}
-use Rattle.sof_session.specs.RunLaws.{HasRanks, IsRankedPlace, UpFirstIsRanked, UpRunGoesOnAsOne, UpRunIsOne, UpRunKeepsRanks}
+use Rattle.sof_session.specs.RunLaws.{HasRanks, UpFirstIsRanked, UpRunGoesOnAsOne, UpRunIsOne, UpRunKeepsRanks}
 use Rattle.sof_session.specs.UpCommands.{up_rules}
 use Rattle.sof_session.specs.Written.{Basis, Ground, At, Leg, LegStep, IsLeg, IsRun, came_at, out_of, first_at, end_of}
 use Rattle.sof_session.proofs.RankedRuns.{empty-ranks, are-ranked, leads-ranks}

@@ -60,7 +60,6 @@ use Rattle.host_widgets.specs.There.{There, there_view, there_after, by_part, no
 use Rattle.host_widgets.specs.Up.{buffer_joins, is_host_up}
 use Rattle.host_dynamic.specs.UpStates.{IsUpState, IsThereBy}
 use Rattle.host_widgets.proofs.Needs.{flat-in}
-use Rattle.host_dynamic.proofs.PlainJobs.{MakesNone}
 use Rattle.host_widgets.proofs.StageMessages.{make-fits}
 use Rattle.host_widgets.proofs.Sublists.{range-low}
 use Rattle.sof_script.specs.declared.script.Command.{Command}
@@ -76,6 +75,11 @@ use Rattle.sof_session.proofs.UpFew.{first-none}
 use Rattle.host_widgets.specs.Groups.{is_control_of, finish_ids}
 
 -- ---- acts
+
+-- one that makes no widget
+abbrev MakesNone : Act → Type 0
+MakesNone (acts.Make id) = ⊥
+MakesNone act = Unit {0}
 
 module _ (plan : Plan) where
   abbrev pub IsFewDynamic : Act → Type 0

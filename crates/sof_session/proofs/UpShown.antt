@@ -2,15 +2,12 @@
 use Rattle.std.proofs.Common.{◌≡◌, refl, sym, subst, ℕ, ◌+◌, List, [], ◌∷◌, Bool, true, false, Some, None}
 use Rattle.std.specs.Prelude.{Option}
 use Rattle.std.specs.List.{AllByRecursion}
-use Rattle.mbox_link.specs.Calls.{World, Meaning}
-use Rattle.mbox_link.specs.Wire.{Wire}
 use Rattle.mbox_link.specs.declared.fates.Entry.{Entry}
 use Rattle.mbox_link.specs.declared.fates.Fate.TheVariants as fates
 use Rattle.mbox_link.specs.Meetings.{Meeting, Queue, Doing, next_meeting, with_fate, with_lag, has_room, has_lag_room}
 use Rattle.tplg_plan.specs.declared.plans.Plan.{Plan}
 use Rattle.tplg_plan.specs.Sound.{IsSound}
 use Rattle.host_widgets.specs.declared.answers.HostFault.{HostFault}
-use Rattle.host_widgets.specs.declared.answers.Answer.{Answer}
 use Rattle.host_widgets.specs.declared.answers.Answer.TheVariants as answers
 use Rattle.host_widgets.specs.declared.kept.Power.{Power}
 use Rattle.host_widgets.specs.declared.kept.Power.TheVariants as powers
@@ -30,7 +27,6 @@ use Rattle.host_widgets.proofs.UpWalks.{Keeps, routine-keeps}
 use Rattle.sof_script.specs.declared.script.Command.{Command}
 use Rattle.sof_script.specs.declared.script.Command.TheVariants as commands
 use Rattle.sof_session.specs.Commands.{Known, CommandResult, tested, planned_where_room, next}
-use Rattle.sof_session.specs.SessionStep.{CommandDone, known_of}
 use Rattle.sof_session.specs.UpCommands.{up_fault, up_job, up_rules}
 use Rattle.sof_session.specs.UpLaws.{UpIsShown, FirstIsShown, RunShowsUp}
 use Rattle.sof_session.specs.Written.{Basis, At, Leg, IsRun, first_at}
@@ -129,8 +125,3 @@ pub run-shows : RunShowsUp
 run-shows plan sound heap whole slots doing commands legs run = run-keeps plan sound heap whole slots doing commands (first_at (b plan sound heap whole slots doing)) legs (first-is plan sound) run
 
 -- ---- over any device
-
--- a command that was done by these rules keeps it
-pub done-shows : {P : Type 0} (means : Meaning P) (plan : Plan) → IsSound plan → (heap : ℕ) (command : Command) (old new : UpState) (w v : World (Wire P)) (answer : Answer) →
-    CommandDone means (up_rules plan heap) heap command old new w v answer → IsUpState plan old → IsUpState plan new
-done-shows means plan sound heap command old new w v answer done is = subst (λ (known : Known UpState). IsUpState plan known.kept) (sym done.known_is) (up-is-shown plan sound heap done.doing (known_of w.device old) command is)

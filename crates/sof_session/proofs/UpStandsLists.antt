@@ -116,29 +116,6 @@ module _ (plan : Plan) (plays : PlaysAtStages plan) (rows : RowsAtStages plan) w
       λ on. absurd (false≢true on),
     )
 
-    -- and acts after them
-    pub runs-led-on : (End : There → Type 0) → ((t : There) → End t → Mid t) → (xs more : List Act) → AllByRecursion Builds xs → (u : UpState) → AreAnswered plan u (xs ++ more) → Runs plan Mid u xs End →
-        ((t : There) → End t → AreAnswered plan (with_there plan u t) more → AreLed plan false (with_there plan u t) more) → AreLed plan false u (xs ++ more)
-    runs-led-on End ends [] more all u answered runs then = then u.there runs answered
-    runs-led-on End ends (act ∷ xs) more all u answered runs then = (
-      at-plays u.there runs.0,
-      λ f g same staged free done.
-          (let is : there_in g ≡ there_after plan act u.there = row-takes plan u act f g (answered.1 f same staged) free done in
-          let next = mid-of End ends xs (with_there plan u (there_after plan act u.there)) (runs.2 free) in
-          record {
-            there = is;
-            leads = subst (λ (t : There). LeadsOn (Some f) (Some g) (Now (there_view t) (fresh_in plan act) ∷ [])) is
-                (rows kept up n serving may act all.0 f g (subst Mid (sym same) runs.0) (subst Mid (sym is) next) done);
-            staged = answered.2 f g staged done;
-          }),
-      λ free.
-          (let same_kept : u.kept ≡ after plan act u.kept = sym runs.1 in
-          runs-led-on End ends xs more all.1 ((up_act_rules plan).after act u) (answered.3 free)
-          (subst (λ (x : UpState). Runs plan Mid x xs End) (λ i. record { kept = same_kept i; up = u.up; there = there_after plan act u.there }) (runs.2 free))
-          (subst (λ (r : Record). (t : There) → End t → AreAnswered plan (record { kept = r; up = u.up; there = t }) more → AreLed plan false (record { kept = r; up = u.up; there = t }) more) same_kept then)),
-      λ on. absurd (false≢true on),
-    )
-
   -- ---- making
 
   control-builds : (comp : ℕ) (kind : ControlKind) (c : ControlRec) → AllByRecursion Builds (control_acts_by comp kind c)

@@ -275,9 +275,6 @@ sa2 = record { answer = answers.Fault (Refused (record { 0 = negsuc 11 })); sent
 abbrev sa3 : Seen
 sa3 = record { answer = answers.Done; sent = a3.queue.sent; up = a3.kept.up; holes = a3.kept.there.heap.holes }
 
-abbrev sa4 : Seen
-sa4 = record { answer = answers.Done; sent = a4.queue.sent; up = a4.kept.up; holes = a4.kept.there.heap.holes }
-
 abbrev sb0 : Seen
 sb0 = record { answer = answers.Done; sent = b0.queue.sent; up = b0.kept.up; holes = b0.kept.there.heap.holes }
 
@@ -289,9 +286,6 @@ sb2 = record { answer = answers.Done; sent = b2.queue.sent; up = b2.kept.up; hol
 
 abbrev sb3 : Seen
 sb3 = record { answer = answers.Done; sent = b3.queue.sent; up = b3.kept.up; holes = b3.kept.there.heap.holes }
-
-abbrev sb4 : Seen
-sb4 = record { answer = answers.Done; sent = b4.queue.sent; up = b4.kept.up; holes = b4.kept.there.heap.holes }
 
 pub row-a : SecondStreamIsRefused
 row-a =

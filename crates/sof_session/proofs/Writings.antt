@@ -13,10 +13,6 @@ use Rattle.host_widgets.proofs.StandingOn.{Gained, with_more}
 use Rattle.sof_session.specs.Fills.{input_ends}
 use Rattle.sof_session.specs.Written.{bytes_between, empty_outputs, with_bytes, written_between, written_in}
 
-drained-written : (outputs : List OutputView) → written_in (drained outputs) ≡ []
-drained-written [] = refl
-drained-written (output ∷ outputs) = drained-written outputs
-
 drained-empty : (outputs : List OutputView) → empty_outputs (output_slots outputs) ≡ drained outputs
 drained-empty [] = refl
 drained-empty (output ∷ outputs) = λ i. record { slot = output.slot; bytes = [] } ∷ drained-empty outputs i
@@ -71,10 +67,6 @@ module _ (outputs new : List OutputView) (p q : Past) (gained : Gained outputs n
       ∙ subst (λ (os : List OutputView). written_in (map (with_more gained.more) os) ≡ written_between (map (λ (o : OutputView). o.slot) os) p q) empty (more-written outputs)
 
 module _ (outputs : List OutputView) (empty : drained outputs ≡ outputs) where
-  -- nothing
-  pub none-written : written_in outputs ≡ []
-  none-written = ap written_in (sym empty) ∙ drained-written outputs
-
   -- they are found by their slots
   pub empty-outputs : empty_outputs (output_slots outputs) ≡ outputs
   empty-outputs = drained-empty outputs ∙ empty

@@ -72,8 +72,7 @@ none-up (Some up) is = absurd (true≢false is)
 -- the same over its link
 sides-outside : {P : Type 0} (means : Meaning P) (plan : Plan) (kept : Record) (wire : Wire P) (power : Power) → Sides means plan kept wire.device power → Sides (link means) plan kept wire power
 sides-outside means plan kept wire Unloaded sides = sides
-sides-outside means plan kept wire On sides = sides
-sides-outside means plan kept wire Off sides = sides
+sides-outside means plan kept wire power sides = sides
 
 pub link-agrees : {P : Type 0} (means : Meaning P) (seat : SessionView P) → AgreeAtLoad means seat → Agrees (link means) seat.plan seat.kept seat.link
 link-agrees means seat agreed = record { record_is = agreed.agree.record_is; sides = sides-outside means seat.plan seat.kept seat.link seat.kept.power agreed.agree.sides }
@@ -149,8 +148,7 @@ module _ {P : Type 0} (means : Meaning P) (old : SessionView P) (wire : Wire P) 
 
     sides-inside : (power : Power) → Sides (link means) old.plan kept wire power → Sides means old.plan kept wire.device power
     sides-inside Unloaded sides = sides
-    sides-inside On sides = sides
-    sides-inside Off sides = sides
+    sides-inside power sides = sides
 
     powered-by : (Shows → Here) → (power : Power) → Sides means old.plan kept wire.device power → Powered means (seat_with kept) power
     powered-by here Unloaded sides = sides.1

@@ -52,9 +52,7 @@ module _ {P S A : Type 0} (means : Meaning P) (rules : ActRules S A) where
 
     pub own-calm : (planned : Fate) → next_fate w.device ≡ planned → own_fate planned m.fate ≡ Pass
     own-calm Pass is = passes-on m.fate did.counted is
-    own-calm (Refuse e) is = refl
-    own-calm Drop is = refl
-    own-calm Lose is = refl
+    own-calm planned is = refl
 
   -- ---- a walk
 

@@ -197,18 +197,12 @@ after-few : (plan : Plan) (act : Act) (kept : Record) → IsFewAct act → AllFe
 after-few plan (Prepare host params) kept is few = changed-few (prepared_stream params) (λ r old. is) host plan.streams kept.streams few
 after-few plan (Trig host what) kept is few = changed-few (triggered_stream what) (λ r old. old) host plan.streams kept.streams few
 after-few plan (Free host) kept is few = changed-few (λ r. closed) (λ r old. tt) host plan.streams kept.streams few
-after-few plan (Put comp values) kept is few = few
 after-few plan (Part comp blob k) kept is few = by (is_last blob k)
   where
     by : (b : Bool) → AllFew (if b then with_control plan comp (with_blob blob) kept else kept).streams
     by true = few
     by false = few
-after-few plan (Make id) kept is few = few
-after-few plan (Join source sink) kept is few = few
-after-few plan (Finish id) kept is few = few
-after-few plan Save kept is few = few
-after-few plan (Ask comp k) kept is few = few
-after-few plan (Unmake id) kept is few = few
+after-few plan act kept is few = few
 
 -- ---- a walk
 
@@ -293,9 +287,7 @@ few-flat f each (x ∷ xs) = few-append (f x) (flat_map f xs) (each x) (few-flat
 
 few-control : (comp : ℕ) (kind : ControlKind) (c : ControlRec) → AreFewActs (control_acts_by comp kind c)
 few-control comp (controls.Blob most initial) c = few-map (Part comp c.blob) (λ k. tt) (part_numbers c.blob)
-few-control comp (controls.Volume min max channels lowest step mute) c = (tt, tt)
-few-control comp (controls.Choice items) c = (tt, tt)
-few-control comp (controls.Masks min max channels) c = (tt, tt)
+few-control comp kind c = (tt, tt)
 
 few-up : (plan : Plan) (kept : Record) → AreFewActs (bring_up plan kept)
 few-up plan kept =
@@ -313,26 +305,18 @@ few-prepares (s ∷ ss) (r ∷ rs) all = few-append (prepare_by s.host r.found r
     by Prepared (Some p) few = (few, tt)
     by Prepared None few = tt
     by Closed params few = tt
-    by Open params few = tt
-    by Running params few = tt
-    by Paused params few = tt
-    by Found_On params few = tt
+    by found params few = tt
 
 few-stop : (host : ℕ) (found : Found) → AreFewActs (stop_by host found)
 few-stop host Running = (tt, tt)
 few-stop host Paused = (tt, tt)
-few-stop host Prepared = tt
-few-stop host Closed = tt
-few-stop host Open = tt
-few-stop host Found_On = tt
+few-stop host found = tt
 
 few-close : (host : ℕ) (found : Found) → AreFewActs (close_by host found)
 few-close host Running = (tt, (tt, tt))
 few-close host Paused = (tt, (tt, tt))
 few-close host Prepared = (tt, tt)
-few-close host Closed = tt
-few-close host Open = tt
-few-close host Found_On = tt
+few-close host found = tt
 
 quiet-paced : (answer : Answer) → IsPacedOrder (quiet answer)
 quiet-paced answer = record { acts = tt; range = tt; ticks = inl refl }
@@ -347,13 +331,11 @@ unload-paced plan kept = record { acts = tt; range = (by kept.power).0; ticks = 
   where
     by : (power : Power) → AllInRange (where_on power (Cut ∷ [])) × (ticks_in (where_on power (Cut ∷ [])) ≡ 0)
     by On = (tt, refl)
-    by Unloaded = (tt, refl)
-    by Off = (tt, refl)
+    by power = (tt, refl)
 
 pub one-tick : (power : Power) → AllInRange (where_on power (Tick ∷ [])) × (ticks_in (where_on power (Tick ∷ [])) ≤ 1)
 one-tick On = (tt, omega arith)
-one-tick Unloaded = (tt, omega arith)
-one-tick Off = (tt, omega arith)
+one-tick power = (tt, omega arith)
 
 set-paced : (plan : Plan) (kept : Record) (values : List ℕ) (k : Option ControlPlan) → IsPacedOrder (setting_order plan kept values k)
 set-paced plan kept values None = quiet-paced _
@@ -365,9 +347,7 @@ bytes-paced plan kept blob (Some k) = sends-paced kept.power _ _ _ (few-map (Par
 
 few-asks : (comp : ℕ) (kind : ControlKind) (c : ControlRec) → AreFewActs (ask_acts comp kind c)
 few-asks comp (controls.Blob most initial) c = few-map (Ask comp) (λ k. tt) (part_numbers c.blob)
-few-asks comp (controls.Volume min max channels lowest step mute) c = (tt, tt)
-few-asks comp (controls.Choice items) c = (tt, tt)
-few-asks comp (controls.Masks min max channels) c = (tt, tt)
+few-asks comp kind c = (tt, tt)
 
 read-paced : (kept : Record) (k : Option (ControlPlan × ControlRec)) → IsPacedOrder (reading_order kept k)
 read-paced kept None = quiet-paced _
@@ -382,8 +362,7 @@ module _ (plan : Plan) (kept : Record) (name : List ℕ) where
 
   no-name : (power : Power) (fault : HostFault) → loaded_fault power (Some fault) ≡ None → ⊥
   no-name Unloaded fault is = cc is
-  no-name On fault is = cc is
-  no-name Off fault is = cc is
+  no-name power fault is = cc is
 
   params-few : (ask : asks.Ask) → early_fault plan kept name ask ≡ None → (p : Params) → ask ≡ Preparing p → AreFew (Some p)
   params-few ask none p is = by (stream_place plan name) refl
@@ -420,14 +399,12 @@ order-paced plan kept few command none = asked-paced plan kept (asking command) 
 
 -- its last moment, if any, is a cut
 pub end-paced : (ending : Ending) (plan : Plan) (done : Record → Record) (start now : Record) (o : Outcome) → AllInRange (end_by ending plan done start now o).1 × (ticks_in (end_by ending plan done start now o).1 ≡ 0)
-end-paced Plain plan done start now (Ok passed) = (tt, refl)
 end-paced Plain plan done start now (Err LinkDown) = (tt, refl)
 end-paced Plain plan done start now (Err fault) = (tt, refl)
-end-paced Loading plan done start now (Ok passed) = (tt, refl)
 end-paced Loading plan done start now (Err fault) = (tt, refl)
-end-paced Resuming plan done start now (Ok passed) = (tt, refl)
 end-paced Resuming plan done start now (Err fault) = (tt, refl)
 end-paced Suspending plan done start now o = (tt, refl)
+end-paced ending plan done start now (Ok passed) = (tt, refl)
 
 module _ (plan : Plan) (sound : IsSound plan) (heap : ℕ) (doing : Doing) (known : Known Record) (is : IsRecordOf plan known.kept) (held : lags known.queue.entries ≤ 16) where
   -- the views that come are in range, and there are at most 16 ticks

@@ -43,8 +43,7 @@ use Rattle.sof_session.proofs.SentOrders.{IsSent, IsSentCall, sends-answer}
 -- an order without acts sends none, whatever the power
 quiet-sends : (power : Power) (answer : Answer) → quiet answer ≡ sends power [] (λ now. now) answer
 quiet-sends Unloaded answer = refl
-quiet-sends On answer = refl
-quiet-sends Off answer = refl
+quiet-sends power answer = refl
 
 sent-quiet : (kept : Record) (answer : Answer) → IsSent kept (quiet answer)
 sent-quiet kept answer = record { acts = []; done = λ now. now; answer = answer; is = quiet-sends kept.power answer; few = omega arith }
@@ -63,10 +62,8 @@ sent-get plan kept name = sent-quiet kept (control_told (named_at plan kept name
 
 -- bytes that may be installed have few parts
 few-installed : (kind : ControlKind) (blob : List ℕ) → MayInstall kind blob → length (part_numbers blob) ≤ 4
-few-installed (Volume min max channels lowest step mute) blob may = absurd may
-few-installed (Choice items) blob may = absurd may
-few-installed (Masks min max channels) blob may = absurd may
 few-installed (Blob most initial) blob may = few-numbers blob may.1
+few-installed kind blob may = absurd may
 
 sent-installing : (plan : Plan) (kept : Record) (name blob : List ℕ) (o : Option ControlPlan) → installing_fault name blob o ≡ None → IsSent kept (installing_order plan kept blob o)
 sent-installing plan kept name blob None none = sent-quiet kept Done
@@ -83,10 +80,8 @@ sent-bytes plan kept name blob none =
     sent-installing plan kept name blob (named_control plan name) (loaded kept.power (installing_fault name blob (named_control plan name)) none).1
 
 few-asks : (comp : ℕ) (kind : ControlKind) (c : ControlRec) → Takes kind c → length (ask_acts comp kind c) ≤ 900
-few-asks comp (Volume min max channels lowest step mute) c takes = omega arith
-few-asks comp (Choice items) c takes = omega arith
-few-asks comp (Masks min max channels) c takes = omega arith
 few-asks comp (Blob most initial) c takes = omega (arith, few-kept c.blob takes, length-map (part_numbers c.blob) (Ask comp))
+few-asks comp kind c takes = omega arith
 
 sent-asks : (kept : Record) (k : ControlPlan) (c : ControlRec) → Takes k.kind c → IsSent kept (reading_order kept (Some (k, c)))
 sent-asks kept k c takes = record { acts = ask_acts k.comp k.kind c; done = λ now. now; answer = control_answer k.kind c; is = refl; few = few-asks k.comp k.kind c takes }

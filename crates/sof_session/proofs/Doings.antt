@@ -43,9 +43,7 @@ own_fate Lose fate = Pass
 
 met-own : (fate own : Fate) → fate_met fate (own_fate fate own) ≡ fate_met fate own
 met-own Pass own = refl
-met-own (Refuse e) own = refl
-met-own Drop own = refl
-met-own Lose own = refl
+met-own fate own = refl
 
 -- its doings in a walk, and none besides
 abbrev pub doing_by : ℕ → List Entry → List Meeting → Doing

@@ -29,8 +29,7 @@ empty-in-range = record { periods = λ c. omega arith; rates = λ c. omega arith
 
 width-most : (format : Format) → width format ≤ 4
 width-most S16 = omega arith
-width-most S24 = omega arith
-width-most S32 = omega arith
+width-most format = omega arith
 
 quota-most : (v : View) (t c : ℕ) → IsInRange v → quota v t c ≤ 1920
 quota-most v t c is = quota-few v t c (is.periods c) (is.rates c)

@@ -16,15 +16,11 @@ use Rattle.sof_session.specs.Agreement.{IsFated}
 
 dropped-few : (fate : Fate) (count sent : ℕ) → count ≤ sent → count < 2 ^ 64 → dropped_after fate count ≤ more sent
 dropped-few Pass count sent few below = grind (arith, few, below)
-dropped-few (Refuse e) count sent few below = grind (arith, few, below)
-dropped-few Drop count sent few below = grind (arith, few, below)
-dropped-few Lose count sent few below = grind (arith, few, below)
+dropped-few fate count sent few below = grind (arith, few, below)
 
 refused-few : (fate : Fate) (count sent : ℕ) → count ≤ sent → count < 2 ^ 64 → refused_after fate count ≤ more sent
 refused-few Pass count sent few below = grind (arith, few, below)
-refused-few (Refuse e) count sent few below = grind (arith, few, below)
-refused-few Drop count sent few below = grind (arith, few, below)
-refused-few Lose count sent few below = grind (arith, few, below)
+refused-few fate count sent few below = grind (arith, few, below)
 
 more-counted : (count : ℕ) → more count < 2 ^ 64
 more-counted count = grind arith

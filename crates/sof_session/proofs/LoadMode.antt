@@ -26,26 +26,7 @@ use Rattle.sof_session.proofs.StepCounts.{step-inside, step-boots}
 -- what such a session shows
 pub load-shows : (command : Command) (plan : Plan) (kept : Record) → shown_in command None plan kept ≡ shown_by command plan kept
 load-shows commands.Load plan kept = refl
-load-shows commands.Unload plan kept = refl
-load-shows commands.Suspend plan kept = refl
-load-shows commands.Resume plan kept = refl
-load-shows commands.Show plan kept = refl
-load-shows (commands.Open n) plan kept = refl
-load-shows (commands.Start n) plan kept = refl
-load-shows (commands.Stop n) plan kept = refl
-load-shows (commands.Pause n) plan kept = refl
-load-shows (commands.Release n) plan kept = refl
-load-shows (commands.Close n) plan kept = refl
-load-shows (commands.Get n) plan kept = refl
-load-shows (commands.Read n) plan kept = refl
-load-shows (commands.Params n p) plan kept = refl
-load-shows (commands.Set n v) plan kept = refl
-load-shows (commands.Bytes n b) plan kept = refl
-load-shows (commands.Tick t) plan kept = refl
-load-shows (commands.Refuse k e) plan kept = refl
-load-shows (commands.Drop k) plan kept = refl
-load-shows (commands.Lose k) plan kept = refl
-load-shows (commands.Lag k t) plan kept = refl
+load-shows command plan kept = refl
 
 module _ {P : Type 0} (means : Meaning P) where
   -- a session of this mode goes by its rules

@@ -51,8 +51,7 @@ came-pass : (fate : Fate) (refusal : Option Errno) → outcome_by fate refusal �
 came-pass Pass None is = (refl, refl)
 came-pass Pass (Some e) is = absurd (cc is)
 came-pass (Refuse e) refusal is = absurd (cc is)
-came-pass Drop refusal is = absurd (cc is)
-came-pass Lose refusal is = absurd (cc is)
+came-pass fate refusal is = absurd (cc is)
 
 -- after a fault no act goes on
 stops : (fault : HostFault) → goes_past false (Err fault) ≡ false

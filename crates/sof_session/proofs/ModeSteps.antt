@@ -48,26 +48,7 @@ module _ {P : Type 0} (means : Meaning P) (command : Command) (old new : Session
 
 load-most-of : (command : Command) → most_sent_by None command ≡ most_sent command
 load-most-of commands.Load = refl
-load-most-of commands.Unload = refl
-load-most-of commands.Suspend = refl
-load-most-of commands.Resume = refl
-load-most-of commands.Show = refl
-load-most-of (commands.Open n) = refl
-load-most-of (commands.Start n) = refl
-load-most-of (commands.Stop n) = refl
-load-most-of (commands.Pause n) = refl
-load-most-of (commands.Release n) = refl
-load-most-of (commands.Close n) = refl
-load-most-of (commands.Get n) = refl
-load-most-of (commands.Read n) = refl
-load-most-of (commands.Params n p) = refl
-load-most-of (commands.Set n v) = refl
-load-most-of (commands.Bytes n b) = refl
-load-most-of (commands.Tick t) = refl
-load-most-of (commands.Refuse k e) = refl
-load-most-of (commands.Drop k) = refl
-load-most-of (commands.Lose k) = refl
-load-most-of (commands.Lag k t) = refl
+load-most-of command = refl
 
 pub load-most : (up : Option (List ℕ)) → up ≡ None → (command : Command) → most_sent_by up command ≡ most_sent command
 load-most up none command = ap (λ (o : Option (List ℕ)). most_sent_by o command) none ∙ load-most-of command

@@ -47,8 +47,7 @@ module _ {P : Type 0} (means : Meaning P) (old : SessionView P) where
   module _ (agreed : AreAgreed means old) where
     load-powered : (entries : List Entry) (power : Power) → Powered means old power → Powered means (seat_by (holding old.link entries)) power
     load-powered entries Unloaded powered = powered
-    load-powered entries On powered = powered
-    load-powered entries Off powered = powered
+    load-powered entries power powered = powered
 
     powered-with : (entries : List Entry) (up : Option (List ℕ)) → PoweredBy means old up → PoweredBy means (seat_by (holding old.link entries)) up
     powered-with entries None powered = load-powered entries old.kept.power powered

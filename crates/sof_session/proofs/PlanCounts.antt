@@ -26,9 +26,7 @@ record IsOther (cs : List Comp) (k : ControlPlan) : Type 0 where
 
 no-host : (kind : ControlKind) (of : Kind) (id : ℕ) → IsControlOf kind of → host_by of id ≡ None
 no-host (Volume min max channels lowest step mute) of id is = ap (λ (k : Kind). host_by k id) is.0
-no-host (Choice items) of id is = ap (λ (k : Kind). host_by k id) is.0
-no-host (Masks min max channels) of id is = ap (λ (k : Kind). host_by k id) is.0
-no-host (Blob most initial) of id is = ap (λ (k : Kind). host_by k id) is.0
+no-host kind of id is = ap (λ (k : Kind). host_by k id) is.0
 
 all-others : (g : Graph) (ks : List ControlPlan) → AllByRecursion (IsLive g) ks → AllByRecursion (IsOther g.comps) ks
 all-others g [] live = tt

@@ -54,11 +54,7 @@ was-on Off none = absurd (cc none)
 
 few-stop : (host : ℕ) (found : Found) → length (stop_by host found) ≤ 1
 few-stop host Running = omega arith
-few-stop host Paused = omega arith
-few-stop host Closed = omega arith
-few-stop host Open = omega arith
-few-stop host Prepared = omega arith
-few-stop host Found_On = omega arith
+few-stop host found = omega arith
 
 few-stops : (ss : List StreamPlan) (rs : List StreamRec) → length (flat_map stop_acts (zip ss rs)) ≤ length ss
 few-stops [] rs = omega arith

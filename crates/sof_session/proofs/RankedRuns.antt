@@ -117,8 +117,7 @@ where-ranks Off ms all = tt
 
 sends-ranks : (power : Power) (acts : List Act) (done : Record → Record) (answer : Answer) → AllRanks (sends power acts done answer).first
 sends-ranks On acts done answer = tt
-sends-ranks Unloaded acts done answer = tt
-sends-ranks Off acts done answer = tt
+sends-ranks power acts done answer = tt
 
 set-ranks : (plan : Plan) (kept : Record) (values : List ℕ) (k : Option ControlPlan) → AllRanks (setting_order plan kept values k).first
 set-ranks plan kept values None = tt
@@ -134,9 +133,7 @@ read-ranks kept (Some (k, c)) = sends-ranks kept.power _ _ _
 
 asking-ranks : (plan : Plan) (kept : Record) (host : ℕ) (found : Found) (ask : Ask) → AllRanks (asking_order plan kept host found ask).first
 asking-ranks plan kept host found Opening = sends-ranks kept.power _ _ _
-asking-ranks plan kept host found (Preparing p) = sends-ranks kept.power _ _ _
-asking-ranks plan kept host found (Triggering what) = sends-ranks kept.power _ _ _
-asking-ranks plan kept host found Closing = sends-ranks kept.power _ _ _
+asking-ranks plan kept host found ask = sends-ranks kept.power _ _ _
 
 asked-ranks : (plan : Plan) (kept : Record) (asked : Option (List ℕ × Ask)) → AllRanks (asked_order plan kept asked).first
 asked-ranks plan kept None = tt
@@ -156,14 +153,12 @@ first-ranks plan kept (commands.Read name) = read-ranks kept (named_at plan kept
 first-ranks plan kept command = asked-ranks plan kept (asking command)
 
 pub end-ranks : (ending : Ending) (plan : Plan) (done : Record → Record) (start now : Record) (o : Outcome) → AllRanks (end_by ending plan done start now o).1
-end-ranks Plain plan done start now (Ok passed) = tt
 end-ranks Plain plan done start now (Err LinkDown) = tt
 end-ranks Plain plan done start now (Err fault) = tt
-end-ranks Loading plan done start now (Ok passed) = tt
 end-ranks Loading plan done start now (Err fault) = tt
-end-ranks Resuming plan done start now (Ok passed) = tt
 end-ranks Resuming plan done start now (Err fault) = tt
 end-ranks Suspending plan done start now o = tt
+end-ranks ending plan done start now (Ok passed) = tt
 
 -- ---- a command
 

@@ -68,10 +68,7 @@ few-prepare : (host : ℕ) (found : Found) (params : Option Params) → length (
 few-prepare host Prepared (Some p) = omega arith
 few-prepare host Prepared None = omega arith
 few-prepare host Running params = omega arith
-few-prepare host Paused params = omega arith
-few-prepare host Closed params = omega arith
-few-prepare host Open params = omega arith
-few-prepare host Found_On params = omega arith
+few-prepare host found params = omega arith
 
 pub few-prepares : (ss : List StreamPlan) (rs : List StreamRec) → length (flat_map prepare_acts (zip ss rs)) ≤ length ss
 few-prepares [] rs = omega arith

@@ -38,14 +38,12 @@ EndsWell routine = AllOf (λ (acts : List Act). Unit {0}) (λ (kept : UpState) (
 -- ---- one pass
 
 ends-by : (ending : Ending) (plan : Plan) (done : Record → Record) (start now : Record) (o : Outcome) → EndsSo (end_by ending plan done start now o).1
-ends-by Plain plan done start now (Ok passed) = inl refl
 ends-by Plain plan done start now (Err LinkDown) = inr refl
 ends-by Plain plan done start now (Err fault) = inl refl
-ends-by Loading plan done start now (Ok passed) = inl refl
 ends-by Loading plan done start now (Err fault) = inr refl
-ends-by Resuming plan done start now (Ok passed) = inl refl
 ends-by Resuming plan done start now (Err fault) = inr refl
 ends-by Suspending plan done start now o = inr refl
+ends-by ending plan done start now (Ok passed) = inl refl
 
 module _ (plan : Plan) where
   unmaking-ends : (done : UpState → UpState) (now : UpState) (o : Outcome) → EndsWell (after_unmaking done now o)

@@ -142,20 +142,10 @@ module _ (f next : FwState) (same : SameLife (view_of f) (view_of next)) (agrees
   pub row-stands : (m : Message) → IsStill m → row f m ≡ Ok next → LeadsOn (Some f) (Some next) (Now (view_of next) (fresh_of f m) ∷ [])
   row-stands (messages.SetValue id command values) still done = by-leaves id (fresh_by id (is_of f.graph is_volume id)) (set-leaves f id command values next done)
   row-stands (messages.SetData id part) still done = by-leaves id (fresh_by id (part.remaining == 0)) (data-leaves f id part next done)
-  row-stands (messages.CompNew id pipe periods_sink periods_source frame_fmt kind) still done = of-graph (messages.CompNew id pipe periods_sink periods_source frame_fmt kind) tt done
-  row-stands (messages.CompFree id) still done = of-graph (messages.CompFree id) tt done
-  row-stands (messages.BufferNew id pipe size caps) still done = of-graph (messages.BufferNew id pipe size caps) tt done
-  row-stands (messages.BufferFree id) still done = of-graph (messages.BufferFree id) tt done
-  row-stands (messages.PipeNew id pipe sched period priority mips frames time_domain) still done = of-graph (messages.PipeNew id pipe sched period priority mips frames time_domain) tt done
-  row-stands (messages.PipeFree id) still done = of-graph (messages.PipeFree id) tt done
-  row-stands (messages.Connect source sink) still done = of-graph (messages.Connect source sink) tt done
-  row-stands (messages.PipeComplete id) still done = of-graph (messages.PipeComplete id) tt done
-  row-stands (messages.GetValue id command) still done = of-graph (messages.GetValue id command) tt done
-  row-stands (messages.GetData id index) still done = of-graph (messages.GetData id index) tt done
-  row-stands messages.CtxSave still done = of-graph messages.CtxSave tt done
   row-stands (messages.PcmParams host direction params) still done = absurd still
   row-stands (messages.PcmFree id) still done = absurd still
   row-stands (messages.TrigStart id) still done = absurd still
   row-stands (messages.TrigStop id) still done = absurd still
   row-stands (messages.TrigPause id) still done = absurd still
   row-stands (messages.TrigRelease id) still done = absurd still
+  row-stands m still done = of-graph m tt done

@@ -234,14 +234,7 @@ module _ (f : FwState) where
   row-left (messages.GetValue id command) of = test (not (is_used g id)) _ _ (refused no_device) (test (not (is_some (control_values_at g id command))) _ _ (refused invalid) (same f refl refl refl refl))
   row-left (messages.GetData id index) of = test (not (is_used g id)) _ _ (refused no_device) (test (not (is_some (part_at g id index))) _ _ (refused invalid) (same f refl refl refl refl))
   row-left messages.CtxSave of = same f refl refl refl refl
-  row-left (messages.SetValue id command values) of = absurd of
-  row-left (messages.SetData id part) of = absurd of
-  row-left (messages.PcmParams host direction params) of = absurd of
-  row-left (messages.PcmFree id) of = absurd of
-  row-left (messages.TrigStart id) of = absurd of
-  row-left (messages.TrigStop id) of = absurd of
-  row-left (messages.TrigPause id) of = absurd of
-  row-left (messages.TrigRelease id) of = absurd of
+  row-left m of = absurd of
 
   pub row-leaves : (m : Message) → IsOfGraph m → (next : FwState) → row f m ≡ Ok next → LeavesLife f next
   row-leaves m of next done = subst IsLeft done (row-left m of).is

@@ -25,11 +25,7 @@ use Rattle.host_pcm.proofs.OrdersTaken.{asked-taken}
 
 few-closing : (host : ℕ) (found : Found) → length (close_by host found) ≤ 900
 few-closing host Closed = omega arith
-few-closing host Open = omega arith
-few-closing host Prepared = omega arith
-few-closing host Running = omega arith
-few-closing host Paused = omega arith
-few-closing host Found_On = omega arith
+few-closing host found = omega arith
 
 pub record IsSent (kept : Record) (o : Procedure) : Type 0 where
   pub acts : List Act
@@ -58,8 +54,7 @@ stream-call plan sound kept is name ask = record { sent = λ none. sent-stream p
 
 pub sends-answer : (power : Power) (acts : List Act) (done : Record → Record) (answer : Answer) → (sends power acts done answer).answer ≡ answer
 sends-answer On acts done answer = refl
-sends-answer Unloaded acts done answer = refl
-sends-answer Off acts done answer = refl
+sends-answer power acts done answer = refl
 
 sends-few : (power : Power) (acts : List Act) (done : Record → Record) (answer : Answer) → length acts ≤ 900 → length (sends power acts done answer).acts ≤ 900
 sends-few On acts done answer few = few

@@ -76,9 +76,7 @@ live-has founds.Running None may is = absurd (false≢true may)
 live-has founds.Paused (Some p) may is = refl
 live-has founds.Paused None may is = absurd (false≢true may)
 live-has founds.Closed params may is = absurd (false≢true is)
-live-has founds.Open params may is = absurd (false≢true is)
-live-has founds.Prepared params may is = absurd (false≢true is)
-live-has founds.On params may is = absurd (false≢true is)
+live-has found params may is = absurd (false≢true is)
 
 module _ (plan : Plan) (sound : IsSound plan) (kept : Record) (up n : List ℕ) (st : Stage) (amid : IsAmid plan up n st) (serving : IsServing plan kept up) (each : list_all (λ (r : StreamRec). may_have r.found r.params) kept.streams ≡ true) where
   abbrev g : Graph

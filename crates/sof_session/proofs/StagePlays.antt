@@ -51,10 +51,7 @@ running-has : (found : Found) (params : Option Params) → may_have found params
 running-has founds.Running (Some p) may is = λ i. true
 running-has founds.Running None may is = absurd (false≢true may)
 running-has founds.Paused params may is = absurd (false≢true is)
-running-has founds.Prepared params may is = absurd (false≢true is)
-running-has founds.Open params may is = absurd (false≢true is)
-running-has founds.Closed params may is = absurd (false≢true is)
-running-has founds.On params may is = absurd (false≢true is)
+running-has found params may is = absurd (false≢true is)
 
 or-second : (a b : Bool) → (not a || b) ≡ true → a ≡ true → b ≡ true
 or-second true b is on = is

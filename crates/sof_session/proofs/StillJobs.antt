@@ -38,8 +38,7 @@ use Rattle.sof_session.proofs.SentOrders.{sent-stream}
 
 sends-first : (power : Power) (acts : List Act) (done : Record → Record) (answer : Answer) → AllStill (sends power acts done answer).first
 sends-first powers.On acts done answer = tt
-sends-first powers.Off acts done answer = tt
-sends-first powers.Unloaded acts done answer = tt
+sends-first power acts done answer = tt
 
 setting-first : (plan : Plan) (kept : Record) (values : List ℕ) (o : Option ControlPlan) → AllStill (setting_order plan kept values o).first
 setting-first plan kept values None = tt
@@ -68,8 +67,7 @@ up-first false o first = first
 
 where-still : (power : Power) → AllStill (where_on power (Cut ∷ []))
 where-still powers.On = tt
-where-still powers.Off = tt
-where-still powers.Unloaded = tt
+where-still power = tt
 
 module _ {D : Type 0} (means : Meaning D) (plan : Plan) (heap : ℕ) where
   abbrev pub StillJob : Job UpState Act → Type 0
@@ -77,14 +75,8 @@ module _ {D : Type 0} (means : Meaning D) (plan : Plan) (heap : ℕ) where
 
   -- no first moment is a tick
   first-still : (s : UpState) (command : Command) → is_tick command ≡ false → AllStill (up_job plan heap s command).first
-  first-still s commands.Load own = tt
   first-still s commands.Unload own = where-still s.kept.power
-  first-still s commands.Resume own = tt
-  first-still s (commands.Open name) own = tt
-  first-still s (commands.Close name) own = tt
   first-still s (commands.Tick n) own = absurd (true≢false own)
-  first-still s commands.Suspend own = tt
-  first-still s commands.Show own = tt
   first-still s (commands.Params name p) own = stream-first plan s.kept name (Preparing p)
   first-still s (commands.Start name) own = stream-first plan s.kept name (Triggering triggers.Start)
   first-still s (commands.Stop name) own = stream-first plan s.kept name (Triggering triggers.Stop)
@@ -92,12 +84,8 @@ module _ {D : Type 0} (means : Meaning D) (plan : Plan) (heap : ℕ) where
   first-still s (commands.Release name) own = stream-first plan s.kept name (Triggering triggers.Release)
   first-still s (commands.Set name values) own = up-first (is_control_up plan s.up name) (set_order plan s.kept name values) (setting-first plan s.kept values (named_control plan name))
   first-still s (commands.Bytes name blob) own = up-first (is_control_up plan s.up name) (bytes_order plan s.kept name blob) (installing-first plan s.kept blob (named_control plan name))
-  first-still s (commands.Get name) own = tt
   first-still s (commands.Read name) own = reading-first s.kept (named_at plan s.kept name)
-  first-still s (commands.Refuse k e) own = tt
-  first-still s (commands.Drop k) own = tt
-  first-still s (commands.Lose k) own = tt
-  first-still s (commands.Lag k ticks) own = tt
+  first-still s command own = tt
 
   pub job-still : (s : UpState) (command : Command) → is_tick command ≡ false → StillJob (up_job plan heap s command)
   job-still s command own = record { first = first-still s command own; ends = up-still plan means heap s command }

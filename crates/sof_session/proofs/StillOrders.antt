@@ -25,8 +25,7 @@ pub record IsStill (o : Procedure) : Type 0 where
 
 sends-still : (power : Power) (acts : List Act) (done : Record → Record) (answer : Answer) → ((kept : Record) → (done kept).power ≡ kept.power) → IsStill (sends power acts done answer)
 sends-still On acts done answer keeps = record { first = refl; ending = refl; done = keeps }
-sends-still Unloaded acts done answer keeps = record { first = refl; ending = refl; done = keeps }
-sends-still Off acts done answer keeps = record { first = refl; ending = refl; done = keeps }
+sends-still power acts done answer keeps = record { first = refl; ending = refl; done = keeps }
 
 pub quiet-still : (answer : Answer) → IsStill (quiet answer)
 quiet-still answer = record { first = refl; ending = refl; done = λ kept. refl }
@@ -45,9 +44,7 @@ reading-still kept (Some (k, c)) = sends-still kept.power _ _ _ (λ now. refl)
 
 asking-still : (plan : Plan) (kept : Record) (host : ℕ) (found : Found) (ask : Ask) → IsStill (asking_order plan kept host found ask)
 asking-still plan kept host found Opening = sends-still kept.power _ _ _ (λ now. refl)
-asking-still plan kept host found (Preparing params) = sends-still kept.power _ _ _ (λ now. refl)
-asking-still plan kept host found (Triggering what) = sends-still kept.power _ _ _ (λ now. refl)
-asking-still plan kept host found Closing = sends-still kept.power _ _ _ (λ now. refl)
+asking-still plan kept host found ask = sends-still kept.power _ _ _ (λ now. refl)
 
 -- those of calls on controls, and of what a command asks of a stream, if it asks anything
 pub set-still : (plan : Plan) (kept : Record) (name values : List ℕ) → IsStill (set_order plan kept name values)

@@ -71,13 +71,11 @@ control-answer plan up name o answer is = by-up (is_control_up plan up name) o a
 -- the same over its link
 outside : {P : Type 0} (means : Meaning P) (plan : Plan) (up : List ℕ) (kept : Record) (wire : Wire P) (power : Power) → SidesBy means plan (up_view plan kept up) kept wire.device power → SidesBy (link means) plan (up_view plan kept up) kept wire power
 outside means plan up kept wire powers.Unloaded sides = sides
-outside means plan up kept wire powers.On sides = sides
-outside means plan up kept wire powers.Off sides = sides
+outside means plan up kept wire power sides = sides
 
 inside : {P : Type 0} (means : Meaning P) (plan : Plan) (up : List ℕ) (kept : Record) (wire : Wire P) (power : Power) → SidesBy (link means) plan (up_view plan kept up) kept wire power → SidesBy means plan (up_view plan kept up) kept wire.device power
 inside means plan up kept wire powers.Unloaded sides = sides
-inside means plan up kept wire powers.On sides = sides
-inside means plan up kept wire powers.Off sides = sides
+inside means plan up kept wire power sides = sides
 
 pub inside-agrees : {P : Type 0} (means : Meaning P) (plan : Plan) (up : List ℕ) (kept : Record) (wire : Wire P) → UpAgrees (link means) plan kept up wire → UpAgrees means plan kept up wire.device
 inside-agrees means plan up kept wire agree = record { record_is = agree.record_is; sides = inside means plan up kept wire kept.power agree.sides }

@@ -109,9 +109,7 @@ module _ (plan : Plan) where
 
   sets : (comp : ℕ) (values : List ℕ) (kind : ControlKind) → IsTold (set_message comp values kind)
   sets comp values (controls.Choice items) = tt
-  sets comp values (controls.Masks min max channels) = tt
-  sets comp values (controls.Volume min max channels lowest step mute) = tt
-  sets comp values (controls.Blob most initial) = tt
+  sets comp values kind = tt
 
   puts : (comp : ℕ) (values : List ℕ) (k : Option ControlPlan) → IsTold (put_message comp values k)
   puts comp values (Some k) = sets comp values k.kind
@@ -119,9 +117,7 @@ module _ (plan : Plan) where
 
   gets : (comp k : ℕ) (kind : ControlKind) → IsTold (get_message comp k kind)
   gets comp k (controls.Choice items) = tt
-  gets comp k (controls.Masks min max channels) = tt
-  gets comp k (controls.Volume min max channels lowest step mute) = tt
-  gets comp k (controls.Blob most initial) = tt
+  gets comp k kind = tt
 
   asks : (comp k : ℕ) (c : Option ControlPlan) → IsTold (ask_message comp k c)
   asks comp k (Some c) = gets comp k c.kind
@@ -129,9 +125,7 @@ module _ (plan : Plan) where
 
   triggers-told : (host : ℕ) (what : Trigger) → IsTold (trigger_message host what)
   triggers-told host triggers.Start = tt
-  triggers-told host triggers.Stop = tt
-  triggers-told host triggers.Pause = tt
-  triggers-told host triggers.Release = tt
+  triggers-told host what = tt
 
   unmakes : (c : Option Comp) (e : Option Edge) (id : ℕ) → IsTold (unmake_by c e id)
   unmakes (Some c) e id = tt
@@ -242,13 +236,10 @@ module _ (plan : Plan) where
     there-edges (Make id) is = row-edges (act_message plan (Make id)) (makes id (comp_of plan.graph id) (edge_of plan.graph id) (pipe_by_id plan id))
     there-edges (Join source sink) is = row-edges (messages.Connect source sink) is
     there-edges (Put comp values) is = row-edges (act_message plan (Put comp values)) (puts comp values (control_of plan comp))
-    there-edges (Finish id) is = row-edges (act_message plan (Finish id)) tt
-    there-edges (Prepare host params) is = row-edges (act_message plan (Prepare host params)) tt
     there-edges (Trig host what) is = row-edges (act_message plan (Trig host what)) (triggers-told host what)
-    there-edges (Free host) is = row-edges (act_message plan (Free host)) tt
-    there-edges Save is = row-edges (act_message plan Save) tt
     there-edges (Ask comp k) is = row-edges (act_message plan (Ask comp k)) (asks comp k (control_of plan comp))
     there-edges (Unmake id) is = row-edges (unmake_by (comp_of plan.graph id) (edge_of plan.graph id) id) (unmakes (comp_of plan.graph id) (edge_of plan.graph id) id)
+    there-edges act is = row-edges (act_message plan act) tt
 
   -- ---- ranks
 

@@ -218,11 +218,7 @@ module _ (plan : Plan) (sound : IsSound plan) {Q : Type 0} (next : Q → Meeting
 
   few-close : (host : ℕ) (found : Found) → length (close_by host found) ≤ 2
   few-close host founds.Running = omega arith
-  few-close host founds.Paused = omega arith
-  few-close host founds.Prepared = omega arith
-  few-close host founds.Open = omega arith
-  few-close host founds.Closed = omega arith
-  few-close host founds.On = omega arith
+  few-close host found = omega arith
 
   closing-few : (s : UpState) (q : Q) (host : ℕ) (found : Found) (power : Power) → Sends 1200 s q (closing_by power plan host found s)
   closing-few s q host found powers.On =
@@ -289,16 +285,10 @@ module _ (plan : Plan) (sound : IsSound plan) (heap : ℕ) (s : UpState) (is : I
   up-few (commands.Bytes name blob) plans none =
       let few = order-few (commands.Bytes name blob) none in control-few plan sound next (is_control_up plan s.up name) s q (order_of plan s.kept (commands.Bytes name blob)) (omega (arith, few))
   up-few (commands.Read name) plans none = let few = order-few (commands.Read name) (first-none _ _ none) in plain-few plan sound next s q 1200 (order_of plan s.kept (commands.Read name)) (omega (arith, few))
-  up-few commands.Suspend plans none = let few = order-few commands.Suspend none in plain-few plan sound next s q 1200 (order_of plan s.kept commands.Suspend) (omega (arith, few))
   up-few commands.Show plans none = plain-few plan sound next s q 1200 (order_of plan s.kept commands.Show) (omega arith)
   up-few (commands.Tick n) plans none = plain-few plan sound next s q 0 (order_of plan s.kept (commands.Tick n)) (omega arith)
-  up-few (commands.Get name) plans none = let few = order-few (commands.Get name) none in plain-few plan sound next s q 1200 (order_of plan s.kept (commands.Get name)) (omega (arith, few))
-  up-few (commands.Params name p) plans none = let few = order-few (commands.Params name p) none in plain-few plan sound next s q 1200 (order_of plan s.kept (commands.Params name p)) (omega (arith, few))
-  up-few (commands.Start name) plans none = let few = order-few (commands.Start name) none in plain-few plan sound next s q 1200 (order_of plan s.kept (commands.Start name)) (omega (arith, few))
-  up-few (commands.Stop name) plans none = let few = order-few (commands.Stop name) none in plain-few plan sound next s q 1200 (order_of plan s.kept (commands.Stop name)) (omega (arith, few))
-  up-few (commands.Pause name) plans none = let few = order-few (commands.Pause name) none in plain-few plan sound next s q 1200 (order_of plan s.kept (commands.Pause name)) (omega (arith, few))
-  up-few (commands.Release name) plans none = let few = order-few (commands.Release name) none in plain-few plan sound next s q 1200 (order_of plan s.kept (commands.Release name)) (omega (arith, few))
   up-few (commands.Refuse k e) plans none = absurd (cc plans)
   up-few (commands.Drop k) plans none = absurd (cc plans)
   up-few (commands.Lose k) plans none = absurd (cc plans)
   up-few (commands.Lag k ticks) plans none = absurd (cc plans)
+  up-few command plans none = let few = order-few command none in plain-few plan sound next s q 1200 (order_of plan s.kept command) (omega (arith, few))

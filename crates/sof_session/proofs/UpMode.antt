@@ -48,26 +48,7 @@ module _ {P : Type 0} (means : Meaning P) where
 -- what such a session shows
 up-shows : (command : Command) (plan : Plan) (s : UpState) → shown_in command (Some s.up) plan s.kept ≡ up_shown plan s command
 up-shows commands.Show plan s = refl
-up-shows commands.Load plan s = refl
-up-shows commands.Unload plan s = refl
-up-shows commands.Suspend plan s = refl
-up-shows commands.Resume plan s = refl
-up-shows (commands.Open n) plan s = refl
-up-shows (commands.Start n) plan s = refl
-up-shows (commands.Stop n) plan s = refl
-up-shows (commands.Pause n) plan s = refl
-up-shows (commands.Release n) plan s = refl
-up-shows (commands.Close n) plan s = refl
-up-shows (commands.Get n) plan s = refl
-up-shows (commands.Read n) plan s = refl
-up-shows (commands.Params n p) plan s = refl
-up-shows (commands.Set n v) plan s = refl
-up-shows (commands.Bytes n b) plan s = refl
-up-shows (commands.Tick t) plan s = refl
-up-shows (commands.Refuse k e) plan s = refl
-up-shows (commands.Drop k) plan s = refl
-up-shows (commands.Lose k) plan s = refl
-up-shows (commands.Lag k t) plan s = refl
+up-shows command plan s = refl
 
 module _ {P : Type 0} (means : Meaning P) where
   shows-up : (command : Command) (seat : SessionView P) → IsInMode (made_on_use means) seat → shown_in command seat.up seat.plan seat.kept ≡ up_shown seat.plan (up_state_of means seat) command

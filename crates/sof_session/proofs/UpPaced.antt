@@ -91,16 +91,7 @@ module _ (plan : Plan) where
 
   there-few : (act : Act) (t : There) → IsFewDynamic act → AreFewThere t → AreFewThere (there_after plan act t)
   there-few (acts.Part comp blob k) t is few = part-few comp blob t few (is_last blob k)
-  there-few (acts.Make id) t is few = row-few t (act_message plan (acts.Make id)) few is
-  there-few (acts.Join source sink) t is few = row-few t (act_message plan (acts.Join source sink)) few is
-  there-few (acts.Put comp values) t is few = row-few t (act_message plan (acts.Put comp values)) few is
-  there-few (acts.Finish id) t is few = row-few t (act_message plan (acts.Finish id)) few is
-  there-few (acts.Prepare host params) t is few = row-few t (act_message plan (acts.Prepare host params)) few is
-  there-few (acts.Trig host what) t is few = row-few t (act_message plan (acts.Trig host what)) few is
-  there-few (acts.Free host) t is few = row-few t (act_message plan (acts.Free host)) few is
-  there-few acts.Save t is few = row-few t (act_message plan acts.Save) few is
-  there-few (acts.Ask comp k) t is few = row-few t (act_message plan (acts.Ask comp k)) few is
-  there-few (Unmake id) t is few = row-few t (act_message plan (Unmake id)) few is
+  there-few act t is few = row-few t (act_message plan act) few is
 
   there-range : (t : There) → AreFewThere t → IsInRange (there_view t)
   there-range t few = view-in-range (there_view t) few.pipes few.streams
@@ -201,9 +192,7 @@ module _ (plan : Plan) where
 
   set-few : (comp : ℕ) (values : List ℕ) (kind : ControlKind) → IsFewMessage (set_message comp values kind)
   set-few comp values (controls.Volume min max channels lowest step mute) = tt
-  set-few comp values (controls.Choice items) = tt
-  set-few comp values (controls.Masks min max channels) = tt
-  set-few comp values (controls.Blob most initial) = tt
+  set-few comp values kind = tt
 
   put-few : (comp : ℕ) (values : List ℕ) (k : Option ControlPlan) → IsFewMessage (put_message comp values k)
   put-few comp values None = tt
@@ -211,9 +200,7 @@ module _ (plan : Plan) where
 
   get-few : (comp k : ℕ) (kind : ControlKind) → IsFewMessage (get_message comp k kind)
   get-few comp k (controls.Volume min max channels lowest step mute) = tt
-  get-few comp k (controls.Choice items) = tt
-  get-few comp k (controls.Masks min max channels) = tt
-  get-few comp k (controls.Blob most initial) = tt
+  get-few comp k kind = tt
 
   ask-few : (comp k : ℕ) (o : Option ControlPlan) → IsFewMessage (ask_message comp k o)
   ask-few comp k None = tt
@@ -221,9 +208,7 @@ module _ (plan : Plan) where
 
   trigger-few : (host : ℕ) (what : Trigger) → IsFewMessage (trigger_message host what)
   trigger-few host triggers.Start = tt
-  trigger-few host triggers.Stop = tt
-  trigger-few host triggers.Pause = tt
-  trigger-few host triggers.Release = tt
+  trigger-few host what = tt
 
   unmake-few : (id : ℕ) → IsFewDynamic plan (Unmake id)
   unmake-few id = by (comp_of plan.graph id) (edge_of plan.graph id)
@@ -235,16 +220,12 @@ module _ (plan : Plan) where
 
   ordinary-few : (act : Act) → MakesNone act → IsFewAct act → IsFewDynamic plan act
   ordinary-few (acts.Make id) none is = absurd none
-  ordinary-few (acts.Join source sink) none is = tt
   ordinary-few (acts.Put comp values) none is = put-few comp values _
-  ordinary-few (acts.Part comp blob k) none is = tt
-  ordinary-few (acts.Finish id) none is = tt
   ordinary-few (acts.Prepare host params) none is = is.1
   ordinary-few (acts.Trig host what) none is = trigger-few host what
-  ordinary-few (acts.Free host) none is = tt
-  ordinary-few acts.Save none is = tt
   ordinary-few (acts.Ask comp k) none is = ask-few comp k _
   ordinary-few (Unmake id) none is = unmake-few id
+  ordinary-few act none is = tt
 
   both-few : (xs : List Act) → AllByRecursion MakesNone xs → AreFewActs xs → AllDynamic xs
   both-few [] none few = tt
@@ -272,18 +253,13 @@ none-sends powers.Unloaded xs done answer none = tt
 none-stop : (host : ℕ) (found : Found) → AllByRecursion MakesNone (stop_by host found)
 none-stop host founds.Running = (tt, tt)
 none-stop host founds.Paused = (tt, tt)
-none-stop host founds.Prepared = tt
-none-stop host founds.Open = tt
-none-stop host founds.Closed = tt
-none-stop host founds.On = tt
+none-stop host found = tt
 
 none-close : (host : ℕ) (found : Found) → AllByRecursion MakesNone (close_by host found)
 none-close host founds.Running = (tt, (tt, tt))
 none-close host founds.Paused = (tt, (tt, tt))
 none-close host founds.Prepared = (tt, tt)
-none-close host founds.Open = tt
-none-close host founds.Closed = tt
-none-close host founds.On = tt
+none-close host found = tt
 
 none-set : (plan : Plan) (kept : Record) (values : List ℕ) (k : Option ControlPlan) → AllByRecursion MakesNone (setting_order plan kept values k).acts
 none-set plan kept values None = tt
@@ -295,9 +271,7 @@ none-bytes plan kept blob (Some k) = none-sends kept.power _ _ _ (none-map (acts
 
 none-asks : (comp : ℕ) (kind : ControlKind) (c : ControlRec) → AllByRecursion MakesNone (ask_acts comp kind c)
 none-asks comp (controls.Blob most initial) c = none-map (acts.Ask comp) (λ k. tt) (part_numbers c.blob)
-none-asks comp (controls.Volume min max channels lowest step mute) c = (tt, tt)
-none-asks comp (controls.Choice items) c = (tt, tt)
-none-asks comp (controls.Masks min max channels) c = (tt, tt)
+none-asks comp kind c = (tt, tt)
 
 none-read : (kept : Record) (k : Option (ControlPlan × ControlRec)) → AllByRecursion MakesNone (reading_order kept k).acts
 none-read kept None = tt
@@ -320,9 +294,7 @@ none-suspend plan kept = none-append (flat_map stop_acts (zip plan.streams kept.
 module _ (plan : Plan) (sound : IsSound plan) where
   control-acts : (comp : ℕ) (kind : ControlKind) (c : ControlRec) → AllDynamic plan (control_acts_by comp kind c)
   control-acts comp (controls.Blob most initial) c = all-map plan (acts.Part comp c.blob) (part_numbers c.blob) (λ k there. tt)
-  control-acts comp (controls.Volume min max channels lowest step mute) c = (put-few plan comp c.values _, tt)
-  control-acts comp (controls.Choice items) c = (put-few plan comp c.values _, tt)
-  control-acts comp (controls.Masks min max channels) c = (put-few plan comp c.values _, tt)
+  control-acts comp kind c = (put-few plan comp c.values _, tt)
 
   widget-low : (n : List ℕ) (id : ℕ) → IsIn id (widgets_of plan n) → id < length plan.widgets
   widget-low n id there =
@@ -374,9 +346,7 @@ module _ (plan : Plan) (sound : IsSound plan) where
     close-few host founds.Running = (tt, (tt, tt))
     close-few host founds.Paused = (tt, (tt, tt))
     close-few host founds.Prepared = (tt, tt)
-    close-few host founds.Open = tt
-    close-few host founds.Closed = tt
-    close-few host founds.On = tt
+    close-few host found = tt
 
     closing-paced : (s : UpState) (host : ℕ) (found : Found) (power : Power) → Paced (closing_by power plan host found s)
     closing-paced s host found powers.On = (close-few host found, λ now o. closed-paced host now o)
@@ -391,10 +361,7 @@ module _ (plan : Plan) (sound : IsSound plan) where
     none-prepare host founds.Prepared (Some p) = (tt, tt)
     none-prepare host founds.Prepared None = tt
     none-prepare host founds.Running params = tt
-    none-prepare host founds.Paused params = tt
-    none-prepare host founds.Open params = tt
-    none-prepare host founds.Closed params = tt
-    none-prepare host founds.On params = tt
+    none-prepare host found params = tt
 
     resuming-paced : (heap : ℕ) (s : UpState) → AllFew s.kept.streams → Paced (resuming_job plan heap s).routine
     resuming-paced heap s few =
@@ -478,10 +445,7 @@ module _ (plan : Plan) (sound : IsSound plan) (heap : ℕ) (doing : Doing) (know
   routine-so (commands.Stop name) plans none = plain-paced plan sound doing s (order_of plan s.kept (commands.Stop name)) (none-stream plan s.kept name (Triggering triggers.Stop)) (order-few (commands.Stop name) none)
   routine-so (commands.Pause name) plans none = plain-paced plan sound doing s (order_of plan s.kept (commands.Pause name)) (none-stream plan s.kept name (Triggering triggers.Pause)) (order-few (commands.Pause name) none)
   routine-so (commands.Release name) plans none = plain-paced plan sound doing s (order_of plan s.kept (commands.Release name)) (none-stream plan s.kept name (Triggering triggers.Release)) (order-few (commands.Release name) none)
-  routine-so (commands.Refuse k e) plans none = absurd (cc plans)
-  routine-so (commands.Drop k) plans none = absurd (cc plans)
-  routine-so (commands.Lose k) plans none = absurd (cc plans)
-  routine-so (commands.Lag k ticks) plans none = absurd (cc plans)
+  routine-so command plans none = absurd (cc plans)
 
   -- ---- its first moments, and what is there after them
 
@@ -502,8 +466,7 @@ module _ (plan : Plan) (sound : IsSound plan) (heap : ℕ) (doing : Doing) (know
   -- a cut where the power is on
   unload-starts : (power : Power) → AllInRange (where_on power (Cut ∷ [])) × (ticks_in (where_on power (Cut ∷ [])) ≡ 0)
   unload-starts powers.On = (tt, refl)
-  unload-starts powers.Off = (tt, refl)
-  unload-starts powers.Unloaded = (tt, refl)
+  unload-starts power = (tt, refl)
 
   there : AreFewThere s.there
   there = few-there plan sound s is
@@ -511,8 +474,7 @@ module _ (plan : Plan) (sound : IsSound plan) (heap : ℕ) (doing : Doing) (know
   -- the first moments of an order that sends
   first-sends : (power : Power) (xs : List Act) (done : Record → Record) (answer : Answer) → (sends power xs done answer).first ≡ []
   first-sends powers.On xs done answer = refl
-  first-sends powers.Off xs done answer = refl
-  first-sends powers.Unloaded xs done answer = refl
+  first-sends power xs done answer = refl
 
   no-first : (o : Procedure) → o.first ≡ [] → StartsSo (plain_job plan s o)
   no-first o is_none = record { range = subst AllInRange (sym is_none) tt; there = there; ticks = ap ticks_in is_none }
@@ -531,9 +493,7 @@ module _ (plan : Plan) (sound : IsSound plan) (heap : ℕ) (doing : Doing) (know
 
   asking-first : (host : ℕ) (found : Found) (ask : asks.Ask) → (asking_order plan s.kept host found ask).first ≡ []
   asking-first host found Opening = first-sends s.kept.power _ _ _
-  asking-first host found (Preparing p) = first-sends s.kept.power _ _ _
-  asking-first host found (Triggering what) = first-sends s.kept.power _ _ _
-  asking-first host found Closing = first-sends s.kept.power _ _ _
+  asking-first host found ask = first-sends s.kept.power _ _ _
 
   stream-first : (name : List ℕ) (ask : asks.Ask) → (stream_order plan s.kept name ask).first ≡ []
   stream-first name ask = let k = unwrap_or (stream_place plan name) 0 in asking-first (host_at plan k) (stream_at s.kept k).found ask
@@ -560,10 +520,7 @@ module _ (plan : Plan) (sound : IsSound plan) (heap : ℕ) (doing : Doing) (know
   starts-so (commands.Stop name) plans own = no-first (order_of plan s.kept (commands.Stop name)) (stream-first name (Triggering triggers.Stop))
   starts-so (commands.Pause name) plans own = no-first (order_of plan s.kept (commands.Pause name)) (stream-first name (Triggering triggers.Pause))
   starts-so (commands.Release name) plans own = no-first (order_of plan s.kept (commands.Release name)) (stream-first name (Triggering triggers.Release))
-  starts-so (commands.Refuse k e) plans own = absurd (cc plans)
-  starts-so (commands.Drop k) plans own = absurd (cc plans)
-  starts-so (commands.Lose k) plans own = absurd (cc plans)
-  starts-so (commands.Lag k ticks) plans own = absurd (cc plans)
+  starts-so command plans own = absurd (cc plans)
 
   -- a tick, where the power is on
   tick-paced : (n : ℕ) → IsPaced (carried (up_rules plan heap) doing known (up_job plan heap s (commands.Tick n)))
@@ -578,26 +535,11 @@ module _ (plan : Plan) (sound : IsSound plan) (heap : ℕ) (doing : Doing) (know
 
   job-paced : (command : Command) → is_plan command ≡ false → up_fault plan s command ≡ None → IsPaced (carried (up_rules plan heap) doing known (up_job plan heap s command))
   job-paced (commands.Tick n) plans none = tick-paced n
-  job-paced commands.Load plans none = by-starts _ (starts-so commands.Load plans refl) (routine-so commands.Load plans none)
-  job-paced commands.Unload plans none = by-starts _ (starts-so commands.Unload plans refl) (routine-so commands.Unload plans none)
-  job-paced commands.Resume plans none = by-starts _ (starts-so commands.Resume plans refl) (routine-so commands.Resume plans none)
-  job-paced commands.Suspend plans none = by-starts _ (starts-so commands.Suspend plans refl) (routine-so commands.Suspend plans none)
-  job-paced commands.Show plans none = by-starts _ (starts-so commands.Show plans refl) (routine-so commands.Show plans none)
-  job-paced (commands.Open name) plans none = by-starts _ (starts-so (commands.Open name) plans refl) (routine-so (commands.Open name) plans none)
-  job-paced (commands.Close name) plans none = by-starts _ (starts-so (commands.Close name) plans refl) (routine-so (commands.Close name) plans none)
-  job-paced (commands.Set name values) plans none = by-starts _ (starts-so (commands.Set name values) plans refl) (routine-so (commands.Set name values) plans none)
-  job-paced (commands.Bytes name blob) plans none = by-starts _ (starts-so (commands.Bytes name blob) plans refl) (routine-so (commands.Bytes name blob) plans none)
-  job-paced (commands.Read name) plans none = by-starts _ (starts-so (commands.Read name) plans refl) (routine-so (commands.Read name) plans none)
-  job-paced (commands.Get name) plans none = by-starts _ (starts-so (commands.Get name) plans refl) (routine-so (commands.Get name) plans none)
-  job-paced (commands.Params name p) plans none = by-starts _ (starts-so (commands.Params name p) plans refl) (routine-so (commands.Params name p) plans none)
-  job-paced (commands.Start name) plans none = by-starts _ (starts-so (commands.Start name) plans refl) (routine-so (commands.Start name) plans none)
-  job-paced (commands.Stop name) plans none = by-starts _ (starts-so (commands.Stop name) plans refl) (routine-so (commands.Stop name) plans none)
-  job-paced (commands.Pause name) plans none = by-starts _ (starts-so (commands.Pause name) plans refl) (routine-so (commands.Pause name) plans none)
-  job-paced (commands.Release name) plans none = by-starts _ (starts-so (commands.Release name) plans refl) (routine-so (commands.Release name) plans none)
   job-paced (commands.Refuse k e) plans none = absurd (cc plans)
   job-paced (commands.Drop k) plans none = absurd (cc plans)
   job-paced (commands.Lose k) plans none = absurd (cc plans)
   job-paced (commands.Lag k ticks) plans none = absurd (cc plans)
+  job-paced command plans none = by-starts _ (starts-so command plans refl) (routine-so command plans none)
 
   pub up-paced : (command : Command) → IsPaced (next (up_rules plan heap) doing known command)
   up-paced command =

@@ -539,10 +539,7 @@ module _ (plan : Plan) (sound : IsSound plan) (s : UpState) (was : IsRecordOf pl
   leads-by (Free host) plain will behind passed = free-leads (after plan (Free host) s.kept) will behind host passed
   leads-by Save plain will behind passed = still-leads (cc passed)
   leads-by (Ask comp k) plain will behind passed = still-leads (ask-made comp k passed)
-  leads-by (Make id) plain will behind passed = absurd plain
-  leads-by (Join source sink) plain will behind passed = absurd plain
-  leads-by (Finish id) plain will behind passed = absurd plain
-  leads-by (Unmake id) plain will behind passed = absurd plain
+  leads-by act plain will behind passed = absurd plain
 
 -- an act at a state in which what is up is there, before it and after it
 pub plain-row : (plan : Plan) → IsSound plan → (act : Act) → IsPlainly act → (s : UpState) → IsRecordOf plan s.kept → IsServing plan s.kept s.up → IsThere plan s → (let t = (up_act_rules plan).after act s in IsRecordOf plan t.kept → IsThere plan t → (f g : FwState) → there_in f ≡ s.there → there_in g ≡ t.there →

@@ -91,9 +91,7 @@ module _ (plan : Plan) where
 
   control-sent : (comp : ℕ) (kind : ControlKind) (c : ControlRec) → AreSent (control_acts_by comp kind c)
   control-sent comp (controls.Blob most initial) c = parts-sent comp c.blob
-  control-sent comp (controls.Volume min max channels lowest step mute) c = (tt, tt)
-  control-sent comp (controls.Choice items) c = (tt, tt)
-  control-sent comp (controls.Masks min max channels) c = (tt, tt)
+  control-sent comp kind c = (tt, tt)
 
   -- what is joined at a buffer is joined by the plan
   joins-planned : (n : List ℕ) (j : Joined) → IsIn j (flat_map (buffer_joins plan.graph) n) → IsPlanned plan j.source j.sink
@@ -117,26 +115,18 @@ module _ (plan : Plan) where
   prepare-sent host founds.Prepared (Some params) = (tt, tt)
   prepare-sent host founds.Prepared None = tt
   prepare-sent host founds.Closed params = tt
-  prepare-sent host founds.Open params = tt
-  prepare-sent host founds.Running params = tt
-  prepare-sent host founds.Paused params = tt
-  prepare-sent host founds.On params = tt
+  prepare-sent host found params = tt
 
   stop-sent : (host : ℕ) (found : Found) → AreSent (stop_by host found)
   stop-sent host founds.Running = (tt, tt)
   stop-sent host founds.Paused = (tt, tt)
-  stop-sent host founds.Prepared = tt
-  stop-sent host founds.Closed = tt
-  stop-sent host founds.Open = tt
-  stop-sent host founds.On = tt
+  stop-sent host found = tt
 
   close-sent : (host : ℕ) (found : Found) → AreSent (close_by host found)
   close-sent host founds.Running = (tt, (tt, tt))
   close-sent host founds.Paused = (tt, (tt, tt))
   close-sent host founds.Prepared = (tt, tt)
-  close-sent host founds.Closed = tt
-  close-sent host founds.Open = tt
-  close-sent host founds.On = tt
+  close-sent host found = tt
 
   unmaking-sent : (ids : List ℕ) → AllByRecursion (IsOfPlan plan) (unmaking_acts plan ids)
   unmaking-sent ids = all-each (IsOfPlan plan) Unmake (λ id. tt) (unmade_order plan.graph ids)
@@ -156,9 +146,7 @@ module _ (plan : Plan) where
 
   ask-sent : (comp : ℕ) (kind : ControlKind) (c : ControlRec) → AreSent (ask_acts comp kind c)
   ask-sent comp (controls.Blob most initial) c = all-each IsSent (Ask comp) (λ k. tt) (part_numbers c.blob)
-  ask-sent comp (controls.Volume min max channels lowest step mute) c = (tt, tt)
-  ask-sent comp (controls.Choice items) c = (tt, tt)
-  ask-sent comp (controls.Masks min max channels) c = (tt, tt)
+  ask-sent comp kind c = (tt, tt)
 
   read-sent : (kept : Record) (k : Option (ControlPlan × ControlRec)) → AreSent (reading_order kept k).acts
   read-sent kept None = tt
@@ -305,19 +293,14 @@ module _ (plan : Plan) where
       job-ranked (commands.Bytes name blob) =
           control-ranked s (order_of plan s.kept (commands.Bytes name blob)) (is_control_up plan s.up name) are (first-ranks plan s.kept (commands.Bytes name blob)) (bytes-sent s.kept blob (named_control plan name))
       job-ranked commands.Suspend = plain-ranked s (order_of plan s.kept commands.Suspend) are tt (down-sent s.kept)
-      job-ranked commands.Show = plain-ranked s (order_of plan s.kept commands.Show) are tt tt
       job-ranked (commands.Tick n) = plain-ranked s (order_of plan s.kept (commands.Tick n)) are (first-ranks plan s.kept (commands.Tick n)) tt
-      job-ranked (commands.Get name) = plain-ranked s (order_of plan s.kept (commands.Get name)) are tt tt
       job-ranked (commands.Read name) = plain-ranked s (order_of plan s.kept (commands.Read name)) are (first-ranks plan s.kept (commands.Read name)) (read-sent s.kept (named_at plan s.kept name))
       job-ranked (commands.Params name params) = asked-ranked name (asks.Preparing params) (commands.Params name params) refl
       job-ranked (commands.Start name) = asked-ranked name (asks.Triggering triggers.Start) (commands.Start name) refl
       job-ranked (commands.Stop name) = asked-ranked name (asks.Triggering triggers.Stop) (commands.Stop name) refl
       job-ranked (commands.Pause name) = asked-ranked name (asks.Triggering triggers.Pause) (commands.Pause name) refl
       job-ranked (commands.Release name) = asked-ranked name (asks.Triggering triggers.Release) (commands.Release name) refl
-      job-ranked (commands.Refuse k e) = plain-ranked s (order_of plan s.kept (commands.Refuse k e)) are tt tt
-      job-ranked (commands.Drop k) = plain-ranked s (order_of plan s.kept (commands.Drop k)) are tt tt
-      job-ranked (commands.Lose k) = plain-ranked s (order_of plan s.kept (commands.Lose k)) are tt tt
-      job-ranked (commands.Lag k ticks) = plain-ranked s (order_of plan s.kept (commands.Lag k ticks)) are tt tt
+      job-ranked command = plain-ranked s (order_of plan s.kept command) are tt tt
 
     module _ (heap : ℕ) (known : Known UpState) (are : AreEdges plan known.kept.there) where
       abbrev RankedCame : CommandResult UpState Act → Type 0

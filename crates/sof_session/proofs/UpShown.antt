@@ -58,7 +58,6 @@ module _ (plan : Plan) (sound : IsSound plan) (heap : ℕ) (s : UpState) (is : I
   job-keeps commands.Suspend none = suspend-keeps plan sound heap next_met s q is
   job-keeps commands.Resume none = resuming-keeps plan sound s is (resumes-off s.kept.power none) next_met heap q
   job-keeps commands.Show none = quiet-keeps plan sound next_met s q is answers.Show
-  job-keeps (commands.Tick n) none = quiet-keeps plan sound next_met s q is answers.Done
   job-keeps (commands.Open name) none = open-keeps plan sound s is name next_met q none
   job-keeps (commands.Close name) none = close-keeps plan sound s is name next_met q none
   job-keeps (commands.Params name params) none = params-keep plan sound s is name next_met q params none
@@ -70,10 +69,7 @@ module _ (plan : Plan) (sound : IsSound plan) (heap : ℕ) (s : UpState) (is : I
   job-keeps (commands.Bytes name blob) none = bytes-keep plan sound s is next_met q name blob none
   job-keeps (commands.Get name) none = quiet-keeps plan sound next_met s q is (control_told (named_at plan s.kept name))
   job-keeps (commands.Read name) none = read-keeps plan sound s is next_met q name
-  job-keeps (commands.Refuse k e) none = quiet-keeps plan sound next_met s q is answers.Done
-  job-keeps (commands.Drop k) none = quiet-keeps plan sound next_met s q is answers.Done
-  job-keeps (commands.Lose k) none = quiet-keeps plan sound next_met s q is answers.Done
-  job-keeps (commands.Lag k ticks) none = quiet-keeps plan sound next_met s q is answers.Done
+  job-keeps command none = quiet-keeps plan sound next_met s q is answers.Done
 
 -- ---- every command
 

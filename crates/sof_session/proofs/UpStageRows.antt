@@ -170,12 +170,8 @@ module _ (plan : Plan) (sound : IsSound plan) (kept : Record) (up n : List ℕ) 
     marked (Put comp values) builds done = puts comp values (control_of plan comp) done
     marked (Part comp blob k) builds done = (tt, ap (fresh_by comp) (last-same blob k))
     marked (Finish id) builds done = (tt, refl)
-    marked (Prepare host params) builds done = absurd builds
-    marked (acts.Trig host what) builds done = absurd builds
-    marked (acts.Free host) builds done = absurd builds
-    marked acts.Save builds done = absurd builds
-    marked (acts.Ask comp k) builds done = absurd builds
     marked (Unmake id) builds done = unmakes (comp_of plan.graph id) (edge_of plan.graph id) id
+    marked act builds done = absurd builds
 
     pub stage-row : (act : Act) → Builds act → row f (act_message plan act) ≡ Ok g → LeadsOn (Some f) (Some g) (Now (view_of g) (fresh_in plan act) ∷ [])
     stage-row act builds done =

@@ -88,10 +88,7 @@ module _ (plan : Plan) (sound : IsSound plan) (plays : PlaysAtStages plan) (stag
   command-leads (commands.Bytes name blob) none = bytes-lead plan sound plays stage-rows plain-rows heap device s is there_is on_device name blob none
   command-leads (commands.Get name) none = quiet-leads plan sound plays stage-rows plain-rows heap device s is there_is on_device (control_told (named_at plan s.kept name))
   command-leads (commands.Read name) none = read-leads plan sound plays stage-rows plain-rows heap device s is there_is on_device name none
-  command-leads (commands.Refuse k e) none = quiet-leads plan sound plays stage-rows plain-rows heap device s is there_is on_device answers.Done
-  command-leads (commands.Drop k) none = quiet-leads plan sound plays stage-rows plain-rows heap device s is there_is on_device answers.Done
-  command-leads (commands.Lose k) none = quiet-leads plan sound plays stage-rows plain-rows heap device s is there_is on_device answers.Done
-  command-leads (commands.Lag k ticks) none = quiet-leads plan sound plays stage-rows plain-rows heap device s is there_is on_device answers.Done
+  command-leads command none = quiet-leads plan sound plays stage-rows plain-rows heap device s is there_is on_device answers.Done
 
 -- ---- over a link
 

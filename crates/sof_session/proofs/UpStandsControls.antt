@@ -213,26 +213,20 @@ module _ (plan : Plan) (sound : IsSound plan) (plays : PlaysAtStages plan) (stag
     )
 
     asked-steps : s.kept.power ≡ powers.On → (kind : ControlKind) → Steps plan ThereSo s (ask_acts k.comp kind r) EndsSo
-    asked-steps on (Volume min max channels lowest step mute) = asks-steps on (0 ∷ [])
-    asked-steps on (Choice items) = asks-steps on (0 ∷ [])
-    asked-steps on (Masks min max channels) = asks-steps on (0 ∷ [])
     asked-steps on (Blob most initial) = asks-steps on (part_numbers r.blob)
+    asked-steps on kind = asks-steps on (0 ∷ [])
 
     plain-asks : (kind : ControlKind) → AllByRecursion IsPlainly (ask_acts k.comp kind r)
-    plain-asks (Volume min max channels lowest step mute) = (tt, tt)
-    plain-asks (Choice items) = (tt, tt)
-    plain-asks (Masks min max channels) = (tt, tt)
     plain-asks (Blob most initial) = all-mapped IsPlainly (Ask k.comp) (part_numbers r.blob) (λ j. tt)
+    plain-asks kind = (tt, tt)
 
     loose-asks : (kind : ControlKind) (f : FwState) → StagedFirst (ask_acts k.comp kind r) f
-    loose-asks (Volume min max channels lowest step mute) f = tt
-    loose-asks (Choice items) f = tt
-    loose-asks (Masks min max channels) f = tt
     loose-asks (Blob most initial) f = by (parts r.blob)
       where
         by : (n : ℕ) → StagedFirst (map (Ask k.comp) (range_with_len 0 n)) f
         by zero = tt
         by (suc n) = tt
+    loose-asks kind f = tt
 
     pub ask-leads : is_among s.up (index_of_id plan k.comp) ≡ true → LeadsSo (plain_job plan s (reading_order s.kept (Some (k, r))))
     ask-leads has = sends-lead plan sound plays stage-rows plain-rows heap device s is there_is on_device (ask_acts k.comp k.kind r) (λ now. now) (control_answer k.kind r) (λ on. record {

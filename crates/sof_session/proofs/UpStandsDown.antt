@@ -71,10 +71,7 @@ module _ (plan : Plan) (sound : IsSound plan) (plays : PlaysAtStages plan) (stag
       by : (found : Found) → StagedFirst (flat_map stop_acts ps ++ Save ∷ []) f → StagedFirst ((stop_by s.host found ++ flat_map stop_acts ps) ++ Save ∷ []) f
       by founds.Running rest = tt
       by founds.Paused rest = tt
-      by founds.Closed rest = rest
-      by founds.Open rest = rest
-      by founds.Prepared rest = rest
-      by founds.On rest = rest
+      by found rest = rest
 
   down-led : (ps : List StreamPair) (u : UpState) → IsUpState plan u → u.kept.power ≡ powers.On → Ascends (λ (p : StreamPair). p.0.host) ps → AllByRecursion (Stands u) ps → AreLed plan true u (flat_map stop_acts ps ++ Save ∷ [])
   unfolding Ascends
@@ -124,10 +121,7 @@ module _ (plan : Plan) (sound : IsSound plan) (plays : PlaysAtStages plan) (stag
       by : (found : Found) → r.found ≡ found → AreLed plan true u rest → (IsUpState plan next → AreLed plan true next rest) → AreLed plan true u ((stop_by s.host found ++ flat_map stop_acts ps) ++ Save ∷ [])
       by founds.Running is_so same behind = stops (ap (takes_trigger Stop) is_so) same behind
       by founds.Paused is_so same behind = stops (ap (takes_trigger Stop) is_so) same behind
-      by founds.Closed is_so same behind = same
-      by founds.Open is_so same behind = same
-      by founds.Prepared is_so same behind = same
-      by founds.On is_so same behind = same
+      by found is_so same behind = same
 
   cut-then : (o : Outcome) (Up : Type 0) (Down : Type 0) → Up → Down → ByLink o Up Down
   cut-then (Ok passed) Up Down up down = up

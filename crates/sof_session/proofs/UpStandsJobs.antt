@@ -179,17 +179,11 @@ module _ (plan : Plan) (sound : IsSound plan) (plays : PlaysAtStages plan) (stag
     close-plain founds.Running = (tt, (tt, tt))
     close-plain founds.Paused = (tt, (tt, tt))
     close-plain founds.Prepared = (tt, tt)
-    close-plain founds.Open = tt
-    close-plain founds.Closed = tt
-    close-plain founds.On = tt
+    close-plain stands = tt
 
     close-loose : (stands : Found) (f : FwState) → StagedFirst (close_by host stands) f
     close-loose founds.Running f = tt
-    close-loose founds.Paused f = tt
-    close-loose founds.Prepared f = tt
-    close-loose founds.Open f = tt
-    close-loose founds.Closed f = tt
-    close-loose founds.On f = tt
+    close-loose stands f = tt
 
     abbrev Freed : UpState → Type 0
     Freed u = Ended plan sound s is on host p found open_yet u
@@ -205,9 +199,7 @@ module _ (plan : Plan) (sound : IsSound plan) (plays : PlaysAtStages plan) (stag
     close-steps founds.Running u on_u x = (so-there u x.0 on_u, λ free. (let y = x.1 free in (so-there ((up_act_rules plan).after (Trig host triggers.Stop) u) y.0 on_u, λ free'. freed-there ((up_act_rules plan).after (Free host) ((up_act_rules plan).after (Trig host triggers.Stop) u)) (y.1 free'))))
     close-steps founds.Paused u on_u x = (so-there u x.0 on_u, λ free. (let y = x.1 free in (so-there ((up_act_rules plan).after (Trig host triggers.Stop) u) y.0 on_u, λ free'. freed-there ((up_act_rules plan).after (Free host) ((up_act_rules plan).after (Trig host triggers.Stop) u)) (y.1 free'))))
     close-steps founds.Prepared u on_u x = (so-there u x.0 on_u, λ free. freed-there ((up_act_rules plan).after (Free host) u) (x.1 free))
-    close-steps founds.Open u on_u x = freed-there u x
-    close-steps founds.Closed u on_u x = freed-there u x
-    close-steps founds.On u on_u x = freed-there u x
+    close-steps stands u on_u x = freed-there u x
 
     -- what no other stream needs is unmade
     parts-lead : (u : UpState) → Freed u → LeadsBy plan u (unmade plan (parting plan host u) (with_stream_shut plan host) u)

@@ -119,10 +119,8 @@ module _ (plan : Plan) (plays : PlaysAtStages plan) (rows : RowsAtStages plan) w
   -- ---- making
 
   control-builds : (comp : ℕ) (kind : ControlKind) (c : ControlRec) → AllByRecursion Builds (control_acts_by comp kind c)
-  control-builds comp (kinds.Volume min max channels lowest step mute) c = (tt, tt)
-  control-builds comp (kinds.Choice items) c = (tt, tt)
-  control-builds comp (kinds.Masks min max channels) c = (tt, tt)
   control-builds comp (kinds.Blob most initial) c = all-mapped Builds (Part comp c.blob) (part_numbers c.blob) (λ k. tt)
+  control-builds comp kind c = (tt, tt)
 
   pub making-builds : (kept : Record) (n : List ℕ) → AllByRecursion Builds (making_acts plan kept n)
   making-builds kept n =

@@ -67,9 +67,7 @@ is-quiet v each = ap not (none-any (λ (s : StreamView). is_live_phase s.phase) 
 
 running-live : (p : Phase) → is_live_phase p ≡ false → is_running_phase p ≡ false
 running-live phases.Running dead = dead
-running-live phases.Paused dead = refl
-running-live phases.Prepared dead = refl
-running-live phases.Idle dead = refl
+running-live p dead = refl
 
 none-active : (v : View) (x : ℕ) → ((s : StreamView) → IsIn s v.streams → is_live_phase s.phase ≡ false) → active v x ≡ false
 unfolding active

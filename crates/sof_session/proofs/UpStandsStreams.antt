@@ -128,8 +128,7 @@ module _ (plan : Plan) (sound : IsSound plan) (plays : PlaysAtStages plan) (stag
     where
       by : (power : Power) → Leads (plain_job plan s (unsent (sends power xs done answer)))
       by powers.On = inr (inr (inr (inl refl, inl refl)))
-      by powers.Off = inr (inr (inr (inl refl, inl refl)))
-      by powers.Unloaded = inr (inr (inr (inl refl, inl refl)))
+      by power = inr (inr (inr (inl refl, inl refl)))
 
   -- ---- the stream at a place
 

@@ -35,26 +35,7 @@ use Rattle.sof_session.proofs.UpStepping.{job_stepped}
 -- a tick sends none, and any other command no more than the most
 use-most-of : (up : List ℕ) (command : Command) → up_most command ≡ most_sent_by (Some up) command
 use-most-of up commands.Load = refl
-use-most-of up commands.Unload = refl
-use-most-of up commands.Suspend = refl
-use-most-of up commands.Resume = refl
-use-most-of up commands.Show = refl
-use-most-of up (commands.Open n) = refl
-use-most-of up (commands.Start n) = refl
-use-most-of up (commands.Stop n) = refl
-use-most-of up (commands.Pause n) = refl
-use-most-of up (commands.Release n) = refl
-use-most-of up (commands.Close n) = refl
-use-most-of up (commands.Get n) = refl
-use-most-of up (commands.Read n) = refl
-use-most-of up (commands.Params n p) = refl
-use-most-of up (commands.Set n v) = refl
-use-most-of up (commands.Bytes n b) = refl
-use-most-of up (commands.Tick t) = refl
-use-most-of up (commands.Refuse k e) = refl
-use-most-of up (commands.Drop k) = refl
-use-most-of up (commands.Lose k) = refl
-use-most-of up (commands.Lag k t) = refl
+use-most-of up command = refl
 
 pub use-most : (up : Option (List ℕ)) → is_some up ≡ true → (command : Command) → up_most command ≡ most_sent_by up command
 use-most None some command = absurd (false≢true some)

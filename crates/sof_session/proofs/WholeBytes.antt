@@ -45,10 +45,8 @@ module _ (one two : Whole) (same : SameBytes one two) where
   }
 
   follows-same : (m : Moment) (old new : Past) → Follows one old m new → Follows two old m new
-  follows-same Boot old new follows = follows
-  follows-same Cut old new follows = follows
-  follows-same (Now view fresh) old new follows = follows
   follows-same Tick old new follows = (follows.0, tick-same old new follows.0 follows.1)
+  follows-same m old new follows = follows
 
   pub leads-same : (ms : List Moment) (old new : Past) → Leads one old ms new → Leads two old ms new
   leads-same [] old new led = led

@@ -15,9 +15,6 @@ broken bytes fault (inl wanting) other = absurd (other wanting)
 broken bytes fault (inr is) other = topology_only bytes fault is
 
 pub halted : (bytes : List ℕ) (fault : TplgFault) (h : Halt) → (fault ≡ OutOfMemory) ⊎ IsFileFault bytes fault → HaltsFor h fault → HaltsAtTopology h (topology_of bytes)
-halted bytes fault (halt.Script line cause) is for = absurd for
-halted bytes fault (halt.Ticks sum) is for = absurd for
 halted bytes fault (halt.Broken other) is for = subst (λ f. topology_of bytes ≡ Err f) (sym for.0) (broken bytes fault is for.1)
-halted bytes fault (halt.Rule rule item) is for = absurd for
-halted bytes fault (halt.Binding line) is for = absurd for
 halted bytes fault halt.OutOfMemory is for = tt
+halted bytes fault h is for = absurd for

@@ -43,9 +43,7 @@ loads_bring (Do act next) turns (Load n l heard ∷ calls) status goes = absurd 
 loads_bring (Do act next) turns (Read n size got ∷ calls) status goes = absurd goes
 loads_bring (Do act next) turns (Did a true ∷ calls) status goes = loads_bring next turns calls status goes.1
 loads_bring (Do act next) turns (Did a false ∷ calls) status goes = none_bring calls goes.1.1
-loads_bring (Step task next) [] calls status goes = absurd goes
 loads_bring (Step task next) (turn ∷ turns) calls status goes = loads_bring (next turn.out) turns calls status goes.1
-loads_bring (Refill next) [] calls status goes = absurd goes
 loads_bring (Refill next) (turn ∷ turns) calls status goes =
     let f = goes.0 in
     let later : Bring f.later =
@@ -54,7 +52,7 @@ loads_bring (Refill next) (turn ∷ turns) calls status goes =
       | Some slot ↦ λ over. none_bring f.later over.1
     ]) goes.1 in
     subst (λ (cs : List DeskCall). Bring cs) (sym f.calls_are) (subst (λ (hs : List Heard). AllByRecursion BringsBytes hs) (sym (heard_behind f.reads f.failed f.later)) later)
-loads_bring (Send message next) [] calls status goes = absurd goes
 loads_bring (Send message next) (turn ∷ turns) calls status goes = loads_bring (next (answer_in turn.task)) turns calls status goes.1
 loads_bring (Free next) turns calls status (inl goes) = loads_bring next turns calls status goes
 loads_bring (Free next) turns calls status (inr says) = said_bring no_memory_line 7 turns calls status says
+loads_bring todo [] calls status goes = absurd goes

@@ -34,18 +34,16 @@ module _ (P : ℕ → Type 0) (A : List ℕ → Type 0) where
   ends (Do act rest) turns (Read n size got ∷ calls) status goes all three = absurd goes
   ends (Do act rest) turns (Did a true ∷ calls) status goes all three = ends rest turns calls status goes.1 all three
   ends (Do act rest) turns (Did a false ∷ calls) status goes all three = subst P (sym goes.1.2) three
-  ends (Step task rest) [] calls status goes all three = absurd goes
   ends (Step task rest) (turn ∷ turns) calls status goes all three = ends (rest turn.out) turns calls status goes.1 (all turn.out) three
-  ends (Refill rest) [] calls status goes all three = absurd goes
   ends (Refill rest) (turn ∷ turns) calls status goes all three =
       (elim goes.0.failed as (λ failed. MatchOption failed (DoneBy rest turns goes.0.later status) (λ slot. Over 3 turns goes.0.later status) → P status) [
         | None ↦ λ done. ends rest turns goes.0.later status done all three
         | Some slot ↦ λ over. subst P (sym over.2) three
       ]) goes.1
-  ends (Send message rest) [] calls status goes all three = absurd goes
   ends (Send message rest) (turn ∷ turns) calls status goes all three = ends (rest (answer_in turn.task)) turns calls status goes.1 (all (answer_in turn.task)) three
   ends (Free rest) turns calls status (inl goes) all three = ends rest turns calls status goes all.1 three
   ends (Free rest) turns calls status (inr says) all three = says_all no_memory_line 7 turns calls status says all.0 three
+  ends todo [] calls status goes all three = absurd goes
 
 -- a status of a run whose commands are being carried out
 abbrev pub IsLate : ℕ → Type 0
@@ -89,23 +87,20 @@ none_turned P three (Do act rest) turns (Load name limit heard ∷ calls) status
 none_turned P three (Do act rest) turns (Read n size got ∷ calls) status goes last early = absurd goes
 none_turned P three (Do act rest) turns (Did a true ∷ calls) status goes last early = none_turned P three rest turns calls status goes.1 last early
 none_turned P three (Do act rest) turns (Did a false ∷ calls) status goes last early = goes.1.0
-none_turned P three (Step task rest) [] calls status goes last early = refl
 none_turned P three (Step task rest) (turn ∷ turns) calls status goes last early =
     absurd (early (ends P (λ name. ⊥) (rest turn.out) turns calls status goes.1 (last turn.out).0 three))
-none_turned P three (Refill rest) [] calls status goes last early = refl
 none_turned P three (Refill rest) (turn ∷ turns) calls status goes last early =
     absurd (early (ends P (λ name. ⊥) (Refill rest) (turn ∷ turns) calls status goes last.0 three))
-none_turned P three (Send message rest) [] calls status goes last early = refl
 none_turned P three (Send message rest) (turn ∷ turns) calls status goes last early =
     absurd (early (ends P (λ name. ⊥) (rest (answer_in turn.task)) turns calls status goes.1 (last (answer_in turn.task)).0 three))
 none_turned P three (Free rest) turns calls status (inl goes) last early = none_turned P three rest turns calls status goes last early
 none_turned P three (Free rest) turns calls status (inr says) last early = no_turns no_memory_line 7 turns calls status says
+none_turned P three todo [] calls status goes last early = refl
 
 -- a call creates or opens a file, whether it was done or not
 opens_act : (act : DeskAct) (done : Bool) → IsOpening (Did act done) → IsOpeningAct act
 opens_act (Create slot name) done opens = opens
-opens_act (Put place piece) done opens = opens
-opens_act (Open slot name) done opens = opens
+opens_act act done opens = opens
 
 -- a line that is said is no load, and creates and opens nothing
 said_no_loads : (line : List ℕ) (n : ℕ) (turns : List Turn) (calls : List DeskCall) (status : ℕ) → Says line n turns calls status → AreOpening calls → ⊥
@@ -130,19 +125,17 @@ opening_past P (Do act rest) turns (Load name limit heard ∷ calls) status goes
 opening_past P (Do act rest) turns (Read n size got ∷ calls) status goes none puts loads three = goes
 opening_past P (Do act rest) turns (Did a true ∷ calls) status goes none puts loads three = puts.0 (subst IsOpeningAct goes.0 loads.0)
 opening_past P (Do act rest) turns (Did a false ∷ calls) status goes none puts loads three = puts.0 (subst IsOpeningAct goes.0 (opens_act a false loads.0))
-opening_past P (Step task rest) [] calls status goes none puts loads three = goes
 opening_past P (Step task rest) (turn ∷ turns) calls status goes none puts loads three = opening_past P (rest turn.out) turns calls status goes.1 (none turn.out) (puts turn.out) loads three
-opening_past P (Refill rest) [] calls status goes none puts loads three = goes
 opening_past P (Refill rest) (turn ∷ turns) calls status goes none puts loads three =
     let f = goes.0 in
     let unread = none_read f.reads f.failed f.later (subst AreOpening f.calls_are loads) in
     opening_past P rest turns f.later status (subst (λ failed. MatchOption failed (DoneBy rest turns f.later status) (λ slot. Over 3 turns f.later status)) unread.0 goes.1) none puts unread.1 three
-opening_past P (Send message rest) [] calls status goes none puts loads three = goes
 opening_past P (Send message rest) (turn ∷ turns) calls status goes none puts loads three =
     let reply = answer_in turn.task in
     opening_past P (rest reply) turns calls status goes.1 (none reply) (puts reply) loads three
 opening_past P (Free rest) turns calls status (inl goes) none puts loads three = opening_past P rest turns calls status goes none.1 puts loads three
 opening_past P (Free rest) turns calls status (inr says) none puts loads three = said_no_loads no_memory_line 7 turns calls status says loads
+opening_past P todo [] calls status goes none puts loads three = goes
 
 -- a load, a create or an open that failed comes before any turn
 pub none_asked : (P : ℕ → Type 0) (todo : Todo) (turns : List Turn) (calls : List DeskCall) (status : ℕ) → DoneBy todo turns calls status → TurnsLast P todo → status ≡ 3 → AreOpening calls → turns ≡ []
@@ -160,16 +153,14 @@ none_asked P (Do act rest) turns (Load name limit heard ∷ calls) status goes l
 none_asked P (Do act rest) turns (Read n size got ∷ calls) status goes last three loads = absurd goes
 none_asked P (Do act rest) turns (Did a true ∷ calls) status goes last three loads = none_asked P rest turns calls status goes.1 last three loads.1
 none_asked P (Do act rest) turns (Did a false ∷ calls) status goes last three loads = goes.1.0
-none_asked P (Step task rest) [] calls status goes last three loads = refl
 none_asked P (Step task rest) (turn ∷ turns) calls status goes last three loads = absurd (opening_past P (rest turn.out) turns calls status goes.1 (last turn.out).0 (last turn.out).1 loads three)
-none_asked P (Refill rest) [] calls status goes last three loads = refl
 none_asked P (Refill rest) (turn ∷ turns) calls status goes last three loads = absurd (opening_past P (Refill rest) (turn ∷ turns) calls status goes last.0 last.1 loads three)
-none_asked P (Send message rest) [] calls status goes last three loads = refl
 none_asked P (Send message rest) (turn ∷ turns) calls status goes last three loads =
     let reply = answer_in turn.task in
     absurd (opening_past P (rest reply) turns calls status goes.1 (last reply).0 (last reply).1 loads three)
 none_asked P (Free rest) turns calls status (inl goes) last three loads = none_asked P rest turns calls status goes last three loads
 none_asked P (Free rest) turns calls status (inr says) last three loads = no_turns no_memory_line 7 turns calls status says
+none_asked P todo [] calls status goes last three loads = refl
 
 -- the count rose where the status is 3
 rose_before : (a b c : ℕ) → a ≤ b → CountRose b c → CountRose a c
@@ -221,9 +212,7 @@ module _ {D : Type 0} (means : DeskMeaning D) where
   three_rose (Do act rest) turns (Did a true ∷ calls) status d e goes other led three =
       rose_before _ _ _ led.1.kept.faults (three_rose rest turns calls status led.0 e goes.1 other led.2 three)
   three_rose (Do act rest) turns (Did a false ∷ calls) status d e goes other led three = last_rises a calls d e goes.1.1 led
-  three_rose (Step task rest) [] calls status d e goes other led three = absurd goes
   three_rose (Step task rest) (turn ∷ turns) calls status d e goes other led three = three_rose (rest turn.out) turns calls status d e goes.1 (other turn.out) led three
-  three_rose (Refill rest) [] calls status d e goes other led three = absurd goes
   three_rose (Refill rest) (turn ∷ turns) calls status d e goes other led three =
       let f = goes.0 in
       let reads = reads_led f.reads f.failed f.later d e (subst (λ cs. DeskLed means d cs e) f.calls_are led) in
@@ -233,9 +222,9 @@ module _ {D : Type 0} (means : DeskMeaning D) where
             let last : e ≡ led.0 = subst (λ cs. DeskLed means led.0 cs e) over.1 led.2 in
             rose_before _ _ _ reads.1 (subst (Rises reads.0) (sym last) (led.1.failed refl))
       ]) goes.1 reads.2
-  three_rose (Send message rest) [] calls status d e goes other led three = absurd goes
   three_rose (Send message rest) (turn ∷ turns) calls status d e goes other led three =
       let reply = answer_in turn.task in
       three_rose (rest reply) turns calls status d e goes.1 (other reply) led three
   three_rose (Free rest) turns calls status d e (inl goes) other led three = three_rose rest turns calls status d e goes other.1 led three
   three_rose (Free rest) turns calls status d e (inr says) other led three = says_three no_memory_line 7 turns calls status d e says other.0 led three
+  three_rose todo [] calls status d e goes other led three = absurd goes

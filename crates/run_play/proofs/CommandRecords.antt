@@ -61,16 +61,14 @@ use Rattle.run_play.proofs.DeedRecords.{Leaves, none-leaves, within, retold, app
 
 where-few : (power : Power) (moment : Moment) → length (where_on power (moment ∷ [])) ≤ 1
 where-few On moment = omega arith
-where-few Unloaded moment = omega arith
-where-few Off moment = omega arith
+where-few power moment = omega arith
 
 sends-first : (kept : Record) (power : Power) (o : Procedure) (s : IsSent kept o) → kept.power ≡ power → length o.first ≤ 1
 sends-first kept power o s is = subst (λ (x : Procedure). length x.first ≤ 1) (sym s.is) (by kept.power)
   where
     by : (p : Power) → length (sends p s.acts s.done s.answer).first ≤ 1
     by On = omega arith
-    by Unloaded = omega arith
-    by Off = omega arith
+    by p = omega arith
 
 first-few : (plan : Plan) → IsSound plan → (kept : Record) → IsRecordOf plan kept → (command : Command) → fault_of plan kept command ≡ None → length (order_of plan kept command).first ≤ 1
 first-few plan sound kept is commands.Load none = omega arith
@@ -90,23 +88,19 @@ first-few plan sound kept is command none = by (asking command)
     by (Some (name, ask)) = sends-first kept kept.power (asked_order plan kept (Some (name, ask))) (sent-stream plan kept name ask) refl
 
 last-few : (ending : Ending) (plan : Plan) (done : Record → Record) (start now : Record) (outcome : Outcome) → length (end_by ending plan done start now outcome).1 ≤ 1
-last-few Plain plan done start now (Ok passed) = omega arith
 last-few Plain plan done start now (Err LinkDown) = omega arith
 last-few Plain plan done start now (Err fault) = omega arith
-last-few Loading plan done start now (Ok passed) = omega arith
 last-few Loading plan done start now (Err fault) = omega arith
-last-few Resuming plan done start now (Ok passed) = omega arith
 last-few Resuming plan done start now (Err fault) = omega arith
 last-few Suspending plan done start now outcome = omega arith
+last-few ending plan done start now (Ok passed) = omega arith
 
 -- ---- over a link
 
 -- nothing that the device did of its own accord is met
 met-pass : (fate : Fate) → fate_met fate Pass ≡ fate
 met-pass Pass = refl
-met-pass (Refuse e) = refl
-met-pass Drop = refl
-met-pass Lose = refl
+met-pass fate = refl
 
 module _ {P : Type 0} (device : Meaning P) (C : Type 0) (plan : Plan) (heap : ℕ) where
   abbrev T : Meaning (Traced P)
@@ -333,9 +327,7 @@ met-calm doing none sent entries (m ∷ ms) as_met =
   where
     by : (fate : Fate) → (fate ≡ Pass → doing (more sent) ≡ m.fate) → fate_met fate Pass ≡ fate_met fate m.fate
     by Pass is = sym (none (more sent)) ∙ is refl
-    by (Refuse e) is = refl
-    by Drop is = refl
-    by Lose is = refl
+    by fate is = refl
 
 -- An order whose job is done was carried out, and its messages met the same.
 job-met : {D : Type 0} (means : Meaning D) (plan : Plan) (heap : ℕ) (o : Procedure) (kept kept' : Record) (w v : World D) (result : Outcome) (j : JobDone means (act_rules plan heap) heap (order_job plan kept o) kept' w v result) →

@@ -103,50 +103,12 @@ module _ {D : Type 0} (means : DeskMeaning D) where
   -- what a command shows: nothing, or how everything stands
   module _ (up : Option (List ℕ)) (plan : Plan) (kept : Record) where
     pub shown_none : (command : Command) (old : D) → is_show command ≡ false → DeskPhase means (lines_todo (shown_in command up plan kept)) true old old
-    shown_none commands.Load old is = none_said old
-    shown_none commands.Unload old is = none_said old
-    shown_none commands.Suspend old is = none_said old
-    shown_none commands.Resume old is = none_said old
     shown_none commands.Show old is = absurd (cc is)
-    shown_none (commands.Open n) old is = none_said old
-    shown_none (commands.Start n) old is = none_said old
-    shown_none (commands.Stop n) old is = none_said old
-    shown_none (commands.Pause n) old is = none_said old
-    shown_none (commands.Release n) old is = none_said old
-    shown_none (commands.Close n) old is = none_said old
-    shown_none (commands.Get n) old is = none_said old
-    shown_none (commands.Read n) old is = none_said old
-    shown_none (commands.Params n p) old is = none_said old
-    shown_none (commands.Set n v) old is = none_said old
-    shown_none (commands.Bytes n b) old is = none_said old
-    shown_none (commands.Tick t) old is = none_said old
-    shown_none (commands.Refuse k e) old is = none_said old
-    shown_none (commands.Drop k) old is = none_said old
-    shown_none (commands.Lose k) old is = none_said old
-    shown_none (commands.Lag k t) old is = none_said old
+    shown_none command old is = none_said old
 
     pub shown_all : (command : Command) (done : Bool) (old new : D) → is_show command ≡ true → DeskPhase means (lines_todo (lines_in up plan kept)) done old new → DeskPhase means (lines_todo (shown_in command up plan kept)) done old new
-    shown_all commands.Load done old new is phase = absurd (cc is)
-    shown_all commands.Unload done old new is phase = absurd (cc is)
-    shown_all commands.Suspend done old new is phase = absurd (cc is)
-    shown_all commands.Resume done old new is phase = absurd (cc is)
     shown_all commands.Show done old new is phase = phase
-    shown_all (commands.Open n) done old new is phase = absurd (cc is)
-    shown_all (commands.Start n) done old new is phase = absurd (cc is)
-    shown_all (commands.Stop n) done old new is phase = absurd (cc is)
-    shown_all (commands.Pause n) done old new is phase = absurd (cc is)
-    shown_all (commands.Release n) done old new is phase = absurd (cc is)
-    shown_all (commands.Close n) done old new is phase = absurd (cc is)
-    shown_all (commands.Get n) done old new is phase = absurd (cc is)
-    shown_all (commands.Read n) done old new is phase = absurd (cc is)
-    shown_all (commands.Params n p) done old new is phase = absurd (cc is)
-    shown_all (commands.Set n v) done old new is phase = absurd (cc is)
-    shown_all (commands.Bytes n b) done old new is phase = absurd (cc is)
-    shown_all (commands.Tick t) done old new is phase = absurd (cc is)
-    shown_all (commands.Refuse k e) done old new is phase = absurd (cc is)
-    shown_all (commands.Drop k) done old new is phase = absurd (cc is)
-    shown_all (commands.Lose k) done old new is phase = absurd (cc is)
-    shown_all (commands.Lag k t) done old new is phase = absurd (cc is)
+    shown_all command done old new is phase = absurd (cc is)
 
   module _ {L : Type 0} (by : Turning L) where
     -- ---- one unit
@@ -242,27 +204,8 @@ module _ {D : Type 0} (means : DeskMeaning D) where
 
 -- a command leaves what it shows
 pub shown_same : (command : Command) (up up' : Option (List ℕ)) (plan plan' : Plan) (kept kept' : Record) → plan' ≡ plan → (command ≡ commands.Show → (kept' ≡ kept) × (up' ≡ up)) → shown_in command up' plan' kept' ≡ shown_in command up plan kept
-shown_same commands.Load up up' plan plan' kept kept' over same = refl
-shown_same commands.Unload up up' plan plan' kept kept' over same = refl
-shown_same commands.Suspend up up' plan plan' kept kept' over same = refl
-shown_same commands.Resume up up' plan plan' kept kept' over same = refl
 shown_same commands.Show up up' plan plan' kept kept' over same = let both = same refl in λ i. lines_in (both.1 i) (over i) (both.0 i)
-shown_same (commands.Open n) up up' plan plan' kept kept' over same = refl
-shown_same (commands.Start n) up up' plan plan' kept kept' over same = refl
-shown_same (commands.Stop n) up up' plan plan' kept kept' over same = refl
-shown_same (commands.Pause n) up up' plan plan' kept kept' over same = refl
-shown_same (commands.Release n) up up' plan plan' kept kept' over same = refl
-shown_same (commands.Close n) up up' plan plan' kept kept' over same = refl
-shown_same (commands.Get n) up up' plan plan' kept kept' over same = refl
-shown_same (commands.Read n) up up' plan plan' kept kept' over same = refl
-shown_same (commands.Params n p) up up' plan plan' kept kept' over same = refl
-shown_same (commands.Set n v) up up' plan plan' kept kept' over same = refl
-shown_same (commands.Bytes n b) up up' plan plan' kept kept' over same = refl
-shown_same (commands.Tick t) up up' plan plan' kept kept' over same = refl
-shown_same (commands.Refuse k e) up up' plan plan' kept kept' over same = refl
-shown_same (commands.Drop k) up up' plan plan' kept kept' over same = refl
-shown_same (commands.Lose k) up up' plan plan' kept kept' over same = refl
-shown_same (commands.Lag k t) up up' plan plan' kept kept' over same = refl
+shown_same command up up' plan plan' kept kept' over same = refl
 
 none-up : (o : Option (List ℕ)) → is_some o ≡ false → o ≡ None
 none-up None is = refl

@@ -29,11 +29,9 @@ size-four n is = omega (arith, is)
 
 content-few : (e : Entry) → IsEntry e → length (content_of e) ≤ 384
 content-few (Boot heap) is = size-four (length (content_of (Boot heap))) (eqb-true (length (content_of (Boot heap))) 4 (takes-entry (Boot heap) is))
-content-few Cut is = omega arith
 content-few (Request message) is = is
 content-few (Reply reply) is = is.1
-content-few Tick is = omega arith
-content-few Lost is = omega arith
+content-few e is = omega arith
 
 pub entry-few : (e : Entry) → IsEntry e → length (record_bytes e) ≤ 392
 entry-few e is = omega (arith, length-spelled (record_kind e) (content_of e), content-few e is)

@@ -63,8 +63,7 @@ token_word arrays token are = found_in arrays token are
 
 format_fits : (format : Format) → format_number format ≤ 2
 format_fits S16 = omega arith
-format_fits S24 = omega arith
-format_fits S32 = omega arith
+format_fits format = omega arith
 
 abbrev FitsEntry : Entry → Type 0
 FitsEntry e = FitsWords (widget_plan e)
@@ -100,11 +99,8 @@ both_fit [] b first second = second
 both_fit (e ∷ a) b first second = (first.0, both_fit a b first.1 second)
 
 body_fits : (index : ℕ) (body : Body) → index < 2 ^ 32 → AreRecords body → FitEntries (map (entry_of index) (widgets_in body))
-body_fits index (Manifests ms) fits is = tt
 body_fits index (Widgets ws) fits is = entries_fit index ws fits is
-body_fits index (Routes rs) fits is = tt
-body_fits index (Pcms ps) fits is = tt
-body_fits index (Other kind count bytes) fits is = tt
+body_fits index body fits is = tt
 
 index_fits : (b : BlockValue) → AreSlots (header_slots b) → b.index < 2 ^ 32
 unfolding AreSlots IsSlot

@@ -35,12 +35,8 @@ module _ {D : Type 0} (means : DeskMeaning D) where
 
   -- a halt after both loads
   pub halted_todo : (on_use : Bool) (heap : ℕ) (trace : Option (List ℕ)) (files : Prepared) (h : Halt) (status : ℕ) (old new : D) → Halts h files → Played means (halt_todo h) old [] status new → Played means (Free (prepared_todo on_use heap trace files)) old [] status new
-  halted_todo on_use heap trace files (halt.Script line cause) status old new is played = told_todo on_use heap trace files (halt.Script line cause) status old new is played
-  halted_todo on_use heap trace files (halt.Ticks sum) status old new is played = told_todo on_use heap trace files (halt.Ticks sum) status old new is played
-  halted_todo on_use heap trace files (halt.Broken fault) status old new is played = told_todo on_use heap trace files (halt.Broken fault) status old new is played
-  halted_todo on_use heap trace files (halt.Rule rule item) status old new is played = told_todo on_use heap trace files (halt.Rule rule item) status old new is played
-  halted_todo on_use heap trace files (halt.Binding line) status old new is played = told_todo on_use heap trace files (halt.Binding line) status old new is played
   halted_todo on_use heap trace files halt.OutOfMemory status old new is played = free_off means (prepared_todo on_use heap trace files) status old new played
+  halted_todo on_use heap trace files h status old new is played = told_todo on_use heap trace files h status old new is played
 
 -- both files were loaded
 module _ {D : Type 0} (means : DeskMeaning D) (form : Form) (topology script : List ℕ) (old m n new : D) (status : ℕ) (first : Loaded means form.topology 1048576 (Ok topology) old m) (second : Loaded means form.script 1048576 (Ok script) m n) (are : AreBytes topology) (others : AreBytes script) where

@@ -47,9 +47,7 @@ outs_recorded (es ∷ records) (turn ∷ turns) = by turn.task (outs_recorded re
     by : (task : Task) → carried_outs (recorded_turns records turns) ≡ recorded_outs records (carried_outs turns) → carried_outs (recorded_turns (es ∷ records) turns) ≡ recorded_outs (es ∷ records) (carried_outs turns) →
         with_out task (fronted_at task (records_bytes es) turn.out) (carried_outs (recorded_turns (records_behind task (es ∷ records)) turns)) ≡ recorded_outs (es ∷ records) (with_out task turn.out (carried_outs turns))
     by (Carry command) used unused = ap (λ (outs : List Out). fronted (records_bytes es) turn.out ∷ outs) used
-    by (Begin on_use plan heap inputs slots) used unused = unused
-    by (Fill reads next) used unused = unused
-    by (Give call) used unused = unused
+    by task used unused = unused
 
 pub as_many_outs : (records : List (List Entry)) (outs : List Out) → length (recorded_outs records outs) ≡ length outs
 as_many_outs [] outs = refl

@@ -115,9 +115,7 @@ module _ {P : Type 0} (means : Meaning P) where
 
   counted-bare : (fate : Fate) (a b : Wire (Traced P)) → Counted (link (tracer means)) fate a b → Counted (link means) fate (bare_wire a) (bare_wire b)
   counted-bare Pass a b c = tt
-  counted-bare (Refuse e) a b c = c
-  counted-bare Drop a b c = c
-  counted-bare Lose a b c = c
+  counted-bare fate a b c = c
 
   module _ {S A : Type 0} (rules : ActRules S A) where
     act-bare : (kept : S) (act : A) (m : Meeting) (w v : World (Wire (Traced P))) → ActDid (link (tracer means)) rules kept act m w v → ActDid (link means) rules kept act m (bare_world w) (bare_world v)
@@ -200,13 +198,11 @@ module _ {P : Type 0} (means : Meaning P) where
 
   sides-bare : (plan : Plan) (view : View) (kept : Record) (dsp : Traced P) (power : Power) → SidesBy (tracer means) plan view kept dsp power → SidesBy means plan view kept dsp.device power
   sides-bare plan view kept dsp Unloaded sides = sides
-  sides-bare plan view kept dsp On sides = sides
-  sides-bare plan view kept dsp Off sides = sides
+  sides-bare plan view kept dsp power sides = sides
 
   powered-bare : (seat : SessionView (Traced P)) (power : Power) → Powered (tracer means) seat power → Powered means (bare_seat seat) power
   powered-bare seat Unloaded powered = powered
-  powered-bare seat On powered = powered
-  powered-bare seat Off powered = powered
+  powered-bare seat power powered = powered
 
   powered-by-bare : (seat : SessionView (Traced P)) (up : Option (List ℕ)) → PoweredBy (tracer means) seat up → PoweredBy means (bare_seat seat) up
   powered-by-bare seat None powered = powered-bare seat seat.kept.power powered

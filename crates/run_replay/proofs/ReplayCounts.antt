@@ -66,7 +66,6 @@ module _ {P : Type 0} (dsp : Meaning P) where
       answered-boots message (Some reply) turns g goes = same-boots (Request message) g.after turns (Some reply) refl (g.did).boots g.rest goes
 
       give-boots : (e : Entry) (turns : List Turn) → Turns dsp (Bare d) turns last → DoneBy (give_todo e next) turns made 0 → Raised e
-      give-boots (Boot heap) [] turned goes = absurd goes
       give-boots (Boot heap) (turn ∷ turns) turned goes =
           let g = first-given dsp (calls.Boot heap) turn turns d last goes.0 turned in
           let place = is_next None in
@@ -75,15 +74,13 @@ module _ {P : Type 0} (dsp : Meaning P) where
         where
           one-more : (n : ℕ) → raised n (more (dsp.boots d)) ≡ raised (n + 1) (dsp.boots d)
           one-more n = let same : suc n ≡ n + 1 = omega arith in ap (λ (k : ℕ). raised k (dsp.boots d)) same
-      give-boots Cut [] turned goes = absurd goes
       give-boots Cut (turn ∷ turns) turned goes = let g = first-given dsp calls.Cut turn turns d last goes.0 turned in same-boots Cut g.after turns None refl (g.did).0.boots g.rest goes.1
-      give-boots (Request message) [] turned goes = absurd goes
       give-boots (Request message) (turn ∷ turns) turned goes =
           answered-boots message (answer_in turn.task) turns (first-given dsp (calls.Exchange message (answer_in turn.task)) turn turns d last goes.0 turned) goes.1
-      give-boots Tick [] turned goes = absurd goes
       give-boots Tick (turn ∷ turns) turned goes = let g = first-given dsp calls.Tick turn turns d last goes.0 turned in same-boots Tick g.after turns None refl (g.did).boots g.rest goes.1
       give-boots (Reply reply) turns turned goes = same-boots (Reply reply) d turns None refl refl turned goes
       give-boots Lost turns turned goes = same-boots Lost d turns None refl refl turned goes
+      give-boots e [] turned goes = absurd goes
 
     pub booted : (es : List Entry) → Booted es
     booted [] d turns made last on awaited at t turned goes = booted-end d turns made last on awaited at t turned goes
@@ -124,15 +121,12 @@ module _ {P : Type 0} (dsp : Meaning P) where
 
     give-fails : (e : Entry) (es : List Entry) → Fails es → (d : P) (turns : List Turn) (made : List DeskCall) (last : Life P) (on : Bool) (awaited : Option (List ℕ)) (at : ℕ) → Turns dsp (Bare d) turns last → DoneBy (give_todo e (λ reply. given_todo room es end (on_after on e) reply (next_place at e) final)) turns made 10 →
         is_some (dsp.on d) ≡ on → record_fault room on awaited at e ≡ None → Rose (dsp.faults d) (dsp.faults (device_of last))
-    give-fails (Boot heap) es others d [] made last on awaited at turned goes here right = absurd goes
     give-fails (Boot heap) es others d (turn ∷ turns) made last on awaited at turned goes here right =
         let g = first-given dsp (calls.Boot heap) turn turns d last goes.0 turned in
         later-fell (Boot heap) es others d made last on at g.after turns None (did-steady dsp g) (ap is_some (g.did).0.on) g.rest goes.1
-    give-fails Cut es others d [] made last on awaited at turned goes here right = absurd goes
     give-fails Cut es others d (turn ∷ turns) made last on awaited at turned goes here right =
         let g = first-given dsp calls.Cut turn turns d last goes.0 turned in
         later-fell Cut es others d made last on at g.after turns None (did-steady dsp g) (ap is_some (g.did).0.on) g.rest goes.1
-    give-fails (Request message) es others d [] made last on awaited at turned goes here right = absurd goes
     give-fails (Request message) es others d (turn ∷ turns) made last on awaited at turned goes here right =
         by (answer_in turn.task) (first-given dsp (calls.Exchange message (answer_in turn.task)) turn turns d last goes.0 turned) goes.1
       where
@@ -147,7 +141,6 @@ module _ {P : Type 0} (dsp : Meaning P) where
         by (Some reply) g goes =
             later-fell (Request message) es others d made last on at g.after turns (Some reply) (did-steady dsp g)
             (sent-on dsp message (Some reply) d g.after g.did is_on ∙ sym (message-on room on awaited at message right)) g.rest goes
-    give-fails Tick es others d [] made last on awaited at turned goes here right = absurd goes
     give-fails Tick es others d (turn ∷ turns) made last on awaited at turned goes here right =
         let g = first-given dsp calls.Tick turn turns d last goes.0 turned in
         later-fell Tick es others d made last on at g.after turns None (did-steady dsp g) (ticked-on dsp d g.after g.did ∙ here) g.rest goes.1
@@ -155,6 +148,7 @@ module _ {P : Type 0} (dsp : Meaning P) where
         later-fell (Reply reply) es others d made last on at d turns None (Steady-none dsp d d refl) here turned goes
     give-fails Lost es others d turns made last on awaited at turned goes here right =
         later-fell Lost es others d made last on at d turns None (Steady-none dsp d d refl) here turned goes
+    give-fails e es others d [] made last on awaited at turned goes here right = absurd goes
 
     pub fails : (es : List Entry) → Fails es
     fails [] d turns made last on awaited at turned goes here = fails-end d turns made last on awaited at turned goes here

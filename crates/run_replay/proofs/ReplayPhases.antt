@@ -62,11 +62,7 @@ none-awaited (Some a) is = absurd (cc is)
 -- no kind has more records than there are bytes
 pub tallied-within : (e : Entry) (t : Tally) (at next : ℕ) → at < next → t.boots ≤ at → t.messages ≤ at → t.ticks ≤ at → ((tallied e t).boots ≤ next) × ((tallied e t).messages ≤ next) × ((tallied e t).ticks ≤ next)
 tallied-within (Boot heap) t at next far boots messages ticks = (omega (arith, far, boots), omega (arith, far, messages), omega (arith, far, ticks))
-tallied-within Cut t at next far boots messages ticks = (omega (arith, far, boots), omega (arith, far, messages), omega (arith, far, ticks))
-tallied-within (Request message) t at next far boots messages ticks = (omega (arith, far, boots), omega (arith, far, messages), omega (arith, far, ticks))
-tallied-within Tick t at next far boots messages ticks = (omega (arith, far, boots), omega (arith, far, messages), omega (arith, far, ticks))
-tallied-within (Reply reply) t at next far boots messages ticks = (omega (arith, far, boots), omega (arith, far, messages), omega (arith, far, ticks))
-tallied-within Lost t at next far boots messages ticks = (omega (arith, far, boots), omega (arith, far, messages), omega (arith, far, ticks))
+tallied-within e t at next far boots messages ticks = (omega (arith, far, boots), omega (arith, far, messages), omega (arith, far, ticks))
 
 -- endpoints without slots stay so
 ticks-bare : (n : ℕ) (s : FwState) → (ticks n (s, no_ports)).1 ≡ no_ports
@@ -135,12 +131,8 @@ module _ {P : Type 0} (means : Meaning P) where
       (turns, subst (λ (d : P). Turns means (Bare d) turns last) gave.1 turned, subst (λ (r : Option (List ℕ)). DoneBy (next r) turns made status) gave.0 goes)
 
   give-off : (e : Entry) (next : Option (List ℕ) → Todo) (old new : P) → GaveRecord means e old (Err Device) new → GivesOn means (give_todo e next) (stopped_todo Device) old new
-  give-off (Boot heap) next old new gave turns made status last turned goes = absurd gave
-  give-off Cut next old new gave turns made status last turned goes = absurd gave
   give-off (Request message) next old new gave turns made status last turned goes = (gives (calls.Exchange message None) ∷ turns, (Bare new, gave, turned), (refl, goes))
-  give-off Tick next old new gave turns made status last turned goes = absurd gave
-  give-off (Reply other) next old new gave turns made status last turned goes = absurd gave
-  give-off Lost next old new gave turns made status last turned goes = absurd gave
+  give-off other next old new gave turns made status last turned goes = absurd gave
 
   most-same : (e : Entry) (reply : Option (List ℕ)) (old new : P) → GaveRecord means e old (Ok reply) new → means.most new ≡ means.most old
   most-same (Boot heap) reply old new gave = (call-steady (calls.Boot heap) old new gave.1).most

@@ -71,12 +71,8 @@ module _ {D : Type 0} (means : DeskMeaning D) where
 
     -- why it is not right was said
     pub halted : (h : Halt) (status : ℕ) → HaltsAtCheck h (checked bytes) → Played means (Stop (halt_line h) (halt_status h)) m [] status new → Played means (check lines name) old [] status new
-    halted (halt.Script line cause) status is played = stopped (halt.Script line cause) status is played
-    halted (halt.Ticks sum) status is played = stopped (halt.Ticks sum) status is played
-    halted (halt.Broken fault) status is played = stopped (halt.Broken fault) status is played
-    halted (halt.Rule rule item) status is played = stopped (halt.Rule rule item) status is played
-    halted (halt.Binding line) status is played = stopped (halt.Binding line) status is played
     halted halt.OutOfMemory status is played = after status (free_off means (checked_todo lines (checked bytes)) status m new played)
+    halted h status is played = stopped h status is played
 
   -- its counts were said, or not all of them
   pub counted : (name bytes : List ℕ) (old m new : D) → Loaded means name 1048576 (Ok bytes) old m → AreBytes bytes → (t : Topology) (counts : List (List ℕ)) (done : Bool) → checked bytes ≡ Ok t → counts ≡ counts_of t → DeskPhase means (lines_todo counts) done m new → Played means (check count_lines name) old [] (if done then 0 else 3) new

@@ -60,18 +60,14 @@ module _ {D : Type 0} (means : DeskMeaning D) where
 
     -- why it is refused was said
     pub refused : (f : SourceFault) (status : ℕ) → FaultIs f (compiled_of text) → Played means (Stop (source_line f) (source_status f)) m [] status new → Played means (compile names) old [] status new
-    refused Syntax status is played = told Syntax status is played
-    refused (Shape list entry) status is played = told (Shape list entry) status is played
-    refused (Rule rule item) status is played = told (Rule rule item) status is played
     refused OutOfMemory status is played = after status (free_off means (compiled_todo names.out (compiled_of text)) status m new played)
+    refused f status is played = told f status is played
 
 -- ---- with status 0 a topology was made
 
 not_zero : (f : SourceFault) → source_status f ≡ 0 → ⊥
 not_zero Syntax e = cc e
-not_zero (Shape list entry) e = cc e
-not_zero (Rule rule item) e = cc e
-not_zero OutOfMemory e = cc e
+not_zero f e = cc e
 
 module _ {D : Type 0} (means : DeskMeaning D) where
   -- nothing is made where the source is refused

@@ -39,9 +39,5 @@ module _ {D : Type 0} (means : DeskMeaning D) where
 
     -- why it is not right was said
     pub source_halted : (h : Halt) (status : ℕ) → HaltsAtCheck h (checked bytes) → Played means (Stop (halt_line h) (halt_status h)) m [] status new → Played means (make_source files) old [] status new
-    source_halted (halt.Script line cause) status is played = come_to (Err (halt.Script line cause)) status is played
-    source_halted (halt.Ticks sum) status is played = come_to (Err (halt.Ticks sum)) status is played
-    source_halted (halt.Broken fault) status is played = come_to (Err (halt.Broken fault)) status is played
-    source_halted (halt.Rule rule item) status is played = come_to (Err (halt.Rule rule item)) status is played
-    source_halted (halt.Binding line) status is played = come_to (Err (halt.Binding line)) status is played
     source_halted halt.OutOfMemory status is played = after status (free_off means (sourced_todo files.out (checked bytes)) status m new played)
+    source_halted h status is played = come_to (Err h) status is played

@@ -68,10 +68,7 @@ module _ (files : SourceFiles) (bytes : List ℕ) where
     two : (why : Halt) → IsWrong bytes why → halt_status why ≡ 2
     two (halts.Broken fault) is = refl
     two (halts.Rule rule item) is = refl
-    two (halts.Script line cause) is = absurd is
-    two (halts.Ticks sum) is = absurd is
-    two (halts.Binding line) is = absurd is
-    two halts.OutOfMemory is = absurd is
+    two why is = absurd is
 
     wrong : (why : Halt) → halt_status why ≡ 2 → IsWrong bytes why → Says (halt_line why) (halt_status why) turns calls status → SourceVerdict files bytes (call ∷ calls) status
     wrong why two is says = want (said (halt_line why) (halt_status why) turns calls status says)

@@ -130,9 +130,7 @@ made (Do act next) turns (Load n l heard ∷ calls) status goes = absurd goes
 made (Do act next) turns (Read n size got ∷ calls) status goes = absurd goes
 made (Do act next) turns (Did a true ∷ calls) status goes = inl (ap (λ x. Did x true) goes.0, made next turns calls status goes.1)
 made (Do act next) turns (Did a false ∷ calls) status goes = inr (ap (λ x. Did x false) goes.0, goes.1.0, goes.1.1, goes.1.2)
-made (Step task next) [] calls status goes = absurd goes
 made (Step task next) (turn ∷ turns) calls status goes = (goes.0, made (next turn.out) turns calls status goes.1)
-made (Refill next) [] calls status goes = absurd goes
 made (Refill next) (turn ∷ turns) calls status goes =
     let f = goes.0 in
     subst (λ cs. IsMade (filling_by turn.task (unrolled next (heard_in cs) turns)) (turn ∷ turns) cs status) (sym f.calls_are)
@@ -140,10 +138,10 @@ made (Refill next) (turn ∷ turns) calls status goes =
       | None ↦ λ is done. filling_made (λ ts heard. unrolled next heard ts) f.reads turn turns f.later status is (made next turns f.later status done)
       | Some slot ↦ λ is over. filling_broke (λ ts heard. unrolled next heard ts) f.reads turn turns f.later status slot is over (unrolled next (heard_in (reading f.reads (Some slot) ++ f.later)) turns)
     ]) f.task goes.1)
-made (Send message next) [] calls status goes = absurd goes
 made (Send message next) (turn ∷ turns) calls status goes = (goes.0, made (next (answer_in turn.task)) turns calls status goes.1)
 made (Free next) turns calls status (inl goes) = inl (made next turns calls status goes)
 made (Free next) turns calls status (inr says) = inr (wanted turns calls status says)
+made todo [] calls status goes = absurd goes
 
 -- ---- the same, form by form
 

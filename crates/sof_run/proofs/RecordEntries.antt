@@ -43,8 +43,7 @@ records-each means (turn ∷ turns) p q turned records kept = by (λ rs left. re
     by later (Carry command) [] left = absurd left
     by later (Carry command) (es ∷ rest) left = all_append es (all_records rest) (left_each means command p turned.0 es left.0) (later rest left.1)
     by later (Begin on_use plan heap inputs slots) rs left = later rs left
-    by later (Fill reads next) rs left = later rs left
-    by later (Give call) rs left = later rs left
+    by later task rs left = later rs left
 
 -- what was written is a trace of them
 pub trace-written : (bytes : List ℕ) (es : List Entry) → bytes ≡ records_bytes es → AllByRecursion IsEntry es → IsTraceOf bytes es None
@@ -71,9 +70,7 @@ unheard (Do act next) turns (Load n l heard ∷ calls) status goes none = absurd
 unheard (Do act next) turns (Read n size got ∷ calls) status goes none = absurd goes
 unheard (Do act next) turns (Did a true ∷ calls) status goes none = unheard next turns calls status goes.1 none
 unheard (Do act next) turns (Did a false ∷ calls) status goes none = ap heard_in goes.1.1
-unheard (Step task next) [] calls status goes none = absurd goes
 unheard (Step task next) (turn ∷ turns) calls status goes none = unheard (next turn.out) turns calls status goes.1 (none turn.out)
-unheard (Refill next) [] calls status goes none = absurd goes
 unheard (Refill next) (turn ∷ turns) calls status goes none =
     let f = goes.0 in
     let later : heard_in f.later ≡ [] =
@@ -82,10 +79,10 @@ unheard (Refill next) (turn ∷ turns) calls status goes none =
       | Some slot ↦ λ over. ap heard_in over.1
     ]) goes.1 in
     ap heard_in f.calls_are ∙ heard_behind f.reads f.failed f.later ∙ later
-unheard (Send message next) [] calls status goes none = absurd goes
 unheard (Send message next) (turn ∷ turns) calls status goes none = unheard (next (answer_in turn.task)) turns calls status goes.1 (none (answer_in turn.task))
 unheard (Free next) turns calls status (inl goes) none = unheard next turns calls status goes none.1
 unheard (Free next) turns calls status (inr says) none = said_unheard no_memory_line 7 turns calls status says
+unheard todo [] calls status goes none = absurd goes
 
 not_said : (line : List ℕ) (n : ℕ) (turns : List Turn) (calls : List DeskCall) → Says line n turns calls 0 → (n ≡ 0 → ⊥) → ⊥
 not_said line n turns [] says other = says

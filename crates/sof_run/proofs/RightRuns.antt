@@ -50,21 +50,12 @@ is_powered Off = false
 
 -- acts that passed
 after-power : (plan : Plan) (act : Act) (now : Record) → (after plan act now).power ≡ now.power
-after-power plan (Make id) now = refl
-after-power plan (Join source sink) now = refl
-after-power plan (Put comp values) now = refl
 after-power plan (Part comp blob k) now = by (is_last blob k)
   where
     by : (b : Bool) → (if b then with_control plan comp (with_blob blob) now else now).power ≡ now.power
     by true = refl
     by false = refl
-after-power plan (Finish id) now = refl
-after-power plan (Prepare host params) now = refl
-after-power plan (Trig host what) now = refl
-after-power plan (Free host) now = refl
-after-power plan Save now = refl
-after-power plan (Ask comp k) now = refl
-after-power plan (Unmake id) now = refl
+after-power plan act now = refl
 
 performed-power : (plan : Plan) (heap : ℕ) (act : Act) (now : Record) (ticks : List Moment) (outcome : Outcome) → (performed (act_rules plan heap) act now ticks outcome).kept.power ≡ now.power
 performed-power plan heap act now ticks (Ok done) = after-power plan act now
@@ -91,9 +82,7 @@ module _ (plan : Plan) (heap room : ℕ) (fits : heap ≤ room) where
 
   sent-right : (fate : Fate) (message : List ℕ) (on : Bool) → AreRight room on (sent_deeds fate message) on
   sent-right Pass message on = refl
-  sent-right Lose message on = refl
-  sent-right (Refuse e) message on = refl
-  sent-right Drop message on = refl
+  sent-right fate message on = refl
 
   act-right : (act : Act) (m : Meeting) (on : Bool) → AreRight room on (act_deeds plan act m) on
   act-right act m on =
@@ -187,16 +176,14 @@ module _ (plan : Plan) (heap room : ℕ) (fits : heap ≤ room) where
       where
         by : (power : Power) → AreRight room (is_powered power) (moment_deeds heap (where_on power (past.Cut ∷ []))) false
         by On = refl
-        by Unloaded = refl
-        by Off = refl
+        by power = refl
 
     tick-right : IsRight (ticking known.kept)
     tick-right = order-right (ticking known.kept) on (by known.kept.power) refl
       where
         by : (power : Power) → AreRight room (is_powered power) (moment_deeds heap (where_on power (past.Tick ∷ []))) (is_powered power)
         by On = refl
-        by Unloaded = refl
-        by Off = refl
+        by power = refl
 
     -- ---- a command
 

@@ -116,10 +116,8 @@ module _ (P : ℕ → Type 0) (A : List ℕ → Type 0) where
   check_all lines name done two five seven named = (named, five, seven, λ bytes. (seven, file_all lines (topology_of bytes) done two))
 
   fault_all : (f : SourceFault) → P 4 → P 7 → P (source_status f)
-  fault_all source.Syntax four seven = four
-  fault_all (source.Shape list entry) four seven = four
-  fault_all (source.Rule rule item) four seven = four
   fault_all source.OutOfMemory four seven = seven
+  fault_all f four seven = four
 
   compiled_all : (out : List ℕ) (r : Result Topology SourceFault) → P 0 → P 4 → P 7 → Throughout P A (compiled_todo out r)
   compiled_all out (Ok t) done four seven = done
@@ -173,12 +171,10 @@ module _ (P : ℕ → Type 0) (A : List ℕ → Type 0) where
   replied_all next (Some reply) ten all = all (Some reply)
 
   give_all : (e : Entry) (next : Option (List ℕ) → Todo) → P 10 → ((reply : Option (List ℕ)) → Throughout P A (next reply)) → Throughout P A (give_todo e next)
-  give_all (entries.Boot heap) next ten all = λ out. all None
-  give_all entries.Cut next ten all = λ out. all None
   give_all (entries.Request message) next ten all = λ reply. replied_all next reply ten all
-  give_all entries.Tick next ten all = λ out. all None
   give_all (entries.Reply reply) next ten all = all None
   give_all entries.Lost next ten all = all None
+  give_all e next ten all = λ out. all None
 
   given_all : (room : ℕ) (es : List Entry) (end : Option TraceFault) (on : Bool) (awaited : Option (List ℕ)) (at : ℕ) (last : Bool → Todo) → P 2 → P 10 → ((on : Bool) → Throughout P A (last on))
       → Throughout P A (given_todo room es end on awaited at last)
@@ -226,12 +222,10 @@ replied_puts next None puts = tt
 replied_puts next (Some reply) puts = puts (Some reply)
 
 give_puts : (e : Entry) (next : Option (List ℕ) → Todo) → ((reply : Option (List ℕ)) → OpensNone (next reply)) → OpensNone (give_todo e next)
-give_puts (entries.Boot heap) next puts = λ out. puts None
-give_puts entries.Cut next puts = λ out. puts None
 give_puts (entries.Request message) next puts = λ reply. replied_puts next reply puts
-give_puts entries.Tick next puts = λ out. puts None
 give_puts (entries.Reply reply) next puts = puts None
 give_puts entries.Lost next puts = puts None
+give_puts e next puts = λ out. puts None
 
 given_puts : (room : ℕ) (es : List Entry) (end : Option TraceFault) (on : Bool) (awaited : Option (List ℕ)) (at : ℕ) (last : Bool → Todo) → ((on : Bool) → OpensNone (last on)) → OpensNone (given_todo room es end on awaited at last)
 given_puts room [] end on awaited at last puts = without_fault_puts (end_fault awaited at end) (last on) (puts on)
@@ -303,12 +297,10 @@ module _ (P : ℕ → Type 0) (done : P 0) where
   -- what comes after a record that is given
   module _ (two : P 2) (ten : P 10) where
     give_last : (e : Entry) (next : Option (List ℕ) → Todo) → TurnsLast P (next None) → ((reply : Option (List ℕ)) → Throughout P (λ name. ⊥) (next reply) × OpensNone (next reply)) → TurnsLast P (give_todo e next)
-    give_last (entries.Boot heap) next last all = λ out. all None
-    give_last entries.Cut next last all = λ out. all None
     give_last (entries.Request message) next last all = λ reply. (replied_all P (λ name. ⊥) next reply ten (λ reply. (all reply).0), replied_puts next reply (λ reply. (all reply).1))
-    give_last entries.Tick next last all = λ out. all None
     give_last (entries.Reply reply) next last all = last
     give_last entries.Lost next last all = last
+    give_last e next last all = λ out. all None
 
     given_last : (room : ℕ) (es : List Entry) (end : Option TraceFault) (on : Bool) (awaited : Option (List ℕ)) (at : ℕ) (final : Bool → Todo) → ((on : Bool) → TurnsLast P (final on)) → ((on : Bool) → Throughout P (λ name. ⊥) (final on) × OpensNone (final on))
         → TurnsLast P (given_todo room es end on awaited at final)

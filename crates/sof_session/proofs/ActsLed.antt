@@ -70,7 +70,3 @@ module _ {D S A : Type 0} (means : Meaning D) (rules : ActRules S A) (on_refusal
       by : (b : Bool) → (Did (one_act rules kept act m).kept acts ms did.0 v → bound_ends v.io ≡ bound_ends did.0.io) → Onwards b ms did.0 v (Did (one_act rules kept act m).kept acts ms did.0 v) → bound_ends v.io ≡ bound_ends did.0.io
       by true rest on = rest on
       by false rest on = ap (λ (x : World D). bound_ends x.io) on.1
-
--- ---- over a link
-
-module _ {P S A : Type 0} (means : Meaning P) (rules : ActRules S A) where

@@ -1,7 +1,7 @@
 -- The status that a run ends with, and what comes before it.
 use Rattle.std.proofs.Common.{◌≡◌, ◌⊎◌, inl, inr, ℕ, ◌≤◌, Bool, true, false, List, [], ◌∷◌, ◌++◌, Option, Some, None, MatchOption, Ok, Err, refl, sym, ◌∙◌, subst, arith}
 use Rattle.sof_desk.specs.declared.calls.LoadFault.TheVariants.{Failed, TooLong, OutOfMemory}
-use Rattle.sof_desk.specs.Desk.{DeskMeaning, DeskAct, Create, Put, Open, DeskCall, Load, Did, Read, DeskLed, CountRose}
+use Rattle.sof_desk.specs.Desk.{DeskMeaning, DeskAct, Create, DeskCall, Load, Did, Read, DeskLed, CountRose}
 use Rattle.sof_script.specs.Tasks.{Out, Turn}
 use Rattle.run_desk.specs.Lines.{no_memory_line}
 use Rattle.run_desk.specs.Todo.{Todo, End, Stop, Ask, Do, Step, Refill, Send, Free, Says, Over, DoneBy}

@@ -12,7 +12,7 @@ use Rattle.mbox_link.specs.Calls.{World, Meaning, Call, Did, Led, Exchanged, Tic
 use Rattle.mbox_link.proofs.Led.{Led-steady}
 use Rattle.ipc3_trace.specs.declared.kind.RecordKind.TheVariants as kinds
 use Rattle.ipc3_trace.specs.declared.entry.Entry.{Entry}
-use Rattle.ipc3_trace.specs.declared.entry.Entry.TheVariants.{Boot, Cut, Request, Reply, Tick, Lost}
+use Rattle.ipc3_trace.specs.declared.entry.Entry.TheVariants.{Boot, Cut, Request, Reply, Tick}
 use Rattle.ipc3_trace.specs.Records.{IsEntry, record_kind, content_of, record_bytes, records_bytes}
 use Rattle.ipc3_trace.specs.Tracing.{Traced, tracer}
 use Rattle.ipc3_trace.specs.Steps.{AreAlike, quiescent, no_ports, steps_from, Deed, Start, Stop, Send, Wait, recorded}

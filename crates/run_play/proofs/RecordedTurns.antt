@@ -6,7 +6,7 @@ use Rattle.tplg_plan.specs.declared.plans.Plan.{Plan}
 use Rattle.ipc3_trace.specs.declared.entry.Entry.{Entry}
 use Rattle.ipc3_trace.specs.Records.{records_bytes}
 use Rattle.sof_script.specs.declared.script.Command.{Command}
-use Rattle.sof_script.specs.Tasks.{Out, Task, Begin, Fill, Carry, Give, Turn, AreTurns}
+use Rattle.sof_script.specs.Tasks.{Out, Task, Begin, Fill, Carry, Turn, AreTurns}
 use Rattle.sof_session.specs.Lives.{Life, Turned, Turns, reads_by, reads_in, with_out, carried_outs}
 use Rattle.sof_session.proofs.FilledRuns.{AreFilled}
 use Rattle.run_play.specs.Keeping.{fronted, fronted_at, records_behind, recorded_turns, recorded_outs}

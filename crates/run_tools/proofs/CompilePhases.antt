@@ -4,7 +4,7 @@ use Rattle.sof_desk.specs.Desk.{DeskMeaning, Create, Put, Slot, Loaded, Acted}
 use Rattle.tplg_model.specs.declared.block.Topology.{Topology}
 use Rattle.tplg_model.specs.File.{IsTopology, spelling}
 use Rattle.tplg_compile.specs.declared.source_fault.SourceFault.{SourceFault}
-use Rattle.tplg_compile.specs.declared.source_fault.SourceFault.TheVariants.{Syntax, Shape, Rule, OutOfMemory}
+use Rattle.tplg_compile.specs.declared.source_fault.SourceFault.TheVariants.{Syntax, OutOfMemory}
 use Rattle.tplg_compile.specs.Results.{FaultIs}
 use Rattle.tplg_compile.specs.InOrder.{compiled_of}
 use Rattle.run_desk.specs.Todo.{Todo, End, Stop, Ask, Do, Free, Played, DeskPhase}

@@ -10,7 +10,7 @@ use Rattle.ipc3_trace.specs.WholeTraces.{IsTraceOf}
 use Rattle.ipc3_trace.proofs.WholeLaws.{written-stand}
 use Rattle.sof_script.specs.declared.script.Command.{Command}
 use Rattle.sof_session.specs.Lives.{Life, Bare, Seated, Turns}
-use Rattle.sof_script.specs.Tasks.{Task, Begin, Fill, Carry, Give, Turn}
+use Rattle.sof_script.specs.Tasks.{Task, Begin, Carry, Turn}
 use Rattle.run_words.specs.Words.{Form}
 use Rattle.run_play.specs.Keeping.{LeftBy, TurnLeft, TurnsLeft}
 use Rattle.run_desk.specs.Lines.{no_memory_line}

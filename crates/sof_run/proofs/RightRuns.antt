@@ -19,7 +19,7 @@ use Rattle.host_widgets.specs.declared.kept.Power.TheVariants.{Unloaded, On, Off
 use Rattle.host_widgets.specs.declared.kept.Record.{Record}
 use Rattle.host_widgets.specs.Host.{Outcome}
 use Rattle.host_widgets.specs.Kept.{first_record, with_power, with_control}
-use Rattle.host_widgets.specs.HostActs.{Act, Make, Join, Put, Part, Finish, Prepare, Trig, Free, Save, Ask, Unmake, after, with_blob}
+use Rattle.host_widgets.specs.HostActs.{Act, Part, after, with_blob}
 use Rattle.mbox_link.specs.BlobParts.{is_last}
 use Rattle.host_widgets.specs.ActMessages.{act_message}
 use Rattle.stream_law.specs.Past.{Moment}

@@ -40,7 +40,7 @@ use Rattle.host_widgets.specs.Named.{loaded_fault}
 use Rattle.host_widgets.specs.ViewOf.{record_view}
 use Rattle.host_widgets.specs.Expected.{stream_view}
 use Rattle.host_widgets.specs.Acts.{widget_ids}
-use Rattle.host_widgets.specs.HostActs.{Act, Make, Join, Put, Part, Finish, Prepare, Trig, Free, Save, Ask, Unmake, after, fresh_in, prepared_stream, triggered_stream, with_blob}
+use Rattle.host_widgets.specs.HostActs.{Act, Make, Join, Part, Finish, Prepare, Trig, Free, Save, Ask, after, fresh_in, prepared_stream, triggered_stream, with_blob}
 use Rattle.host_widgets.specs.ActLists.{control_acts_by, control_acts, bring_up, prepare_by, prepare_acts, stop_by, stop_acts, close_by}
 use Rattle.host_widgets.specs.OneAct.{act_rules, Performed, one_act, performed, outcome_by, own, lag_of}
 use Rattle.host_widgets.specs.Walk.{Walked, walk, goes_past, followed_by}

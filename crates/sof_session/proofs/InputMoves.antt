@@ -2,7 +2,7 @@
 use Rattle.std.proofs.Common.{◌≡◌, refl, sym, ap, ◌∙◌, subst, ℕ, zero, suc, ◌+◌, ◌*◌, ◌≤◌, List, [], ◌∷◌, ◌++◌, replicate, Bool, true, false, cond, arith}
 use Rattle.std.proofs.Math.Nat.{mul-le-mul_right}
 use Rattle.sof_base.specs.declared.format.Format.{Format}
-use Rattle.sof_base.specs.declared.format.Format.TheVariants.{S16, S24, S32}
+use Rattle.sof_base.specs.declared.format.Format.TheVariants.{S16}
 use Rattle.sof_base.specs.Samples.{width}
 use Rattle.stream_law.specs.State.{View}
 use Rattle.stream_law.specs.Table.{number_of}

@@ -7,7 +7,7 @@ use Rattle.sof_base.specs.declared.errno.Errno.{Errno}
 use Rattle.stream_law.specs.declared.graph.Join.{Join as Wire}
 use Rattle.stream_law.specs.declared.graph.Pipe.{Pipe}
 use Rattle.mbox_link.specs.declared.fates.Fate.{Fate}
-use Rattle.mbox_link.specs.declared.fates.Fate.TheVariants.{Pass, Refuse, Drop, Lose}
+use Rattle.mbox_link.specs.declared.fates.Fate.TheVariants.{Pass, Refuse}
 use Rattle.mbox_link.specs.Meetings.{Doing, Queue, next_meeting}
 use Rattle.mbox_link.specs.Step.{no_memory}
 use Rattle.tplg_plan.specs.declared.plans.Plan.{Plan}

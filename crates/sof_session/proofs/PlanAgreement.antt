@@ -13,7 +13,7 @@ use Rattle.mbox_link.specs.Wire.{Wire}
 use Rattle.mbox_link.specs.Planned.{Planned, LagPlanned, PlannedSo, holding}
 use Rattle.mbox_link.proofs.FateLaws.{AreHeld-with, lags-planned, planned-meant}
 use Rattle.host_widgets.specs.declared.kept.Power.{Power}
-use Rattle.host_widgets.specs.declared.kept.Power.TheVariants.{Unloaded, On, Off}
+use Rattle.host_widgets.specs.declared.kept.Power.TheVariants.{Unloaded}
 use Rattle.sof_session.specs.Agreement.{AreAgreed, Powered, PoweredBy}
 use Rattle.sof_session.specs.CommandRanges.{is_refusal}
 use Rattle.sof_session.specs.SessionView.{SessionView}

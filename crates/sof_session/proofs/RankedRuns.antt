@@ -27,7 +27,7 @@ use Rattle.host_widgets.specs.ViewOf.{record_view, graph_by}
 use Rattle.host_widgets.specs.Walk.{Walked, walk, followed_by, goes_past}
 use Rattle.host_widgets.proofs.SoundPlays.{sound-plays}
 use Rattle.host_pcm.specs.declared.asking.Ask.{Ask}
-use Rattle.host_pcm.specs.declared.asking.Ask.TheVariants.{Opening, Preparing, Triggering, Closing}
+use Rattle.host_pcm.specs.declared.asking.Ask.TheVariants.{Opening}
 use Rattle.host_pcm.specs.Asks.{stream_place, stream_at}
 use Rattle.host_pcm.specs.StreamOrders.{asking_order}
 use Rattle.host_pcm.specs.StreamCalls.{host_at}

@@ -6,12 +6,12 @@ use Rattle.host_widgets.specs.declared.answers.Answer.{Answer}
 use Rattle.host_widgets.specs.declared.kept.ControlRec.{ControlRec}
 use Rattle.host_widgets.specs.declared.kept.Found.{Found}
 use Rattle.host_widgets.specs.declared.kept.Power.{Power}
-use Rattle.host_widgets.specs.declared.kept.Power.TheVariants.{Unloaded, On, Off}
+use Rattle.host_widgets.specs.declared.kept.Power.TheVariants.{On}
 use Rattle.host_widgets.specs.declared.kept.Record.{Record}
 use Rattle.host_widgets.specs.HostActs.{Act}
 use Rattle.host_widgets.specs.Orders.{Procedure, Plain, quiet, sends}
 use Rattle.host_pcm.specs.declared.asking.Ask.{Ask}
-use Rattle.host_pcm.specs.declared.asking.Ask.TheVariants.{Opening, Preparing, Triggering, Closing}
+use Rattle.host_pcm.specs.declared.asking.Ask.TheVariants.{Opening}
 use Rattle.host_pcm.specs.StreamOrders.{asking_order}
 use Rattle.host_ctl.specs.ControlAsks.{named_control}
 use Rattle.host_ctl.specs.ControlOrders.{setting_order, set_order, installing_order, bytes_order, get_order, named_at, reading_order, read_order}

@@ -33,7 +33,7 @@ use Rattle.host_widgets.specs.declared.trigger.Trigger.{Trigger}
 use Rattle.host_widgets.specs.declared.trigger.Trigger.TheVariants as triggers
 use Rattle.host_widgets.specs.Acts.{widget_words, pipe_by_id, comp_message, buffer_message, pipe_message, trigger_message}
 use Rattle.host_widgets.specs.ActMessages.{set_message, put_message, get_message, ask_message, act_message, unmake_by}
-use Rattle.host_widgets.specs.HostActs.{Make, Join, Put, Part, Finish, Prepare, Trig, Free, Save, Ask, Act, Unmake}
+use Rattle.host_widgets.specs.HostActs.{Make, Join, Put, Part, Trig, Ask, Act, Unmake}
 use Rattle.host_widgets.specs.Controls.{control_of}
 use Rattle.host_widgets.specs.Kept.{first_record}
 use Rattle.host_widgets.proofs.NamedIds.{buffer-found}

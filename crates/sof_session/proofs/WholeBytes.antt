@@ -12,7 +12,7 @@ use Rattle.stream_law.specs.Moves.{fed}
 use Rattle.stream_law.specs.Made.{frames_made, frames_for}
 use Rattle.stream_law.specs.Ramps.{ramped_frames}
 use Rattle.stream_law.specs.Seen.{ramp_length}
-use Rattle.stream_law.specs.Past.{Moment, Boot, Cut, Now, Tick, Past, Ticks, Follows, Leads, frames_now, frames_read, slices, equalised_after}
+use Rattle.stream_law.specs.Past.{Moment, Tick, Past, Ticks, Follows, Leads, frames_now, frames_read, slices, equalised_after}
 use Rattle.stream_law.proofs.Among.{value_of-updated_among, value_of-updated_apart}
 use Rattle.stream_law.proofs.Filled.{filled, leads-filled}
 use Rattle.sof_session.specs.Fills.{AreWhole, may_grow}

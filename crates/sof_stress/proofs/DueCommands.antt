@@ -19,51 +19,13 @@ mode-most None = lit≤ tt
 mode-most (Some up) = lit≤ tt
 
 pub at-most-by : (up : Option (List ℕ)) (c : Command) → most_sent_by up c ≤ 1200
-at-most-by up commands.Load = mode-most up
-at-most-by up commands.Unload = mode-most up
-at-most-by up commands.Suspend = mode-most up
-at-most-by up commands.Resume = mode-most up
-at-most-by up commands.Show = mode-most up
-at-most-by up (commands.Open name) = mode-most up
-at-most-by up (commands.Start name) = mode-most up
-at-most-by up (commands.Stop name) = mode-most up
-at-most-by up (commands.Pause name) = mode-most up
-at-most-by up (commands.Release name) = mode-most up
-at-most-by up (commands.Close name) = mode-most up
-at-most-by up (commands.Get name) = mode-most up
-at-most-by up (commands.Read name) = mode-most up
-at-most-by up (commands.Params name p) = mode-most up
-at-most-by up (commands.Set name v) = mode-most up
-at-most-by up (commands.Bytes name b) = mode-most up
 at-most-by up (commands.Tick t) = lit≤ tt
-at-most-by up (commands.Refuse k e) = mode-most up
-at-most-by up (commands.Drop k) = mode-most up
-at-most-by up (commands.Lose k) = mode-most up
-at-most-by up (commands.Lag k t) = mode-most up
+at-most-by up c = mode-most up
 
 -- none that is due has more than ten turns
 pub earlier-few : (c : Command) → command_ticks c ≤ 10 → earlier_turns c ≤ 9
-earlier-few commands.Load few = omega arith
-earlier-few commands.Unload few = omega arith
-earlier-few commands.Suspend few = omega arith
-earlier-few commands.Resume few = omega arith
-earlier-few commands.Show few = omega arith
-earlier-few (commands.Open name) few = omega arith
-earlier-few (commands.Start name) few = omega arith
-earlier-few (commands.Stop name) few = omega arith
-earlier-few (commands.Pause name) few = omega arith
-earlier-few (commands.Release name) few = omega arith
-earlier-few (commands.Close name) few = omega arith
-earlier-few (commands.Get name) few = omega arith
-earlier-few (commands.Read name) few = omega arith
-earlier-few (commands.Params name p) few = omega arith
-earlier-few (commands.Set name v) few = omega arith
-earlier-few (commands.Bytes name b) few = omega arith
 earlier-few (commands.Tick t) few = omega (arith, few)
-earlier-few (commands.Refuse k e) few = omega arith
-earlier-few (commands.Drop k) few = omega arith
-earlier-few (commands.Lose k) few = omega arith
-earlier-few (commands.Lag k t) few = omega arith
+earlier-few c few = omega arith
 
 -- ---- lists
 

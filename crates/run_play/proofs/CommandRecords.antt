@@ -11,7 +11,7 @@ use Rattle.mbox_link.specs.declared.fates.Fate.TheVariants.{Pass, Refuse, Drop, 
 use Rattle.mbox_link.specs.Exchange.{more}
 use Rattle.mbox_link.specs.CalmDevice.{calm}
 use Rattle.mbox_link.specs.Calls as calls
-use Rattle.mbox_link.specs.Calls.{World, Meaning, Led, Steady}
+use Rattle.mbox_link.specs.Calls.{World, Meaning, Call, Led, Steady}
 use Rattle.mbox_link.specs.declared.fates.Entry.{Entry as MeetingEntry}
 use Rattle.mbox_link.specs.Meetings.{Meeting, Queue, Doing, fate_met, next_meeting, planned, queue_of, without_entry}
 use Rattle.mbox_link.specs.Wire.{Wire}
@@ -54,6 +54,7 @@ use Rattle.sof_session.proofs.SentOrders.{IsSent, sent-stream}
 use Rattle.sof_session.proofs.ControlCalls.{sent-set, sent-get, sent-read, sent-bytes}
 use Rattle.sof_session.proofs.FewOrders.{few-order, few-most}
 use Rattle.sof_session.proofs.SameNext.{due}
+use Rattle.run_play.specs.StepCalls.{met_calls, exchange_calls, calls_onwards, acts_calls, routine_calls, calls_by, command_calls}
 use Rattle.run_play.specs.Met.{sent_deeds, act_deeds, walk_deeds, moment_deeds, order_deeds, deeds_by, command_deeds}
 use Rattle.run_play.proofs.DeedRecords.{Leaves, none-leaves, within, retold, append-leaves, boot-leaves, cut-leaves, tick-leaves, ticks-leave, ticks-on, exchange-leaves}
 
@@ -109,8 +110,8 @@ module _ {P : Type 0} (device : Meaning P) (C : Type 0) (plan : Plan) (heap : �
   abbrev R : ActRules Record Act
   R = act_rules plan heap
 
-  abbrev L : World (Traced P) → World (Traced P) → List Deed → ℕ → Type 0
-  L w v deeds most = Leaves device C w v deeds most
+  abbrev L : World (Traced P) → World (Traced P) → List Call → List Deed → ℕ → Type 0
+  L w v cs deeds most = Leaves device C w v cs deeds most
 
   -- the device does nothing of its own accord from one world to another
   abbrev IsCalm : World (Wire (Traced P)) → World (Wire (Traced P)) → Type 0
@@ -118,31 +119,31 @@ module _ {P : Type 0} (device : Meaning P) (C : Type 0) (plan : Plan) (heap : �
 
   -- ---- moments
 
-  pub moments-leave : (moments : List Moment) (w v : World (Wire (Traced P))) → Led (link T) w (calls_of heap moments) v → L (inner w) (inner v) (moment_deeds heap moments) (392 * length moments)
-  moments-leave [] w v led = within device C (inner w) (inner v) [] 0 (392 * 0) (omega arith) (none-leaves device C (inner w) (inner v) (ap (λ (x : World (Wire (Traced P))). inner x) led))
+  pub moments-leave : (moments : List Moment) (w v : World (Wire (Traced P))) → Led (link T) w (calls_of heap moments) v → L (inner w) (inner v) (calls_of heap moments) (moment_deeds heap moments) (392 * length moments)
+  moments-leave [] w v led = within device C (inner w) (inner v) [] [] 0 (392 * 0) (omega arith) (none-leaves device C (inner w) (inner v) (ap (λ (x : World (Wire (Traced P))). inner x) led))
   moments-leave (past.Now view fresh ∷ moments) w v led =
-      within device C (inner w) (inner v) (moment_deeds heap moments) (392 * length moments) (392 * length (past.Now view fresh ∷ moments)) (omega arith) (moments-leave moments w v led)
+      within device C (inner w) (inner v) (calls_of heap moments) (moment_deeds heap moments) (392 * length moments) (392 * length (past.Now view fresh ∷ moments)) (omega arith) (moments-leave moments w v led)
   moments-leave (past.Boot ∷ moments) w v led =
-      within device C (inner w) (inner v) (Start heap ∷ moment_deeds heap moments) (392 + 392 * length moments) (392 * length (past.Boot ∷ moments)) (omega arith)
-      (append-leaves device C (inner w) (inner led.0) (inner v) (Start heap ∷ []) (moment_deeds heap moments) 392 (392 * length moments)
+      within device C (inner w) (inner v) (calls.Boot heap ∷ calls_of heap moments) (Start heap ∷ moment_deeds heap moments) (392 + 392 * length moments) (392 * length (past.Boot ∷ moments)) (omega arith)
+      (append-leaves device C (inner w) (inner led.0) (inner v) (calls.Boot heap ∷ []) (calls_of heap moments) (Start heap ∷ []) (moment_deeds heap moments) 392 (392 * length moments)
       (boot-leaves device C heap (inner w) (inner led.0) (led.1.0.did.0, led.1.1)) (moments-leave moments led.0 v led.2))
   moments-leave (past.Cut ∷ moments) w v led =
-      within device C (inner w) (inner v) (Stop ∷ moment_deeds heap moments) (392 + 392 * length moments) (392 * length (past.Cut ∷ moments)) (omega arith)
-      (append-leaves device C (inner w) (inner led.0) (inner v) (Stop ∷ []) (moment_deeds heap moments) 392 (392 * length moments)
+      within device C (inner w) (inner v) (calls.Cut ∷ calls_of heap moments) (Stop ∷ moment_deeds heap moments) (392 + 392 * length moments) (392 * length (past.Cut ∷ moments)) (omega arith)
+      (append-leaves device C (inner w) (inner led.0) (inner v) (calls.Cut ∷ []) (calls_of heap moments) (Stop ∷ []) (moment_deeds heap moments) 392 (392 * length moments)
       (cut-leaves device C (inner w) (inner led.0) (led.1.0.did.0, led.1.1)) (moments-leave moments led.0 v led.2))
   moments-leave (past.Tick ∷ moments) w v led =
-      within device C (inner w) (inner v) (Wait ∷ moment_deeds heap moments) (8 + 392 * length moments) (392 * length (past.Tick ∷ moments)) (omega arith)
-      (append-leaves device C (inner w) (inner led.0) (inner v) (Wait ∷ []) (moment_deeds heap moments) 8 (392 * length moments)
+      within device C (inner w) (inner v) (calls.Tick ∷ calls_of heap moments) (Wait ∷ moment_deeds heap moments) (8 + 392 * length moments) (392 * length (past.Tick ∷ moments)) (omega arith)
+      (append-leaves device C (inner w) (inner led.0) (inner v) (calls.Tick ∷ []) (calls_of heap moments) (Wait ∷ []) (moment_deeds heap moments) 8 (392 * length moments)
       (tick-leaves device C (inner w) (inner led.0) led.1.did.0) (moments-leave moments led.0 v led.2))
 
   -- ---- one act
 
   -- by its planned fate
-  fate-leaves : (fate : Fate) (request : List ℕ) (answer : Option (List ℕ)) (w v : World (Traced P)) → is_some (T.on w.device) ≡ true → length request ≤ 384 → (C → Calm T w.device v.device) → Met T fate request answer w v →
-      L w v (sent_deeds (fate_met fate Pass) request) 784
+  fate-leaves : (fate : Fate) (request : List ℕ) (answer : Option (List ℕ)) (w v : World (Traced P)) → is_some (T.on w.device) ≡ true → length request ≤ 384 → (C → Calm T w.device v.device) → (met : Met T fate request answer w v) →
+      L w v (met_calls T fate request answer w v met) (sent_deeds (fate_met fate Pass) request) 784
   fate-leaves Pass request answer w v on short quiet met = exchange-leaves device C request answer w v on short met quiet
-  fate-leaves (Refuse e) request answer w v on short quiet met = within device C w v [] 0 784 (omega arith) (none-leaves device C w v met.1)
-  fate-leaves Drop request answer w v on short quiet met = within device C w v [] 0 784 (omega arith) (none-leaves device C w v met.1)
+  fate-leaves (Refuse e) request answer w v on short quiet met = within device C w v [] [] 0 784 (omega arith) (none-leaves device C w v met.1)
+  fate-leaves Drop request answer w v on short quiet met = within device C w v [] [] 0 784 (omega arith) (none-leaves device C w v met.1)
   fate-leaves Lose request answer w v on short quiet met = exchange-leaves device C request met.1 w v on short met.2 quiet
 
   -- the meeting that is planned for the next message, where the device passes it
@@ -159,7 +160,7 @@ module _ {P : Type 0} (device : Meaning P) (C : Type 0) (plan : Plan) (heap : �
     lag-few : next_lag w.device ≤ 16
     lag-few = omega (arith, lag-held (more w.device.sent) w.device.entries fated.held (next_lag w.device) refl, fated.held.few)
 
-    pub act-leaves : L (inner w) (inner v) (act_deeds plan act (next_due w.device).0) 912
+    pub act-leaves : L (inner w) (inner v) (exchange_calls T request did.answer w v did.exchanged) (act_deeds plan act (next_due w.device).0) 912
     act-leaves =
         let late = did.exchanged.did.0 in
         let n = next_lag w.device in
@@ -169,8 +170,8 @@ module _ {P : Type 0} (device : Meaning P) (C : Type 0) (plan : Plan) (heap : �
         let still = Steady-none T v.device.device v.device.device refl in
         let rest = fate-leaves (next_fate w.device) request did.answer mid (inner v) (ticks-on device C n (inner w) mid late.1 did.on) short
         (λ c. Calm-between T w.device.device mid.device v.device.device v.device.device steady still (quiet c)) late.2 in
-        within device C (inner w) (inner v) (act_deeds plan act (next_due w.device).0) (8 * n + 784) 912 (omega (arith, lag-few))
-        (append-leaves device C (inner w) mid (inner v) (replicate n Wait) (sent_deeds (fate_met (next_fate w.device) Pass) request) (8 * n) 784 first rest)
+        within device C (inner w) (inner v) (exchange_calls T request did.answer w v did.exchanged) (act_deeds plan act (next_due w.device).0) (8 * n + 784) 912 (omega (arith, lag-few))
+        (append-leaves device C (inner w) mid (inner v) (replicate n calls.Tick) (met_calls T (next_fate w.device) request did.answer mid (inner v) late.2) (replicate n Wait) (sent_deeds (fate_met (next_fate w.device) Pass) request) (8 * n) 784 first rest)
 
   -- ---- acts, one after another
 
@@ -211,7 +212,10 @@ module _ {P : Type 0} (device : Meaning P) (C : Type 0) (plan : Plan) (heap : �
       first-steady : Steady T w.device.device mid.device.device
       first-steady = exchange_steady T asked did.answer w mid did.exchanged
 
-      first : (C → Calm T w.device.device mid.device.device) → L (inner w) (inner mid) (act_deeds plan act (next_due w.device).0) 912
+      abbrev its : List Call
+      its = exchange_calls T asked did.answer w mid did.exchanged
+
+      first : (C → Calm T w.device.device mid.device.device) → L (inner w) (inner mid) its (act_deeds plan act (next_due w.device).0) 912
       first calm_first = act-leaves kept act m w mid did fated calm_first
 
       pub later-fated : IsFated mid.device
@@ -228,28 +232,35 @@ module _ {P : Type 0} (device : Meaning P) (C : Type 0) (plan : Plan) (heap : �
       ends : Steady T v.device.device v.device.device
       ends = Steady-none T v.device.device v.device.device refl
 
-      pub walk-on : (b : Bool) → goes_past goes_on made.outcome ≡ b → (ActsDid (link T) R goes_on made.kept acts ms mid v → IsCalm mid v → L (inner mid) (inner v) (deeds_at made.kept (queue_of mid.device) acts) (912 * length acts)) →
-          Onwards b ms mid v (ActsDid (link T) R goes_on made.kept acts ms mid v) → L (inner w) (inner v) (deeds_at kept (queue_of w.device) (act ∷ acts)) (912 * length (act ∷ acts))
+      -- the acts after it, and their calls
+      abbrev Others : Type 0
+      Others = ActsDid (link T) R goes_on made.kept acts ms mid v
+
+      abbrev others_calls : Others → List Call
+      others_calls on = acts_calls T R goes_on made.kept acts ms mid v on
+
+      pub walk-on : (b : Bool) → goes_past goes_on made.outcome ≡ b → ((on : Others) → IsCalm mid v → L (inner mid) (inner v) (others_calls on) (deeds_at made.kept (queue_of mid.device) acts) (912 * length acts)) →
+          (on : Onwards b ms mid v Others) → L (inner w) (inner v) (its ++ calls_onwards b ms mid v Others others_calls on) (deeds_at kept (queue_of w.device) (act ∷ acts)) (912 * length (act ∷ acts))
       walk-on true goes others on =
           let rest_steady = acts-steady T R goes_on acts ms made.kept mid v on in
           let here = first (λ c. Calm-between T w.device.device w.device.device mid.device.device v.device.device begins rest_steady (quiet c)) in
           let rest = others on (λ c. Calm-between T w.device.device mid.device.device v.device.device v.device.device first-steady ends (quiet c)) in
-          within device C (inner w) (inner v) (deeds_at kept (queue_of w.device) (act ∷ acts)) (912 + 912 * length acts) (912 * length (act ∷ acts)) (omega arith)
-          (retold device C (inner w) (inner v) (act_deeds plan act (next_due w.device).0 ++ deeds_at made.kept (queue_of mid.device) acts) (deeds_at kept (queue_of w.device) (act ∷ acts)) (912 + 912 * length acts)
+          within device C (inner w) (inner v) (its ++ others_calls on) (deeds_at kept (queue_of w.device) (act ∷ acts)) (912 + 912 * length acts) (912 * length (act ∷ acts)) (omega arith)
+          (retold device C (inner w) (inner v) (its ++ others_calls on) (act_deeds plan act (next_due w.device).0 ++ deeds_at made.kept (queue_of mid.device) acts) (deeds_at kept (queue_of w.device) (act ∷ acts)) (912 + 912 * length acts)
           (λ c. tells kept act m acts w mid did fated none (λ d. (so d).0) c true goes (deeds_at made.kept (queue_of mid.device) acts) refl)
-          (append-leaves device C (inner w) (inner mid) (inner v) (act_deeds plan act (next_due w.device).0) (deeds_at made.kept (queue_of mid.device) acts) 912 (912 * length acts) here rest))
+          (append-leaves device C (inner w) (inner mid) (inner v) its (others_calls on) (act_deeds plan act (next_due w.device).0) (deeds_at made.kept (queue_of mid.device) acts) 912 (912 * length acts) here rest))
       walk-on false goes others on =
           let end = Steady-none T mid.device.device v.device.device (ap (λ (x : World (Wire (Traced P))). x.device.device) on.1) in
           let here = first (λ c. Calm-between T w.device.device w.device.device mid.device.device v.device.device begins end (quiet c)) in
           let none_behind = none-leaves device C (inner mid) (inner v) (ap (λ (x : World (Wire (Traced P))). inner x) on.1) in
-          within device C (inner w) (inner v) (deeds_at kept (queue_of w.device) (act ∷ acts)) (912 + 0) (912 * length (act ∷ acts)) (omega arith)
-          (retold device C (inner w) (inner v) (act_deeds plan act (next_due w.device).0 ++ []) (deeds_at kept (queue_of w.device) (act ∷ acts)) (912 + 0)
+          within device C (inner w) (inner v) (its ++ []) (deeds_at kept (queue_of w.device) (act ∷ acts)) (912 + 0) (912 * length (act ∷ acts)) (omega arith)
+          (retold device C (inner w) (inner v) (its ++ []) (act_deeds plan act (next_due w.device).0 ++ []) (deeds_at kept (queue_of w.device) (act ∷ acts)) (912 + 0)
           (λ c. tells kept act m acts w mid did fated none (λ d. (so d).0) c false goes [] refl)
-          (append-leaves device C (inner w) (inner mid) (inner v) (act_deeds plan act (next_due w.device).0) [] 912 0 here none_behind))
+          (append-leaves device C (inner w) (inner mid) (inner v) its [] (act_deeds plan act (next_due w.device).0) [] 912 0 here none_behind))
 
-    pub walk-leaves : (acts : List Act) (ms : List Meeting) (kept : Record) (w v : World (Wire (Traced P))) → ActsDid (link T) R goes_on kept acts ms w v → IsFated w.device → T.pending w.device.device ≡ 0 → IsCalm w v →
-        (C → DidSo calm w.device.sent w.device.entries ms) → L (inner w) (inner v) (deeds_at kept (queue_of w.device) acts) (912 * length acts)
-    walk-leaves [] ms kept w v did fated none quiet so = within device C (inner w) (inner v) [] 0 (912 * 0) (omega arith) (none-leaves device C (inner w) (inner v) (ap (λ (x : World (Wire (Traced P))). inner x) did.1))
+    pub walk-leaves : (acts : List Act) (ms : List Meeting) (kept : Record) (w v : World (Wire (Traced P))) (did : ActsDid (link T) R goes_on kept acts ms w v) → IsFated w.device → T.pending w.device.device ≡ 0 → IsCalm w v →
+        (C → DidSo calm w.device.sent w.device.entries ms) → L (inner w) (inner v) (acts_calls T R goes_on kept acts ms w v did) (deeds_at kept (queue_of w.device) acts) (912 * length acts)
+    walk-leaves [] ms kept w v did fated none quiet so = within device C (inner w) (inner v) [] [] 0 (912 * 0) (omega arith) (none-leaves device C (inner w) (inner v) (ap (λ (x : World (Wire (Traced P))). inner x) did.1))
     walk-leaves (act ∷ acts) [] kept w v did fated none quiet so = absurd did
     walk-leaves (act ∷ acts) (m ∷ ms) kept w v did fated none quiet so =
         let a = one_act R kept act m in
@@ -291,7 +302,10 @@ module _ {P : Type 0} (device : Meaning P) (C : Type 0) (plan : Plan) (heap : �
     steady-last : Steady T c.sent.device.device v.device.device
     steady-last = Led-inside T (calls_of heap (last_of met)) c.sent v c.ends.1
 
-    walked : L (inner c.begun) (inner c.sent) (deeds_at goes_on kept (queue_of c.begun.device) o.acts) (912 * length o.acts)
+    abbrev acts_are : List Call
+    acts_are = acts_calls T R goes_on kept o.acts c.meetings c.begun c.sent c.walked
+
+    walked : L (inner c.begun) (inner c.sent) acts_are (deeds_at goes_on kept (queue_of c.begun.device) o.acts) (912 * length o.acts)
     walked =
         walk-leaves goes_on o.acts c.meetings kept c.begun c.sent c.walked begun_fated begun_none
         (λ x. Calm-between T w.device.device c.begun.device.device c.sent.device.device v.device.device steady-first steady-last (quiet x)) begun_so
@@ -302,19 +316,21 @@ module _ {P : Type 0} (device : Meaning P) (C : Type 0) (plan : Plan) (heap : �
         let agreed = walks-agree T R goes_on calm o.acts c.meetings kept c.begun c.sent c.walked begun_none begun_fated.held (begun_so x) in
         (λ i. (end_by o.ending plan o.done kept (agreed.same.left i) (agreed.same.outcome i)).1) ∙ ap (λ (q : Queue). last_of (written q)) before.queue
 
-    pub order-leaves : length o.first ≤ 1 → L (inner w) (inner v) (order_deeds plan heap (known_of w.device kept) o) (784 + 912 * length o.acts)
+    pub order-leaves : length o.first ≤ 1 → L (inner w) (inner v) (calls_of heap o.first ++ (acts_are ++ calls_of heap (last_of met))) (order_deeds plan heap (known_of w.device kept) o) (784 + 912 * length o.acts)
     order-leaves few =
         let first = moments-leave o.first w c.begun c.first in
         let last = moments-leave (last_of met) c.sent v c.ends.1 in
         let d = moment_deeds heap o.first in
         let e = deeds_at goes_on kept (queue_of c.begun.device) o.acts in
         let f = moment_deeds heap (last_of met) in
-        within device C (inner w) (inner v) (order_deeds plan heap (known_of w.device kept) o) (392 * length o.first + (912 * length o.acts + 392 * length (last_of met))) (784 + 912 * length o.acts)
+        let cs_first : List Call = calls_of heap o.first in
+        let cs_last : List Call = calls_of heap (last_of met) in
+        within device C (inner w) (inner v) (cs_first ++ (acts_are ++ cs_last)) (order_deeds plan heap (known_of w.device kept) o) (392 * length o.first + (912 * length o.acts + 392 * length (last_of met))) (784 + 912 * length o.acts)
         (omega (arith, few, last-few o.ending plan o.done kept met.kept met.outcome))
-        (retold device C (inner w) (inner v) (d ++ (e ++ f)) (order_deeds plan heap (known_of w.device kept) o) (392 * length o.first + (912 * length o.acts + 392 * length (last_of met)))
+        (retold device C (inner w) (inner v) (cs_first ++ (acts_are ++ cs_last)) (d ++ (e ++ f)) (order_deeds plan heap (known_of w.device kept) o) (392 * length o.first + (912 * length o.acts + 392 * length (last_of met)))
         (λ x i. d ++ (deeds_at goes_on kept (before.queue i) o.acts ++ moment_deeds heap (same-last x i)))
-        (append-leaves device C (inner w) (inner c.begun) (inner v) d (e ++ f) (392 * length o.first) (912 * length o.acts + 392 * length (last_of met)) first
-        (append-leaves device C (inner c.begun) (inner c.sent) (inner v) e f (912 * length o.acts) (392 * length (last_of met)) walked last)))
+        (append-leaves device C (inner w) (inner c.begun) (inner v) cs_first (acts_are ++ cs_last) d (e ++ f) (392 * length o.first) (912 * length o.acts + 392 * length (last_of met)) first
+        (append-leaves device C (inner c.begun) (inner c.sent) (inner v) acts_are cs_last e f (912 * length o.acts) (392 * length (last_of met)) walked last)))
 
 -- ---- a command
 
@@ -329,9 +345,12 @@ met-calm doing none sent entries (m ∷ ms) as_met =
     by Pass is = sym (none (more sent)) ∙ is refl
     by fate is = refl
 
--- An order whose job is done was carried out, and its messages met the same.
-job-met : {D : Type 0} (means : Meaning D) (plan : Plan) (heap : ℕ) (o : Procedure) (kept kept' : Record) (w v : World D) (result : Outcome) (j : JobDone means (act_rules plan heap) heap (order_job plan kept o) kept' w v result) →
-    (c : Carried means plan heap o kept kept' w v result) × (j.meetings ≡ c.meetings)
+-- An order whose job is done was carried out, and its messages met the same, by the same calls.
+job-met : {P : Type 0} (means : Meaning P) (plan : Plan) (heap : ℕ) (o : Procedure) (kept kept' : Record) (w v : World (Wire P)) (result : Outcome) (j : JobDone (link means) (act_rules plan heap) heap (order_job plan kept o) kept' w v result) →
+    (c : Carried (link means) plan heap o kept kept' w v result) × (j.meetings ≡ c.meetings)
+    × (acts_calls means (act_rules plan heap) (goes_on_after_refusal o.ending) kept o.acts c.meetings c.begun c.sent c.walked
+    ++ calls_of heap (end_by o.ending plan o.done kept (walk (act_rules plan heap) (goes_on_after_refusal o.ending) next_of kept c.meetings o.acts).kept (walk (act_rules plan heap) (goes_on_after_refusal o.ending) next_of kept c.meetings o.acts).outcome).1
+    ≡ routine_calls means (act_rules plan heap) heap kept (order_job plan kept o).routine j.meetings j.begun v j.did)
 job-met means plan heap o kept kept' w v result j =
     let early = j.did.0 in
     let rest = j.did.5 in
@@ -346,6 +365,7 @@ job-met means plan heap o kept kept' w v result j =
         ends = (j.left ∙ ap (λ (ms : List Meeting). (walk_routine (act_rules plan heap) next_of kept ms (order_job plan kept o).routine).kept) same, rest.1);
       },
       same,
+      refl,
     )
 
 module _ {P : Type 0} (device : Meaning P) (plan : Plan) (heap : ℕ) (command : Command) (kept kept' : Record) (w v : World (Wire (Traced P))) (answer : Answer) (sound : IsSound plan) (is : IsRecordOf plan kept) (fated : IsFated w.device)
@@ -357,24 +377,26 @@ module _ {P : Type 0} (device : Meaning P) (plan : Plan) (heap : ℕ) (command :
   o = order_of plan kept command
 
   -- Its calls leave records in front of which there is room, each of which a reader takes; and those of its deeds, where no count rose.
-  abbrev pub Left : List Deed → Type 0
-  Left deeds = Leaves device C (inner w) (inner v) deeds 1048576
+  abbrev pub Left : List Call → List Deed → Type 0
+  Left cs deeds = Leaves device C (inner w) (inner v) cs deeds 1048576
 
-  still : inner v ≡ inner w → Left []
-  still same = within device C (inner w) (inner v) [] 0 1048576 (omega arith) (none-leaves device C (inner w) (inner v) same)
+  still : inner v ≡ inner w → Left [] []
+  still same = within device C (inner w) (inner v) [] [] 0 1048576 (omega arith) (none-leaves device C (inner w) (inner v) same)
 
-  calls-leave : (is_planned : Bool) (fault : Option HostFault) → fault_of plan kept command ≡ fault → CallsBy (tracer device) (act_rules plan heap) heap done.doing (order_job plan kept o) kept' w v answer is_planned fault →
-      Left (deeds_by plan heap (known_of w.device kept) o is_planned fault)
+  calls-leave : (is_planned : Bool) (fault : Option HostFault) → fault_of plan kept command ≡ fault → (by : CallsBy (tracer device) (act_rules plan heap) heap done.doing (order_job plan kept o) kept' w v answer is_planned fault) →
+      Left (calls_by (tracer device) (act_rules plan heap) heap done.doing (order_job plan kept o) kept' w v answer is_planned fault by) (deeds_by plan heap (known_of w.device kept) o is_planned fault)
   calls-leave true fault at by = still (λ i. record { device = by.0 i; io = by.1 i })
   calls-leave false (Some fault) at by = still (ap (λ (x : World (Wire (Traced P))). inner x) by)
   calls-leave false None at by =
-      let carried = job-met (link (tracer device)) plan heap o kept kept' w v by.0 by.1 in
+      let carried = job-met (tracer device) plan heap o kept kept' w v by.0 by.1 in
       let c = carried.0 in
       let met : DidAsMet done.doing (queue_of w.device) c.meetings = subst (DidAsMet done.doing (queue_of w.device)) carried.1 by.3 in
       let few : length (due o (fault_of plan kept command)) ≤ 900 = omega (arith, few-order plan sound command kept is, few-most command) in
       let acts : length o.acts ≤ 900 = subst (λ (f : Option HostFault). length (due o f) ≤ 900) at few in
-      within device C (inner w) (inner v) (order_deeds plan heap (known_of w.device kept) o) (784 + 912 * length o.acts) 1048576 (omega (arith, acts))
-      (order-leaves device C plan heap o kept kept' w v by.0 c fated none (λ x. x) (λ x. met-calm done.doing (done.none x) w.device.sent w.device.entries c.meetings met) (first-few plan sound kept is command at))
+      let left = order-leaves device C plan heap o kept kept' w v by.0 c fated none (λ x. x) (λ x. met-calm done.doing (done.none x) w.device.sent w.device.entries c.meetings met) (first-few plan sound kept is command at) in
+      let its : List Call = calls_of heap o.first ++ routine_calls (tracer device) (act_rules plan heap) heap kept (order_job plan kept o).routine by.1.meetings by.1.begun v by.1.did in
+      within device C (inner w) (inner v) its (order_deeds plan heap (known_of w.device kept) o) (784 + 912 * length o.acts) 1048576 (omega (arith, acts))
+      (subst (λ (cs : List Call). Leaves device C (inner w) (inner v) (calls_of heap o.first ++ cs) (order_deeds plan heap (known_of w.device kept) o) (784 + 912 * length o.acts)) carried.2 left)
 
-  pub command-leaves : Left (command_deeds plan heap (known_of w.device kept) command)
+  pub command-leaves : Left (command_calls (tracer device) (command_rules plan heap) heap command kept kept' w v answer done) (command_deeds plan heap (known_of w.device kept) command)
   command-leaves = calls-leave (is_plan command) (fault_of plan kept command) refl done.calls

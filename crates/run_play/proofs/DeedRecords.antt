@@ -73,14 +73,13 @@ module _ {P : Type 0} (device : Meaning P) (C : Type 0) where
   abbrev T : Meaning (Traced P)
   T = tracer device
 
-  -- Calls lead from one world to another, and leave at most so many bytes of records, each of which a reader takes. They are the records of
-  -- these deeds, from where the records before lead.
-  pub record Leaves (w v : World (Traced P)) (deeds : List Deed) (most : ℕ) : Type 0 where
-    pub calls : List Call
-    pub led : Led T w calls v
-    pub are : AllByRecursion IsEntry (entries_along T w calls v led)
-    pub few : length (records_bytes (entries_along T w calls v led)) ≤ most
-    pub met : C → T.pending w.device ≡ 0 → (s : Option FwState) → AreAlike (T.on w.device) s → ArePlain T w calls v led × (entries_along T w calls v led ≡ recorded s deeds)
+  -- These calls lead from one world to another, and leave at most so many bytes of records, each of which a reader takes. They are the
+  -- records of these deeds, from where the records before lead.
+  pub record Leaves (w v : World (Traced P)) (cs : List Call) (deeds : List Deed) (most : ℕ) : Type 0 where
+    pub led : Led T w cs v
+    pub are : AllByRecursion IsEntry (entries_along T w cs v led)
+    pub few : length (records_bytes (entries_along T w cs v led)) ≤ most
+    pub met : C → T.pending w.device ≡ 0 → (s : Option FwState) → AreAlike (T.on w.device) s → ArePlain T w cs v led × (entries_along T w cs v led ≡ recorded s deeds)
 
   -- ---- calls after calls
 
@@ -102,39 +101,37 @@ module _ {P : Type 0} (device : Meaning P) (C : Type 0) where
         plain = λ x y. (x.0, rest.plain x.1 y);
       }
 
-  pub none-leaves : (w v : World (Traced P)) → v ≡ w → Leaves w v [] 0
-  none-leaves w v same = record { calls = []; led = same; are = tt; few = omega arith; met = λ c none s alike. (tt, refl) }
+  pub none-leaves : (w v : World (Traced P)) → v ≡ w → Leaves w v [] [] 0
+  none-leaves w v same = record { led = same; are = tt; few = omega arith; met = λ c none s alike. (tt, refl) }
 
-  pub within : (w v : World (Traced P)) (deeds : List Deed) (n k : ℕ) → n ≤ k → Leaves w v deeds n → Leaves w v deeds k
-  within w v deeds n k less l = record { calls = l.calls; led = l.led; are = l.are; few = omega (arith, less, l.few); met = l.met }
+  pub within : (w v : World (Traced P)) (cs : List Call) (deeds : List Deed) (n k : ℕ) → n ≤ k → Leaves w v cs deeds n → Leaves w v cs deeds k
+  within w v cs deeds n k less l = record { led = l.led; are = l.are; few = omega (arith, less, l.few); met = l.met }
 
-  pub retold : (w v : World (Traced P)) (d e : List Deed) (n : ℕ) → (C → d ≡ e) → Leaves w v d n → Leaves w v e n
-  retold w v d e n same l = record {
-    calls = l.calls;
+  pub retold : (w v : World (Traced P)) (cs : List Call) (d e : List Deed) (n : ℕ) → (C → d ≡ e) → Leaves w v cs d n → Leaves w v cs e n
+  retold w v cs d e n same l = record {
     led = l.led;
     are = l.are;
     few = l.few;
     met = λ c none s alike. let r = l.met c none s alike in (r.0, r.1 ∙ ap (recorded s) (same c));
   }
 
-  pub leaves-steady : (w v : World (Traced P)) (d : List Deed) (n : ℕ) → Leaves w v d n → Steady T w.device v.device
-  leaves-steady w v d n l = Led-steady T l.calls w v l.led
+  pub leaves-steady : (w v : World (Traced P)) (cs : List Call) (d : List Deed) (n : ℕ) → Leaves w v cs d n → Steady T w.device v.device
+  leaves-steady w v cs d n l = Led-steady T cs w v l.led
 
-  pub append-leaves : (w m v : World (Traced P)) (d e : List Deed) (n k : ℕ) → Leaves w m d n → Leaves m v e k → Leaves w v (d ++ e) (n + k)
-  append-leaves w m v d e n k a b =
-      let j = joined a.calls w m v a.led b.calls b.led in
-      let es = entries_along T w a.calls m a.led in
-      let fs = entries_along T m b.calls v b.led in
+  pub append-leaves : (w m v : World (Traced P)) (before after : List Call) (d e : List Deed) (n k : ℕ) → Leaves w m before d n → Leaves m v after e k → Leaves w v (before ++ after) (d ++ e) (n + k)
+  append-leaves w m v before after d e n k a b =
+      let j = joined before w m v a.led after b.led in
+      let es = entries_along T w before m a.led in
+      let fs = entries_along T m after v b.led in
       let long : length (records_bytes (es ++ fs)) ≡ length (records_bytes es) + length (records_bytes fs) = long-append es fs in
       record {
-        calls = a.calls ++ b.calls;
         led = j.led;
         are = subst (AllByRecursion IsEntry) (sym j.entries) (all-append es fs a.are b.are);
-        few = let same : length (records_bytes (entries_along T w (a.calls ++ b.calls) v j.led)) ≡ length (records_bytes (es ++ fs)) = ap (λ (xs : List Entry). length (records_bytes xs)) j.entries in omega (arith, same, long, a.few, b.few);
+        few = let same : length (records_bytes (entries_along T w (before ++ after) v j.led)) ≡ length (records_bytes (es ++ fs)) = ap (λ (xs : List Entry). length (records_bytes xs)) j.entries in omega (arith, same, long, a.few, b.few);
         met = λ c none s alike.
             let first = a.met c none s alike in
-            let lead = subst (λ (xs : List Entry). AreAlike (T.on m.device) (steps_from s xs)) first.1 (records-lead T w m a.calls a.led first.0 s alike) in
-            let less = (leaves-steady w m d n a).pending in
+            let lead = subst (λ (xs : List Entry). AreAlike (T.on m.device) (steps_from s xs)) first.1 (records-lead T w m before a.led first.0 s alike) in
+            let less = (leaves-steady w m before d n a).pending in
             let later = b.met c (omega (arith, none, less)) (steps_from s (recorded s d)) lead in (
               j.plain first.0 later.0,
               j.entries ∙ (λ i. first.1 i ++ later.1 i) ∙ sym (recorded-append d e s),
@@ -143,9 +140,8 @@ module _ {P : Type 0} (device : Meaning P) (C : Type 0) where
 
   -- ---- one call
 
-  pub boot-leaves : (heap : ℕ) (w v : World (Traced P)) → Did T (calls.Boot heap) w v → Leaves w v (Start heap ∷ []) 392
+  pub boot-leaves : (heap : ℕ) (w v : World (Traced P)) → Did T (calls.Boot heap) w v → Leaves w v (calls.Boot heap ∷ []) (Start heap ∷ []) 392
   boot-leaves heap w v d = record {
-    calls = calls.Boot heap ∷ [];
     led = (v, d, refl);
     are = (d.0.did.1, tt);
     few = omega (arith, long-one (Boot heap), entry-few (Boot heap) d.0.did.1);
@@ -184,18 +180,16 @@ module _ {P : Type 0} (device : Meaning P) (C : Type 0) where
   few-tick true = omega (arith, long-one Tick, tick-few)
   few-tick false = omega arith
 
-  pub cut-leaves : (w v : World (Traced P)) → Did T calls.Cut w v → Leaves w v (Stop ∷ []) 392
+  pub cut-leaves : (w v : World (Traced P)) → Did T calls.Cut w v → Leaves w v (calls.Cut ∷ []) (Stop ∷ []) 392
   cut-leaves w v d = record {
-    calls = calls.Cut ∷ [];
     led = (v, d, refl);
     are = are-cut (is_some (T.on w.device));
     few = omega (arith, few-cut (is_some (T.on w.device)));
     met = λ c none s alike. ((tt, tt), cut-met (T.on w.device) s alike);
   }
 
-  pub tick-leaves : (w v : World (Traced P)) → Ticked T w v → Leaves w v (Wait ∷ []) 8
+  pub tick-leaves : (w v : World (Traced P)) → Ticked T w v → Leaves w v (calls.Tick ∷ []) (Wait ∷ []) 8
   tick-leaves w v d = record {
-    calls = calls.Tick ∷ [];
     led = (v, d, refl);
     are = are-tick (is_some (T.on w.device));
     few = few-tick (is_some (T.on w.device));
@@ -203,11 +197,11 @@ module _ {P : Type 0} (device : Meaning P) (C : Type 0) where
   }
 
   -- so many ticks
-  pub ticks-leave : (n : ℕ) (w v : World (Traced P)) → Led T w (replicate n calls.Tick) v → Leaves w v (replicate n Wait) (8 * n)
-  ticks-leave zero w v led = within w v [] 0 (8 * 0) (omega arith) (none-leaves w v led)
+  pub ticks-leave : (n : ℕ) (w v : World (Traced P)) → Led T w (replicate n calls.Tick) v → Leaves w v (replicate n calls.Tick) (replicate n Wait) (8 * n)
+  ticks-leave zero w v led = within w v [] [] 0 (8 * 0) (omega arith) (none-leaves w v led)
   ticks-leave (suc n) w v led =
-      within w v (replicate (suc n) Wait) (8 + 8 * n) (8 * suc n) (omega arith)
-      (append-leaves w led.0 v (Wait ∷ []) (replicate n Wait) 8 (8 * n) (tick-leaves w led.0 led.1) (ticks-leave n led.0 v led.2))
+      within w v (replicate (suc n) calls.Tick) (replicate (suc n) Wait) (8 + 8 * n) (8 * suc n) (omega arith)
+      (append-leaves w led.0 v (calls.Tick ∷ []) (replicate n calls.Tick) (Wait ∷ []) (replicate n Wait) 8 (8 * n) (tick-leaves w led.0 led.1) (ticks-leave n led.0 v led.2))
 
   -- they leave a device on
   pub ticks-on : (n : ℕ) (w v : World (Traced P)) → Led T w (replicate n calls.Tick) v → is_some (T.on w.device) ≡ true → is_some (T.on v.device) ≡ true
@@ -236,9 +230,8 @@ module _ {P : Type 0} (device : Meaning P) (C : Type 0) where
     met-by c none (Some f) None is here alike = absurd (cc alike)
     met-by c none (Some f) (Some g) is here alike = answered answer x (calm c) none f g is (ap (option_map quiescent) is ∙ alike)
 
-    pub exchange-leaves : Leaves w v (Send request ∷ []) 784
+    pub exchange-leaves : Leaves w v (calls.Exchange request answer ∷ []) (Send request ∷ []) 784
     exchange-leaves = record {
-      calls = calls.Exchange request answer ∷ [];
       led = (v, x, refl);
       are = (short, (x.did.1, tt));
       few = omega (arith, long-two (Request request) (back_of answer), entry-few (Request request) short, entry-few (back_of answer) x.did.1);

@@ -3,7 +3,7 @@ use Rattle.std.proofs.Common.{Bool, ◌≡◌, refl, sym, ap, ◌∙◌, subst, 
 use Rattle.std.specs.Prelude.{is_some, option_map}
 use Rattle.sof_base.specs.Ports.{InputView}
 use Rattle.sof_desk.specs.Desk.{DeskMeaning}
-use Rattle.mbox_link.specs.Calls.{World, Meaning, Led, world}
+use Rattle.mbox_link.specs.Calls.{World, Meaning, Call, Led, world}
 use Rattle.mbox_link.specs.Wire.{Wire}
 use Rattle.mbox_link.specs.Link.{inner}
 use Rattle.ipc3_trace.specs.declared.entry.Entry.{Entry}
@@ -18,7 +18,8 @@ use Rattle.tplg_plan.specs.declared.plans.Plan.{Plan}
 use Rattle.sof_script.specs.declared.script.Command.{Command}
 use Rattle.sof_session.specs.Agreement.{AreAgreed}
 use Rattle.sof_script.specs.Commands.{Read}
-use Rattle.sof_session.specs.Modes.{made_at_load, IsInMode, CommandDoneIn}
+use Rattle.sof_session.specs.Commands.{command_rules}
+use Rattle.sof_session.specs.Modes.{made_at_load, IsInMode, CommandDoneIn, SteppedBy}
 use Rattle.sof_session.specs.SessionView.{SessionView, first_up, with_device}
 use Rattle.sof_session.specs.SessionStep.{Calm, known_of}
 use Rattle.sof_session.proofs.Draining.{AreAgreed-drained}
@@ -27,6 +28,7 @@ use Rattle.sof_script.specs.Tasks.{Out, Task, Begin, Fill, Carry, Give, Turn, Ar
 use Rattle.sof_session.specs.Written.{empty_outputs}
 use Rattle.sof_session.specs.Lives.{Life, Bare, Seated, Turned, Turns, Carries, device_of, Exit}
 use Rattle.run_play.specs.Met.{command_deeds}
+use Rattle.run_play.specs.StepCalls.{command_calls, step_calls}
 use Rattle.run_play.specs.Keeping.{trace_slot, fronted, recorded_turns, LeftRecords, LeftBy, TurnsLeft}
 use Rattle.run_play.specs.KeptTurns.{KeptCarry, KeptTurn, CanKeep, GaveKept}
 use Rattle.run_play.specs.Opening.{SameFiles}
@@ -172,20 +174,23 @@ module _ {P : Type 0} (means : Meaning P) where
     did : CommandDoneIn T made_at_load command seat left w v k.bare.answer
     did = (load-stepped T command seat left w v k.bare.answer c.stepped mode_is).0
 
-    pub l : Leaves means (Calm T seat.link.device left.link.device) (inner w) (inner v) (command_deeds seat.plan seat.heap (known_of seat.link seat.kept) command) 1048576
+    abbrev cs : List Call
+    cs = command_calls T (command_rules seat.plan seat.heap) seat.heap command seat.kept left.kept w v k.bare.answer did.done
+
+    pub l : Leaves means (Calm T seat.link.device left.link.device) (inner w) (inner v) cs (command_deeds seat.plan seat.heap (known_of seat.link seat.kept) command) 1048576
     l = command-leaves means seat.plan seat.heap command seat.kept left.kept w v k.bare.answer agreed.sound agreed.agree.record_is agreed.fated agreed.pending did.done
 
     abbrev pub es : List Entry
-    es = entries_along T (inner w) l.calls (inner v) l.led
+    es = entries_along T (inner w) cs (inner v) l.led
 
     none-held : length seat.link.device.held.bytes ≡ 0
     none-held = ap (λ (h : HeldRecords). length h.bytes) clean
 
     uncut : left.link.device.held.cut_short ≡ false
-    uncut = fits-records means (inner w) (inner v) l.calls l.led (ap (λ (h : HeldRecords). h.cut_short) clean) l.are (omega (arith, none-held, l.few))
+    uncut = fits-records means (inner w) (inner v) cs l.led (ap (λ (h : HeldRecords). h.cut_short) clean) l.are (omega (arith, none-held, l.few))
 
     bytes-are : left.link.device.held.bytes ≡ records_bytes es
-    bytes-are = (holds-records means (inner w) (inner v) l.calls l.led uncut).1 ∙ ap (λ (h : HeldRecords). h.bytes ++ records_bytes es) clean
+    bytes-are = (holds-records means (inner w) (inner v) cs l.led uncut).1 ∙ ap (λ (h : HeldRecords). h.bytes ++ records_bytes es) clean
 
     -- the session after it
     device-is : seat'.link.device ≡ new_tracer left.link.device.device
@@ -201,10 +206,20 @@ module _ {P : Type 0} (means : Meaning P) where
       subst (AreAgreed T) (sym k.rest) (AreAgreed-drained T left seat'.link.device k.emptied.on k.emptied.quiet c.agrees),
     )
 
-    bare-carries : Carries means command k.bare (bare_seat seat) (bare_seat left) inputs inputs' slots
+    -- the device's own step, by the calls of the tracer's
+    abbrev wb : World (Wire P)
+    wb = world (bare_seat seat).link inputs (empty_outputs slots)
+
+    abbrev vb : World (Wire P)
+    vb = world (bare_seat left).link inputs' c.outputs
+
+    stepped : (s : SteppedBy means command (bare_seat seat) (bare_seat left) wb vb k.bare.answer) × (step_calls means command (bare_seat seat) (bare_seat left) wb vb k.bare.answer s ≡ cs)
+    stepped = stepped-bare means command seat left w v k.bare.answer (none_named seat.up mode_is) did
+
+    abbrev bare-carries : Carries means command k.bare (bare_seat seat) (bare_seat left) inputs inputs' slots
     bare-carries = record {
       outputs = c.outputs;
-      stepped = stepped-bare means command seat left w v k.bare.answer (none_named seat.up mode_is) did;
+      stepped = stepped.0;
       shown = c.shown;
       written = c.written;
       ends = c.ends;
@@ -213,27 +228,29 @@ module _ {P : Type 0} (means : Meaning P) where
       agrees = agreed-bare means left c.agrees;
     }
 
-    pub turned-bare : Turned means (Carry command) k.bare (bare_life (Seated seat inputs slots)) (bare_life (Seated seat' inputs' slots'))
-    turned-bare = subst (λ (s : SessionView P). Turned means (Carry command) k.bare (Seated (bare_seat seat) inputs slots) (Seated s inputs' slots')) (sym same-bare) (k.turned.0, bare-carries)
+    inside : (led : Led means (traced (inner w)) cs (traced (inner v))) × (es ≡ entries_along means (traced (inner w)) cs (traced (inner v)) led)
+    inside = tracer-is-device means (inner w) (inner v) cs l.led
 
-    inside : (led : Led means (traced (inner w)) l.calls (traced (inner v))) × (es ≡ entries_along means (traced (inner w)) l.calls (traced (inner v)) led)
-    inside = tracer-is-device means (inner w) (inner v) l.calls l.led
-
-    left-records : LeftRecords means command (bare_seat seat) (bare_seat left) es
+    left-records : LeftRecords means command (bare_seat seat) (bare_seat left) wb vb cs es
     left-records = record {
-      before = w.io;
-      after = v.io;
-      calls = l.calls;
       led = inside.0;
       are = inside.1;
       each = l.are;
       met = λ calm s alike.
           let m = l.met (calm-traced means seat.link.device left.link.device calm) agreed.pending s alike in
-          (m.1, records-lead T (inner w) (inner v) l.calls l.led m.0 s alike);
+          (m.1, records-lead T (inner w) (inner v) cs l.led m.0 s alike);
     }
 
-    pub left-bare : LeftBy means command (bare_life (Seated seat inputs slots)) (bare_life (Seated seat' inputs' slots')) es
-    left-bare = subst (λ (s : SessionView P). LeftRecords means command (bare_seat seat) s es) (sym same-bare) left-records
+    -- the turn of the device, and that it left these records
+    abbrev LeftTurn : SessionView P → Type 0
+    LeftTurn s =
+        (t : Turned means (Carry command) k.bare (Seated (bare_seat seat) inputs slots) (Seated s inputs' slots')) × LeftBy means command k.bare (Seated (bare_seat seat) inputs slots) (Seated s inputs' slots') t es
+
+    pub turned-bare : LeftTurn (bare_seat seat')
+    turned-bare =
+        let records = subst (λ (x : List Call). LeftRecords means command (bare_seat seat) (bare_seat left) wb vb x es) (sym stepped.1) left-records in
+        let here : LeftTurn (bare_seat left) = ((k.turned.0, bare-carries), records) in
+        subst LeftTurn (sym same-bare) here
 
     pub out-bare : out ≡ fronted (records_bytes es) k.bare
     out-bare = k.out_is ∙ ap (λ (bytes : List ℕ). fronted bytes k.bare) bytes-are
@@ -271,11 +288,12 @@ module _ {P : Type 0} (means : Meaning P) where
   split-by (Carry command) out turns (Seated seat inputs slots) (Seated seat' inputs' slots') q others clean first step more =
       let rest = others (clean-after command out seat seat' inputs inputs' slots slots' clean.0 clean.1 clean.2 step) tt more in
       let records = es command out seat seat' inputs inputs' slots slots' clean.0 clean.1 clean.2 step in
+      let left = turned-bare command out seat seat' inputs inputs' slots slots' clean.0 clean.1 clean.2 step in
       record {
         bare = record { task = Carry command; out = step.bare } ∷ rest.bare;
-        turned = (bare_life (Seated seat' inputs' slots'), turned-bare command out seat seat' inputs inputs' slots slots' clean.0 clean.1 clean.2 step, rest.turned);
+        turned = (bare_life (Seated seat' inputs' slots'), left.0, rest.turned);
         records = records ∷ rest.records;
-        kept = (left-bare command out seat seat' inputs inputs' slots slots' clean.0 clean.1 clean.2 step, rest.kept);
+        kept = (left.1, rest.kept);
         are = λ i. record { task = Carry command; out = out-bare command out seat seat' inputs inputs' slots slots' clean.0 clean.1 clean.2 step i } ∷ rest.are i;
       }
 

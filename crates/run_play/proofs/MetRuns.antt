@@ -25,7 +25,7 @@ use Rattle.sof_session.proofs.LinkFates.{Steady-none}
 use Rattle.sof_session.proofs.LoadMode.{load-stepped}
 use Rattle.sof_session.proofs.StepCounts.{Calm-between}
 use Rattle.run_play.specs.Met.{command_deeds, met_from, met_units}
-use Rattle.run_play.specs.Keeping.{LeftRecords, TurnLeft, TurnsLeft, KeptRecords}
+use Rattle.run_play.specs.Keeping.{TurnLeft, TurnsLeft, KeptRecords}
 use Rattle.run_play.specs.Plays.{AreMet}
 use Rattle.ipc3_trace.proofs.AlikeViews.{alike-view}
 use Rattle.sof_session.proofs.SteadyLives.{step-steady, lives-steady}
@@ -56,8 +56,8 @@ module _ {P : Type 0} (means : Meaning P) where
       TurnsLeft means (Seated seat inputs slots) (turn ∷ turns) last turned records → turn.task ≡ Fill reads next →
       (inputs' : List InputView) × (slots' : List ℕ) × (more : Turns means (Seated seat inputs' slots') turns last) × TurnsLeft means (Seated seat inputs' slots') turns last more records
   after-fill reads next turn turns seat inputs slots last turned records kept is =
-      by turned.0 (subst (λ (task : Task). Turned means task turn.out (Seated seat inputs slots) turned.0) is turned.1) turned.2
-      (subst (λ (task : Task). TurnLeft means task (Seated seat inputs slots) turned.0 records (λ rest. TurnsLeft means turned.0 turns last turned.2 rest)) is kept)
+      let moved = subst (λ (task : Task). (t : Turned means task turn.out (Seated seat inputs slots) turned.0) × TurnLeft means task turn.out (Seated seat inputs slots) turned.0 t records (λ rest. TurnsLeft means turned.0 turns last turned.2 rest)) is (turned.1, kept) in
+      by turned.0 moved.0 turned.2 moved.1
     where
       by : (m : Life P) → Turned means (Fill reads next) turn.out (Seated seat inputs slots) m → (more : Turns means m turns last) → TurnsLeft means m turns last more records →
           (inputs' : List InputView) × (slots' : List ℕ) × (more : Turns means (Seated seat inputs' slots') turns last) × TurnsLeft means (Seated seat inputs' slots') turns last more records
@@ -81,18 +81,18 @@ module _ {P : Type 0} (means : Meaning P) where
     es : List Entry
     rest : List (List Entry)
     are : records ≡ es ∷ rest
-    left : LeftRecords means command seat after es
+    met : Calm means seat.link.device after.link.device → (s : Option FwState) → AreAlike (means.on seat.link.device) s → (es ≡ recorded s (command_deeds seat.plan seat.heap (known_of seat.link seat.kept) command)) × AreAlike (means.on after.link.device) (steps_from s es)
     more : Turns means (Seated after inputs slots) turns last
     kept : TurnsLeft means (Seated after inputs slots) turns last more rest
 
   after-carry : (command : Command) (turn : Turn) (turns : List Turn) (seat : SessionView P) (inputs : List InputView) (slots : List ℕ) (last : Life P) (turned : Turns means (Seated seat inputs slots) (turn ∷ turns) last) (records : List (List Entry)) →
       TurnsLeft means (Seated seat inputs slots) (turn ∷ turns) last turned records → turn.task ≡ Carry command → IsInMode made_at_load seat → CarriedOn command turns seat last records
   after-carry command turn turns seat inputs slots last turned records kept is mode_is =
-      by turned.0 records (subst (λ (task : Task). Turned means task turn.out (Seated seat inputs slots) turned.0) is turned.1) turned.2
-      (subst (λ (task : Task). TurnLeft means task (Seated seat inputs slots) turned.0 records (λ rest. TurnsLeft means turned.0 turns last turned.2 rest)) is kept)
+      let moved = subst (λ (task : Task). (t : Turned means task turn.out (Seated seat inputs slots) turned.0) × TurnLeft means task turn.out (Seated seat inputs slots) turned.0 t records (λ rest. TurnsLeft means turned.0 turns last turned.2 rest)) is (turned.1, kept) in
+      by turned.0 records moved.0 turned.2 moved.1
     where
-      by : (m : Life P) (rs : List (List Entry)) → Turned means (Carry command) turn.out (Seated seat inputs slots) m → (more : Turns means m turns last) →
-          TurnLeft means (Carry command) (Seated seat inputs slots) m rs (λ rest. TurnsLeft means m turns last more rest) → CarriedOn command turns seat last rs
+      by : (m : Life P) (rs : List (List Entry)) (step : Turned means (Carry command) turn.out (Seated seat inputs slots) m) → (more : Turns means m turns last) →
+          TurnLeft means (Carry command) turn.out (Seated seat inputs slots) m step rs (λ rest. TurnsLeft means m turns last more rest) → CarriedOn command turns seat last rs
       by (Bare dsp) rs step more left = absurd step
       by (Seated seat' inputs' slots') [] step more left = absurd left
       by (Seated seat' inputs' slots') (es ∷ rest) step more left =
@@ -112,7 +112,7 @@ module _ {P : Type 0} (means : Meaning P) where
             es = es;
             rest = rest;
             are = refl;
-            left = left.0;
+            met = left.0.met;
             more = more;
             kept = left.1;
           }
@@ -154,7 +154,7 @@ module _ {P : Type 0} (means : Meaning P) where
         let ended = Steady-none means (device_of last) (device_of last) refl in
         let first : Calm means seat.link.device c.after.link.device = Calm-between means seat.link.device seat.link.device c.after.link.device (device_of last) none steady still in
         let later : Calm means c.after.link.device (device_of last) = Calm-between means seat.link.device c.after.link.device (device_of last) (device_of last) c.steady ended still in
-        let l = c.left.met first s here.alike in
+        let l = c.met first s here.alike in
         let deeds : command_deeds seat.plan seat.heap (known_of seat.link seat.kept) command ≡ command_deeds plan heap known command =
         λ i. command_deeds (here.plan_is i) (here.heap_is i) (here.known_is i) command in
         let is : c.es ≡ recorded s (command_deeds plan heap known command) = l.0 ∙ ap (recorded s) deeds in
@@ -177,8 +177,8 @@ module _ {P : Type 0} (means : Meaning P) where
         (records ≡ met_units plan heap commands) × AreAlike (means.on (device_of last)) (steps_of (all_records records))
     met-run p commands inputs slots begins turns last turned records kept is are off still =
         let seated : turned.0 ≡ Seated (new_seat plan heap p) inputs slots = subst (λ (task : Task). Turned means task begins.out (Bare p) turned.0) is turned.1 in
-        let behind : TurnsLeft means turned.0 turns last turned.2 records =
-        subst (λ (task : Task). TurnLeft means task (Bare p) turned.0 records (λ rest. TurnsLeft means turned.0 turns last turned.2 rest)) is kept in
+        let first = subst (λ (task : Task). (t : Turned means task begins.out (Bare p) turned.0) × TurnLeft means task begins.out (Bare p) turned.0 t records (λ rest. TurnsLeft means turned.0 turns last turned.2 rest)) is (turned.1, kept) in
+        let behind : TurnsLeft means turned.0 turns last turned.2 records = first.1 in
         let moved = subst (λ (l : Life P). (more : Turns means l turns last) × TurnsLeft means l turns last more records) seated (turned.2, behind) in
         met-on commands turns (new_seat plan heap p) inputs slots last moved.0 records moved.1 are (first_known (command_rules plan heap)) None
         (record { mode_is = refl; plan_is = refl; heap_is = refl; known_is = refl; alike = ap (option_map quiescent) off }) still

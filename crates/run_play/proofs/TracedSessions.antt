@@ -1,5 +1,5 @@
 -- A session over a tracer is a session over the tracer's device.
-use Rattle.std.proofs.Common.{◌≡◌, refl, sym, subst, ap, ℕ, replicate, Bool, true, false, List, [], ◌∷◌, Option, Some, None}
+use Rattle.std.proofs.Common.{◌≡◌, refl, sym, subst, ap, ℕ, replicate, Bool, true, false, List, [], ◌∷◌, ◌++◌, Option, Some, None}
 use Rattle.stream_law.specs.State.{View}
 use Rattle.ipc3_model.specs.Messages.{message_spelling}
 use Rattle.mbox_link.specs.declared.fates.Fate.{Fate}
@@ -19,7 +19,7 @@ use Rattle.host_widgets.specs.Host.{Outcome, SidesBy}
 use Rattle.host_widgets.specs.ActRules.{ActRules}
 use Rattle.host_widgets.specs.OneAct.{one_act}
 use Rattle.host_widgets.specs.Walk.{Walked, goes_past, walk}
-use Rattle.host_widgets.specs.ActCalls.{ActDid, ActsDid, Counted, Onwards, next_of}
+use Rattle.host_widgets.specs.ActCalls.{ActDid, ActsDid, Counted, Onwards, calls_of, next_of}
 use Rattle.host_widgets.specs.Routines.{Routine, Finished, Sending, Job, JobDone, RoutineDid}
 use Rattle.ipc3_trace.specs.Tracing.{Traced, tracer, traced}
 use Rattle.ipc3_trace.proofs.HeldLaws.{tracer-is-device}
@@ -32,6 +32,7 @@ use Rattle.sof_session.specs.Modes.{made_at_load, CommandDoneIn, DoneWith, Stepp
 use Rattle.mbox_link.specs.Meetings.{Doing}
 use Rattle.sof_session.specs.SessionStep.{Calm, CallsBy, CommandDone}
 use Rattle.sof_session.specs.Lives.{Life, Bare, Seated}
+use Rattle.run_play.specs.StepCalls.{met_calls, exchange_calls, calls_onwards, acts_calls, routine_calls, calls_by, command_calls, done_calls, step_calls}
 
 -- ---- without the records
 
@@ -85,6 +86,21 @@ module _ {P : Type 0} (means : Meaning P) where
     steady = steady-bare w.device v.device x.steady;
   }
 
+  -- its calls on the device are the tracer's
+  met-same : (fate : Fate) (request : List ℕ) (answer : Option (List ℕ)) (w v : World (Traced P)) (met : Met (tracer means) fate request answer w v) →
+      met_calls means fate request answer (traced w) (traced v) (met-bare fate request answer w v met) ≡ met_calls (tracer means) fate request answer w v met
+  unfolding met-bare
+  met-same Pass request answer w v met = refl
+  met-same (Refuse e) request answer w v met = refl
+  met-same Drop request answer w v met = refl
+  met-same Lose request answer w v met = refl
+
+  exchange-same : (request : List ℕ) (answer : Option (List ℕ)) (w v : World (Wire (Traced P))) (x : Exchanged (link (tracer means)) request answer w v) →
+      exchange_calls means request answer (bare_world w) (bare_world v) (exchange-bare request answer w v x) ≡ exchange_calls (tracer means) request answer w v x
+  unfolding exchange-bare late-bare
+  exchange-same request answer w v x =
+      ap (λ (cs : List Call). replicate (next_lag w.device) Tick ++ cs) (met-same (next_fate w.device) request answer x.did.0.0 (inner v) x.did.0.2)
+
   -- ---- any call
 
   did-bare : (call : Call) (w v : World (Wire (Traced P))) → Did (link (tracer means)) call w v → Did (link means) call (bare_world w) (bare_world v)
@@ -129,6 +145,10 @@ module _ {P : Type 0} (means : Meaning P) where
       came = did.came;
     }
 
+    onwards-bare : (b : Bool) (ms : List Meeting) (w v : World (Wire (Traced P))) (R B : Type 0) → (R → B) → Onwards b ms w v R → Onwards b ms (bare_world w) (bare_world v) B
+    onwards-bare true ms w v R B bare on = bare on
+    onwards-bare false ms w v R B bare on = (on.0, ap (λ (x : World (Wire (Traced P))). bare_world x) on.1)
+
     acts-bare : (goes_on : Bool) (acts : List A) (ms : List Meeting) (kept : S) (w v : World (Wire (Traced P))) → ActsDid (link (tracer means)) rules goes_on kept acts ms w v → ActsDid (link means) rules goes_on kept acts ms (bare_world w) (bare_world v)
     acts-bare goes_on [] ms kept w v did = (did.0, ap (λ (x : World (Wire (Traced P))). bare_world x) did.1)
     acts-bare goes_on (act ∷ acts) [] kept w v did = absurd did
@@ -136,14 +156,28 @@ module _ {P : Type 0} (means : Meaning P) where
         let a = one_act rules kept act m in (
           bare_world did.0,
           act-bare kept act m w did.0 did.1,
-          by (goes_past goes_on a.outcome) (acts-bare goes_on acts ms a.kept did.0 v) did.2,
+          onwards-bare (goes_past goes_on a.outcome) ms did.0 v (ActsDid (link (tracer means)) rules goes_on a.kept acts ms did.0 v)
+              (ActsDid (link means) rules goes_on a.kept acts ms (bare_world did.0) (bare_world v)) (acts-bare goes_on acts ms a.kept did.0 v) did.2,
         )
-      where
-        by : (b : Bool) → (ActsDid (link (tracer means)) rules goes_on (one_act rules kept act m).kept acts ms did.0 v → ActsDid (link means) rules goes_on (one_act rules kept act m).kept acts ms (bare_world did.0) (bare_world v)) →
-            Onwards b ms did.0 v (ActsDid (link (tracer means)) rules goes_on (one_act rules kept act m).kept acts ms did.0 v) →
-            Onwards b ms (bare_world did.0) (bare_world v) (ActsDid (link means) rules goes_on (one_act rules kept act m).kept acts ms (bare_world did.0) (bare_world v))
-        by true rest on = rest on
-        by false rest on = (on.0, ap (λ (x : World (Wire (Traced P))). bare_world x) on.1)
+
+    onwards-same : (b : Bool) (ms : List Meeting) (w v : World (Wire (Traced P))) (R B : Type 0) (bare : R → B) (mine : R → List Call) (its : B → List Call) → ((on : R) → its (bare on) ≡ mine on) → (on : Onwards b ms w v R) →
+        calls_onwards b ms (bare_world w) (bare_world v) B its (onwards-bare b ms w v R B bare on) ≡ calls_onwards b ms w v R mine on
+    unfolding onwards-bare
+    onwards-same true ms w v R B bare mine its same on = same on
+    onwards-same false ms w v R B bare mine its same on = refl
+
+    acts-same : (goes_on : Bool) (acts : List A) (ms : List Meeting) (kept : S) (w v : World (Wire (Traced P))) (did : ActsDid (link (tracer means)) rules goes_on kept acts ms w v) →
+        acts_calls means rules goes_on kept acts ms (bare_world w) (bare_world v) (acts-bare goes_on acts ms kept w v did) ≡ acts_calls (tracer means) rules goes_on kept acts ms w v did
+    unfolding acts-bare act-bare
+    acts-same goes_on [] ms kept w v did = refl
+    acts-same goes_on (act ∷ acts) [] kept w v did = absurd did
+    acts-same goes_on (act ∷ acts) (m ∷ ms) kept w v did =
+        let a = one_act rules kept act m in
+        let first = exchange-same (message_spelling (rules.message act)) did.1.answer w did.0 did.1.exchanged in
+        let later = onwards-same (goes_past goes_on a.outcome) ms did.0 v (ActsDid (link (tracer means)) rules goes_on a.kept acts ms did.0 v)
+        (ActsDid (link means) rules goes_on a.kept acts ms (bare_world did.0) (bare_world v)) (acts-bare goes_on acts ms a.kept did.0 v)
+        (acts_calls (tracer means) rules goes_on a.kept acts ms did.0 v) (acts_calls means rules goes_on a.kept acts ms (bare_world did.0) (bare_world v)) (acts-same goes_on acts ms a.kept did.0 v) did.2 in
+        λ i. first i ++ later i
 
     -- ---- a job
 
@@ -152,6 +186,16 @@ module _ {P : Type 0} (means : Meaning P) where
     routine-bare heap (Sending acts goes_on then) kept ms w v (early, late, mid, split, acts_did, rest_did) =
         let now : Walked S A (List Meeting) = walk rules goes_on next_of kept early acts in
         (early, late, bare_world mid, split, acts-bare goes_on acts early kept w mid acts_did, routine-bare heap (then now.kept now.outcome) now.kept late mid v rest_did)
+
+    routine-same : (heap : ℕ) (routine : Routine S A) (kept : S) (ms : List Meeting) (w v : World (Wire (Traced P))) (did : RoutineDid (link (tracer means)) rules heap kept routine ms w v) →
+        routine_calls means rules heap kept routine ms (bare_world w) (bare_world v) (routine-bare heap routine kept ms w v did) ≡ routine_calls (tracer means) rules heap kept routine ms w v did
+    unfolding routine-bare
+    routine-same heap (Finished end moments) kept ms w v did = refl
+    routine-same heap (Sending acts goes_on then) kept ms w v (early, late, mid, split, acts_did, rest_did) =
+        let now : Walked S A (List Meeting) = walk rules goes_on next_of kept early acts in
+        let first = acts-same goes_on acts early kept w mid acts_did in
+        let later = routine-same heap (then now.kept now.outcome) now.kept late mid v rest_did in
+        λ i. first i ++ later i
 
     job-bare : (heap : ℕ) (job : Job S A) (kept' : S) (w v : World (Wire (Traced P))) (result : Outcome) → JobDone (link (tracer means)) rules heap job kept' w v result → JobDone (link means) rules heap job kept' (bare_world w) (bare_world v) result
     job-bare heap job kept' w v result j = record {
@@ -170,6 +214,16 @@ module _ {P : Type 0} (means : Meaning P) where
     calls-bare heap doing job kept' w v answer false (Some fault) by = ap (λ (x : World (Wire (Traced P))). bare_world x) by
     calls-bare heap doing job kept' w v answer false None by = (by.0, job-bare heap job kept' w v by.0 by.1, by.2, by.3)
 
+    calls-same : (heap : ℕ) (doing : Doing) (job : Job S A) (kept' : S) (w v : World (Wire (Traced P))) (answer : Answer) (planned : Bool) (fault : Option HostFault)
+        (by : CallsBy (tracer means) rules heap doing job kept' w v answer planned fault) →
+        calls_by means rules heap doing job kept' (bare_world w) (bare_world v) answer planned fault (calls-bare heap doing job kept' w v answer planned fault by)
+        ≡ calls_by (tracer means) rules heap doing job kept' w v answer planned fault by
+    unfolding calls-bare job-bare
+    calls-same heap doing job kept' w v answer true fault by = refl
+    calls-same heap doing job kept' w v answer false (Some fault) by = refl
+    calls-same heap doing job kept' w v answer false None by =
+        ap (λ (cs : List Call). calls_of heap job.first ++ cs) (routine-same heap job.routine job.from by.1.meetings by.1.begun v by.1.did)
+
   -- ---- a command
 
   pub command-bare : {S A : Type 0} (rules : CommandRules S A) (heap : ℕ) (command : Command) (kept kept' : S) (w v : World (Wire (Traced P))) (answer : Answer) →
@@ -183,16 +237,26 @@ module _ {P : Type 0} (means : Meaning P) where
     stands = c.stands;
   }
 
-  -- a session's step where all pipelines are made at a load
-  pub stepped-bare : (command : Command) (old new : SessionView (Traced P)) (w v : World (Wire (Traced P))) (answer : Answer) → old.up ≡ None →
-      CommandDoneIn (tracer means) made_at_load command old new w v answer → SteppedBy means command (bare_seat old) (bare_seat new) (bare_world w) (bare_world v) answer
+  command-same : {S A : Type 0} (rules : CommandRules S A) (heap : ℕ) (command : Command) (kept kept' : S) (w v : World (Wire (Traced P))) (answer : Answer) (c : CommandDone (tracer means) rules heap command kept kept' w v answer) →
+      command_calls means rules heap command kept kept' (bare_world w) (bare_world v) answer (command-bare rules heap command kept kept' w v answer c) ≡ command_calls (tracer means) rules heap command kept kept' w v answer c
+  unfolding command-bare
+  command-same rules heap command kept kept' w v answer c =
+      calls-same rules.acts heap c.doing (rules.job kept command) kept' w v answer (is_plan command) (rules.fault kept command) c.calls
+
+  -- a session's step where all pipelines are made at a load: its calls on the device are the tracer's
+  pub stepped-bare : (command : Command) (old new : SessionView (Traced P)) (w v : World (Wire (Traced P))) (answer : Answer) → old.up ≡ None → (c : CommandDoneIn (tracer means) made_at_load command old new w v answer) →
+      (s : SteppedBy means command (bare_seat old) (bare_seat new) (bare_world w) (bare_world v) answer)
+      × (step_calls means command (bare_seat old) (bare_seat new) (bare_world w) (bare_world v) answer s ≡ command_calls (tracer means) (command_rules old.plan old.heap) old.heap command old.kept new.kept w v answer c.done)
   stepped-bare command old new w v answer none c =
       let did : CommandDoneIn means made_at_load command (bare_seat old) (bare_seat new) (bare_world w) (bare_world v) answer =
       record { done = command-bare (command_rules old.plan old.heap) old.heap command old.kept new.kept w v answer c.done; stays = c.stays } in
-      record {
-        doing = did.done.doing;
-        did = subst (λ (up : Option (List ℕ)). DoneWith means did.done.doing up command (bare_seat old) (bare_seat new) (bare_world w) (bare_world v) answer) (sym none) (did, refl);
-      }
+      let doing : Doing = did.done.doing in
+      let cs : List Call = command_calls (tracer means) (command_rules old.plan old.heap) old.heap command old.kept new.kept w v answer c.done in
+      let same : command_calls means (command_rules old.plan old.heap) old.heap command old.kept new.kept (bare_world w) (bare_world v) answer did.done ≡ cs =
+      command-same (command_rules old.plan old.heap) old.heap command old.kept new.kept w v answer c.done in
+      let moved = subst (λ (up : Option (List ℕ)). (d : DoneWith means doing up command (bare_seat old) (bare_seat new) (bare_world w) (bare_world v) answer)
+      × (done_calls means doing up command (bare_seat old) (bare_seat new) (bare_world w) (bare_world v) answer d ≡ cs)) (sym none) ((did, refl), same) in
+      (record { doing = doing; did = moved.0 }, moved.1)
 
   -- ---- both sides
 

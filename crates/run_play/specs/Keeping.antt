@@ -1,21 +1,23 @@
 -- A play of which a trace is kept: the slot of its file, and the records in front of what each unit writes.
 use Rattle.std.specs.Prelude.{◌≡◌, ℕ, List, [], ◌∷◌, Option, Some, None}
 use Rattle.std.specs.List.{AllByRecursion}
-use Rattle.sof_base.specs.Ports.{Io}
 use Rattle.stream_law.specs.State.{FwState}
 use Rattle.sof_desk.specs.Desk.{DeskAct, Create}
-use Rattle.mbox_link.specs.Calls.{Meaning, Call, Led}
+use Rattle.mbox_link.specs.Calls.{World, Meaning, Call, Led, world}
+use Rattle.mbox_link.specs.Link.{inner}
+use Rattle.mbox_link.specs.Wire.{Wire}
 use Rattle.ipc3_trace.specs.declared.entry.Entry.{Entry}
 use Rattle.ipc3_trace.specs.Records.{IsEntry, records_bytes}
 use Rattle.ipc3_trace.specs.AlongCalls.{entries_along}
 use Rattle.sof_script.specs.Tasks.{Out, Task, Carry, Turn}
-use Rattle.sof_session.specs.Written.{with_bytes}
+use Rattle.sof_session.specs.Written.{empty_outputs, with_bytes}
 use Rattle.ipc3_trace.specs.Steps.{AreAlike, recorded, steps_from}
 use Rattle.sof_script.specs.declared.script.Command.{Command}
 use Rattle.sof_session.specs.SessionView.{SessionView}
 use Rattle.sof_session.specs.SessionStep.{Calm, known_of}
-use Rattle.sof_session.specs.Lives.{Life, Seated, Turns}
+use Rattle.sof_session.specs.Lives.{Life, Seated, Turned, Turns}
 use Rattle.run_play.specs.Met.{command_deeds}
+use Rattle.run_play.specs.StepCalls.{step_calls}
 
 -- ---- the file
 
@@ -63,32 +65,33 @@ recorded_outs (es ∷ records) (out ∷ outs) = fronted (records_bytes es) out �
 
 -- ---- over a device
 
--- A command left these records: they are those of calls that led the device after the link from where it was to where it is, and a reader
--- takes each of them. Where no count of the device rose, they are those of the command's deeds, and lead to where it is.
-pub record LeftRecords {P : Type 0} (means : Meaning P) (command : Command) (old new : SessionView P) (es : List Entry) : Type 0 where
-  pub before : Io
-  pub after : Io
-  pub calls : List Call
-  pub led : Led means (record { device = old.link.device; io = before }) calls (record { device = new.link.device; io = after })
-  pub are : es ≡ entries_along means (record { device = old.link.device; io = before }) calls (record { device = new.link.device; io = after }) led
+-- A command left these records: they are those of these calls, which led the device after the link from one world to the other, and a
+-- reader takes each of them. Where no count of the device rose, they are those of the command's deeds, and lead to where it is.
+pub record LeftRecords {P : Type 0} (means : Meaning P) (command : Command) (old new : SessionView P) (w v : World (Wire P)) (calls : List Call) (es : List Entry) : Type 0 where
+  pub led : Led means (inner w) calls (inner v)
+  pub are : es ≡ entries_along means (inner w) calls (inner v) led
   pub each : AllByRecursion IsEntry es
   pub met : Calm means old.link.device new.link.device → (s : Option FwState) → AreAlike (means.on old.link.device) s
       → (es ≡ recorded s (command_deeds old.plan old.heap (known_of old.link old.kept) command)) × AreAlike (means.on new.link.device) (steps_from s es)
 
-abbrev pub LeftBy : {P : Type 0} → Meaning P → Command → Life P → Life P → List Entry → Type 0
-LeftBy means command (Seated seat inputs slots) (Seated seat' inputs' slots') es = LeftRecords means command seat seat' es
-LeftBy means command old new es = ⊥
+-- a turn left them: the calls are those that its session's step names
+abbrev pub LeftBy : {P : Type 0} (means : Meaning P) (command : Command) (out : Out) (old new : Life P) → Turned means (Carry command) out old new → List Entry → Type 0
+LeftBy means command out (Seated seat inputs slots) (Seated seat' inputs' slots') turned es =
+    let w = world seat.link inputs (empty_outputs slots) in
+    let v = world seat'.link inputs' turned.1.outputs in
+    LeftRecords means command seat seat' w v (step_calls means command seat seat' w v out.answer turned.1.stepped) es
+LeftBy means command out old new turned es = ⊥
 
 -- each turn that carried out a command left these records, one list for each
-abbrev pub TurnLeft : {P : Type 0} → Meaning P → Task → Life P → Life P → List (List Entry) → (List (List Entry) → Type 0) → Type 0
-TurnLeft means (Carry command) old new [] rest = ⊥
-TurnLeft means (Carry command) old new (es ∷ records) rest = LeftBy means command old new es × rest records
-TurnLeft means task old new records rest = rest records
+abbrev pub TurnLeft : {P : Type 0} (means : Meaning P) (task : Task) (out : Out) (old new : Life P) → Turned means task out old new → List (List Entry) → (List (List Entry) → Type 0) → Type 0
+TurnLeft means (Carry command) out old new turned [] rest = ⊥
+TurnLeft means (Carry command) out old new turned (es ∷ records) rest = LeftBy means command out old new turned es × rest records
+TurnLeft means task out old new turned records rest = rest records
 
 abbrev pub TurnsLeft : {P : Type 0} (means : Meaning P) (p : Life P) (turns : List Turn) (q : Life P) → Turns means p turns q → List (List Entry) → Type 0
 TurnsLeft means p [] q turned records = records ≡ []
 TurnsLeft means p (turn ∷ turns) q turned records =
-    TurnLeft means turn.task p turned.0 records (λ rest. TurnsLeft means turned.0 turns q turned.2 rest)
+    TurnLeft means turn.task turn.out p turned.0 turned.1 records (λ rest. TurnsLeft means turned.0 turns q turned.2 rest)
 
 -- the records of a play: none where no trace is kept
 abbrev pub KeptRecords : {P : Type 0} (means : Meaning P) → Option (List ℕ) → (p : Life P) (turns : List Turn) (q : Life P) → Turns means p turns q → List (List Entry) → Type 0

@@ -1,4 +1,5 @@
 pub mod Met
+pub mod StepCalls
 pub mod Keeping
 pub mod Rounds
 pub mod Pieces

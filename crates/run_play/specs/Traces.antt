@@ -1,5 +1,5 @@
 -- What a trace that is kept holds, and what its records make of a device.
-use Rattle.std.specs.Prelude.{◌≡◌, ◌⊎◌, ℕ, List, [], ◌∷◌, take, Some, None, Ok, option_map}
+use Rattle.std.specs.Prelude.{◌≡◌, ◌⊎◌, ℕ, List, [], ◌∷◌, length, take, Some, None, Ok, option_map}
 use Rattle.sof_desk.specs.Desk.{DeskMeaning, DeskCall, Slot}
 use Rattle.stream_law.specs.State.{view_of}
 use Rattle.mbox_link.specs.Calls.{Meaning}
@@ -8,7 +8,8 @@ use Rattle.ipc3_trace.specs.declared.entry.Entry.{Entry}
 use Rattle.ipc3_trace.specs.Records.{records_bytes}
 use Rattle.ipc3_trace.specs.Steps.{steps_of}
 use Rattle.ipc3_trace.specs.WholeTraces.{IsTraceOf}
-use Rattle.sof_session.specs.Lives.{Life, device_of}
+use Rattle.sof_script.specs.Tasks.{Turn}
+use Rattle.sof_session.specs.Lives.{Life, device_of, carried_outs}
 use Rattle.sof_session.specs.SessionStep.{Calm}
 use Rattle.run_desk.specs.DeskCalls.{heard_in}
 use Rattle.run_play.specs.Keeping.{trace_slot}
@@ -20,9 +21,9 @@ use Rattle.run_play.specs.Plays.{ToPlay, AreFilesTold, commands_in}
 abbrev pub met_in : {room : ℕ} {words : List (List ℕ)} → ToPlay room words → List Entry
 met_in play = met (plan_of play.t) play.form.heap (commands_in (rounds_of play.read.commands))
 
-pub record TraceHolds {D P : Type 0} {room : ℕ} {words : List (List ℕ)} (means : DeskMeaning D) (dsp : Meaning P) (play : ToPlay room words) (calls : List DeskCall) (old new : D) (status : ℕ) (last : Life P) (records : List (List Entry)) : Type 0 where
-  -- the records are those that the run of the first units leaves
-  pub left : heard_in calls ≡ Ok play.topology ∷ Ok play.script ∷ [] → (n : ℕ) × (records ≡ met_units (plan_of play.t) play.form.heap (take n (commands_in (rounds_of play.read.commands))))
+pub record TraceHolds {D P : Type 0} {room : ℕ} {words : List (List ℕ)} (means : DeskMeaning D) (dsp : Meaning P) (play : ToPlay room words) (turns : List Turn) (calls : List DeskCall) (old new : D) (status : ℕ) (last : Life P) (records : List (List Entry)) : Type 0 where
+  -- the records are those that the run of the first units leaves, of as many as the turns carried out
+  pub left : heard_in calls ≡ Ok play.topology ∷ Ok play.script ∷ [] → records ≡ met_units (plan_of play.t) play.form.heap (take (length (carried_outs turns)) (commands_in (rounds_of play.read.commands)))
   -- with status 0 the device has the view that those of the whole run make of one that is off, or is off as that is
   pub view : AreFilesTold (means.holds old) play ⊎ (heard_in calls ≡ Ok play.topology ∷ Ok play.script ∷ []) → status ≡ 0 → option_map view_of (dsp.on (device_of last)) ≡ option_map view_of (steps_of (met_in play))
   -- and the file holds these and no other bytes, as a trace that a reader takes whole, where the desk tells the files and what was written
@@ -30,6 +31,6 @@ pub record TraceHolds {D P : Type 0} {room : ℕ} {words : List (List ℕ)} (mea
       → (bytes ≡ records_bytes (met_in play)) × IsTraceOf bytes (met_in play) None
 
 -- where a trace is kept and no count of the device rose
-abbrev pub TracesWhole : {D P : Type 0} → DeskMeaning D → Meaning P → List (List ℕ) → List DeskCall → D → D → ℕ → P → Life P → List (List Entry) → Type 0
-TracesWhole means dsp words calls old new status p last records =
-    (play : ToPlay (dsp.most p) words) (name : List ℕ) → play.form.trace ≡ Some name → Calm dsp p (device_of last) → TraceHolds means dsp play calls old new status last records
+abbrev pub TracesWhole : {D P : Type 0} → DeskMeaning D → Meaning P → List (List ℕ) → List Turn → List DeskCall → D → D → ℕ → P → Life P → List (List Entry) → Type 0
+TracesWhole means dsp words turns calls old new status p last records =
+    (play : ToPlay (dsp.most p) words) (name : List ℕ) → play.form.trace ≡ Some name → Calm dsp p (device_of last) → TraceHolds means dsp play turns calls old new status last records

@@ -24,7 +24,7 @@ use Rattle.ipc3_trace.specs.declared.entry.Entry.{Entry}
 use Rattle.ipc3_trace.specs.Records.{IsEntry, records_bytes}
 use Rattle.ipc3_trace.specs.Steps.{steps_of}
 use Rattle.ipc3_trace.specs.WholeTraces.{IsTraceOf}
-use Rattle.sof_session.specs.Lives.{Bare, Turns, device_of, reads_in}
+use Rattle.sof_session.specs.Lives.{Bare, Turns, device_of, carried_outs, reads_in}
 use Rattle.sof_stress.specs.StressRun.{sent_in}
 use Rattle.run_desk.specs.Todo.{Todo, Says, DoneBy}
 use Rattle.run_desk.specs.Throughout.{Throughout}
@@ -280,16 +280,23 @@ module _ {D P : Type 0} (means : DeskMeaning D) (dsp : Meaning P) (words : List 
       none_left : given.turns ≡ [] → given.records ≡ []
       none_left none = (subst (λ (ts : List Turn). (t : Turns dsp (Bare p) ts given.last) × TurnsLeft dsp (Bare p) ts given.last t given.records) none (given.turned, kept_named)).1
 
-      left_by : heard_in given.played.calls ≡ Ok a.topology ∷ Ok a.script ∷ [] → (n : ℕ) × (given.records ≡ met_units (plan_of a.t) a.form.heap (take n commands))
+      -- as many units as turns carried out
+      abbrev LeftFirst : ℕ → Type 0
+      LeftFirst n = given.records ≡ met_units (plan_of a.t) a.form.heap (take n commands)
+
+      left_by : heard_in given.played.calls ≡ Ok a.topology ∷ Ok a.script ∷ [] → LeftFirst (length (carried_outs given.turns))
       left_by heard = by (heard_by heard)
         where
-          by : IsBegun ⊎ Ended all_turns status → (n : ℕ) × (given.records ≡ met_units (plan_of a.t) a.form.heap (take n commands))
-          by (inl b) = (
-            length (legs_in made_at_load load at_load b),
-            subst (λ (trace : Option (List ℕ)). AreMet trace (plan_of a.t) a.form.heap (take (length (legs_in made_at_load load at_load b)) commands) given.records) named
-                (met_is a.form a.topology a.script (plan_of a.t) a.read ready all_turns status dsp p given.last given.records given.turns given.turned refl (kept_by a.form a.is_form) off a.make_run.right few b made_at_load load at_load refl calm),
-          )
-          by (inr ended) = (0, none_left (none_recorded given.records given.turns ended.0))
+          by : IsBegun ⊎ Ended all_turns status → LeftFirst (length (carried_outs given.turns))
+          by (inl b) =
+              let made : List (Leg Record) = legs_in made_at_load load at_load b in
+              let many : length made ≡ length (carried_outs given.turns) = sym (length-map made (λ (leg : Leg Record). leg.out)) ∙ ap length (over_is a.form a.topology a.script (plan_of a.t) a.read ready all_turns status dsp p given.last given.records given.turns given.turned refl (kept_by a.form a.is_form) off a.make_run.right few b made_at_load load at_load).outs in
+              subst LeftFirst many
+              (subst (λ (trace : Option (List ℕ)). AreMet trace (plan_of a.t) a.form.heap (take (length made) commands) given.records) named
+              (met_is a.form a.topology a.script (plan_of a.t) a.read ready all_turns status dsp p given.last given.records given.turns given.turned refl (kept_by a.form a.is_form) off a.make_run.right few b made_at_load load at_load refl calm))
+          by (inr ended) =
+              let none : given.turns ≡ [] = none_recorded given.records given.turns ended.0 in
+              none_left none ∙ ap (λ (ts : List Turn). met_units (plan_of a.t) a.form.heap (take (length (carried_outs ts)) commands)) (sym none)
 
       -- all commands have a leg
       abbrev IsAll : ℕ → Type 0
@@ -355,5 +362,5 @@ module _ {D P : Type 0} (means : DeskMeaning D) (dsp : Meaning P) (words : List 
   pub plays_heard : dsp.on p ≡ None → PlaysWhatIsHeard dsp words given.played.calls given.turns status p given.last
   plays_heard off a heard = play_is_heard off a heard
 
-  pub traces : dsp.on p ≡ None → TracesWhole means dsp words given.played.calls old new status p given.last given.records
+  pub traces : dsp.on p ≡ None → TracesWhole means dsp words given.turns given.played.calls old new status p given.last given.records
   traces off a name named calm = record { left = left_by off a name named calm; view = view_told off a name named calm; file = file_by off a name named calm }

@@ -9,8 +9,8 @@ use Rattle.ipc3_trace.specs.Records.{IsEntry, records_bytes}
 use Rattle.ipc3_trace.specs.WholeTraces.{IsTraceOf}
 use Rattle.ipc3_trace.proofs.WholeLaws.{written-stand}
 use Rattle.sof_script.specs.declared.script.Command.{Command}
-use Rattle.sof_session.specs.Lives.{Life, Bare, Seated, Turns}
-use Rattle.sof_script.specs.Tasks.{Task, Begin, Carry, Turn}
+use Rattle.sof_session.specs.Lives.{Life, Bare, Seated, Turned, Turns}
+use Rattle.sof_script.specs.Tasks.{Out, Task, Begin, Fill, Carry, Give, Turn}
 use Rattle.run_words.specs.Words.{Form}
 use Rattle.run_play.specs.Keeping.{LeftBy, TurnLeft, TurnsLeft}
 use Rattle.run_desk.specs.Lines.{no_memory_line}
@@ -29,21 +29,22 @@ all_append : (es fs : List Entry) → AllByRecursion IsEntry es → AllByRecursi
 all_append [] fs are others = others
 all_append (e ∷ es) fs are others = (are.0, all_append es fs are.1 others)
 
-left_each : {P : Type 0} (means : Meaning P) (command : Command) (old new : Life P) (es : List Entry) → LeftBy means command old new es → AllByRecursion IsEntry es
-left_each means command (Bare p) new es left = absurd left
-left_each means command (Seated seat inputs slots) (Bare q) es left = absurd left
-left_each means command (Seated seat inputs slots) (Seated seat' inputs' slots') es left = left.each
+left_each : {P : Type 0} (means : Meaning P) (command : Command) (out : Out) (old new : Life P) (turned : Turned means (Carry command) out old new) (es : List Entry) → LeftBy means command out old new turned es → AllByRecursion IsEntry es
+left_each means command out (Bare p) new turned es left = absurd left
+left_each means command out (Seated seat inputs slots) (Bare q) turned es left = absurd left
+left_each means command out (Seated seat inputs slots) (Seated seat' inputs' slots') turned es left = left.each
 
 pub records-each : {P : Type 0} (means : Meaning P) (turns : List Turn) (p q : Life P) (turned : Turns means p turns q) (records : List (List Entry)) → TurnsLeft means p turns q turned records → AllByRecursion IsEntry (all_records records)
 records-each means [] p q turned records kept = subst (λ (rs : List (List Entry)). AllByRecursion IsEntry (all_records rs)) (sym kept) tt
-records-each means (turn ∷ turns) p q turned records kept = by (λ rs left. records-each means turns turned.0 q turned.2 rs left) turn.task records kept
+records-each means (turn ∷ turns) p q turned records kept = by (λ rs left. records-each means turns turned.0 q turned.2 rs left) turn.task turned.1 records kept
   where
-    by : ((rs : List (List Entry)) → TurnsLeft means turned.0 turns q turned.2 rs → AllByRecursion IsEntry (all_records rs)) → (task : Task) (rs : List (List Entry)) →
-        TurnLeft means task p turned.0 rs (λ rest. TurnsLeft means turned.0 turns q turned.2 rest) → AllByRecursion IsEntry (all_records rs)
-    by later (Carry command) [] left = absurd left
-    by later (Carry command) (es ∷ rest) left = all_append es (all_records rest) (left_each means command p turned.0 es left.0) (later rest left.1)
-    by later (Begin on_use plan heap inputs slots) rs left = later rs left
-    by later task rs left = later rs left
+    by : ((rs : List (List Entry)) → TurnsLeft means turned.0 turns q turned.2 rs → AllByRecursion IsEntry (all_records rs)) → (task : Task) (step : Turned means task turn.out p turned.0) (rs : List (List Entry)) →
+        TurnLeft means task turn.out p turned.0 step rs (λ rest. TurnsLeft means turned.0 turns q turned.2 rest) → AllByRecursion IsEntry (all_records rs)
+    by later (Carry command) step [] left = absurd left
+    by later (Carry command) step (es ∷ rest) left = all_append es (all_records rest) (left_each means command turn.out p turned.0 step es left.0) (later rest left.1)
+    by later (Begin on_use plan heap inputs slots) step rs left = later rs left
+    by later (Fill reads next) step rs left = later rs left
+    by later (Give call) step rs left = later rs left
 
 -- what was written is a trace of them
 pub trace-written : (bytes : List ℕ) (es : List Entry) → bytes ≡ records_bytes es → AllByRecursion IsEntry es → IsTraceOf bytes es None

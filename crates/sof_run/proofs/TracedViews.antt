@@ -46,7 +46,7 @@ module _ {D P E Q : Type 0} (means : DeskMeaning D) (dsp : Meaning P) (others : 
   replays_alike words again old new p q before after r s play name file bytes named told a calm wrote is_replay is_told b still =
       let quiet : Calm dsp p (device_of a.last) = subst (λ (d : P). Calm dsp p d) (sym a.exit.is) calm in
       let silent : Calm device r (device_of b.last) = subst (λ (d : Q). Calm device r d) (sym b.exit.is) still in
-      let kept : TraceHolds means dsp play a.called.calls old new 0 a.last a.called.records = a.traces play name named quiet in
+      let kept : TraceHolds means dsp play a.called.turns a.called.calls old new 0 a.last a.called.records = a.traces play name named quiet in
       let view : option_map view_of (dsp.on q) ≡ option_map view_of (steps_of (met_in play)) =
       ap (λ (d : P). option_map view_of (dsp.on d)) (sym a.exit.is) ∙ kept.view (inl told) refl in
       ap (λ (d : Q). option_map view_of (device.on d)) (sym b.exit.is)
@@ -81,7 +81,7 @@ module _ {D P E Q : Type 0} (means : DeskMeaning D) (dsp : Meaning P) (others : 
   replays_end words again old new p q before after r s status play name file bytes named told a calm wrote fits short is_replay is_told b still =
       let quiet : Calm dsp p (device_of a.last) = subst (λ (d : P). Calm dsp p d) (sym a.exit.is) calm in
       let silent : Calm device r (device_of b.last) = subst (λ (d : Q). Calm device r d) (sym b.exit.is) still in
-      let kept : TraceHolds means dsp play a.called.calls old new 0 a.last a.called.records = a.traces play name named quiet in
+      let kept : TraceHolds means dsp play a.called.turns a.called.calls old new 0 a.last a.called.records = a.traces play name named quiet in
       let view : option_map view_of (dsp.on q) ≡ option_map view_of (steps_of (met_in play)) =
       ap (λ (d : P). option_map view_of (dsp.on d)) (sym a.exit.is) ∙ kept.view (inl told) refl in
       subst (λ (d : Q). Ended status q d) b.exit.is

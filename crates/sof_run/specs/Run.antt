@@ -66,6 +66,6 @@ pub record RunContract {D P : Type 0} (means : DeskMeaning D) (dsp : Meaning P) 
   pub compiles : Compiles means words old (Bare p) called.calls status new last
   pub sources : Sources means words old (Bare p) called.calls status new last
   pub stresses : StressesWhole means dsp words old new status p last called.turns
-  pub traces : TracesWhole means dsp words called.calls old new status p last called.records
+  pub traces : TracesWhole means dsp words called.turns called.calls old new status p last called.records
   pub decodes : Decodes means words old (Bare p) called.calls status new last
   pub replays : Replays means dsp words old p called.calls status new last

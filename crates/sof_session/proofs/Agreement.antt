@@ -23,7 +23,7 @@ use Rattle.host_widgets.proofs.Records.{closed-record}
 use Rattle.host_dynamic.specs.UpDevices.{there_on}
 use Rattle.host_dynamic.specs.UpStates.{IsUpState}
 use Rattle.host_dynamic.proofs.UpLoading.{first-is}
-use Rattle.sof_session.specs.Agreement.{AreAgreed, IsFated, Powered, PoweredBy, expected_in}
+use Rattle.sof_session.specs.Agreement.{AreAgreed, IsFated, Powered, PoweredBy, Ringed, expected_in}
 use Rattle.sof_session.specs.SessionView.{SessionView, first_up, seat_in}
 use Rattle.sof_session.proofs.LinkFates.{Led-fated, Led-inside}
 
@@ -165,7 +165,7 @@ module _ {P : Type 0} (means : Meaning P) (plan : Plan) (heap : ℕ) (dsp : P) (
   -- nothing is up
   first-powered : (on_use : Bool) → PoweredBy means (seat_in on_use plan heap dsp) (first_up on_use)
   first-powered false = off
-  first-powered true = subst (λ (o : Option FwState). IsUpState plan (record { kept = first_record plan; up = []; there = there_on o })) (sym off) (first-is plan sound)
+  first-powered true = subst (λ (o : Option FwState). IsUpState plan (record { kept = first_record plan; up = []; there = there_on o }) × Ringed o) (sym off) (first-is plan sound, tt)
 
   pub AreAgreed-new : (on_use : Bool) → means.pending dsp ≡ 0 → heap ≤ means.most dsp → AreAgreed means (seat_in on_use plan heap dsp)
   AreAgreed-new on_use pending room = record {

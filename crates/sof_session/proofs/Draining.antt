@@ -10,7 +10,7 @@ use Rattle.host_widgets.specs.Host.{SidesBy}
 use Rattle.host_dynamic.specs.UpDevices.{there_on}
 use Rattle.host_dynamic.specs.UpStates.{IsUpState}
 use Rattle.sof_session.specs.SessionView.{SessionView, with_device}
-use Rattle.sof_session.specs.Agreement.{AreAgreed, Powered, PoweredBy, expected_in}
+use Rattle.sof_session.specs.Agreement.{AreAgreed, Powered, PoweredBy, Ringed, expected_in}
 
 module _ {P : Type 0} (means : Meaning P) (seat : SessionView P) (dsp : P) (on : means.on dsp ≡ means.on seat.link.device) where
   sides-same : (view : View) (power : Power) → SidesBy means seat.plan view seat.kept seat.link.device power → SidesBy means seat.plan view seat.kept dsp power
@@ -25,7 +25,7 @@ module _ {P : Type 0} (means : Meaning P) (seat : SessionView P) (dsp : P) (on :
 
   powered-same : (up : Option (List ℕ)) → PoweredBy means seat up → PoweredBy means (with_device seat dsp) up
   powered-same None powered = load-same seat.kept.power powered
-  powered-same (Some up) powered = subst (λ (o : Option FwState). IsUpState seat.plan (record { kept = seat.kept; up = up; there = there_on o })) (sym on) powered
+  powered-same (Some up) powered = subst (λ (o : Option FwState). IsUpState seat.plan (record { kept = seat.kept; up = up; there = there_on o }) × Ringed o) (sym on) powered
 
   pub AreAgreed-drained : Quiet means seat.link.device dsp → AreAgreed means seat → AreAgreed means (with_device seat dsp)
   AreAgreed-drained quiet agreed = record {

@@ -59,6 +59,7 @@ pub mod ControlCalls
 pub mod ActsLed
 pub mod OrderCalls
 pub mod CallAgreement
+pub mod UpRings
 pub mod UpAgreement
 pub mod ModeSteps
 pub mod TickAgreement

@@ -18,11 +18,12 @@ use Rattle.host_widgets.specs.Up.{up_view}
 use Rattle.host_dynamic.specs.UpDevices.{there_on}
 use Rattle.host_dynamic.specs.UpStates.{IsUpState}
 use Rattle.host_widgets.proofs.UpExchanges.{ticks-there}
-use Rattle.sof_session.specs.Agreement.{AreAgreed, Powered, expected_in}
+use Rattle.sof_session.specs.Agreement.{AreAgreed, Powered, Ringed, expected_in}
 use Rattle.sof_session.specs.SessionView.{SessionView}
 use Rattle.sof_session.proofs.Agreement.{at, AgreeAtLoad, at-load, from-load, calls-kept, seat_with, kept-by, agreed-with}
 use Rattle.sof_session.proofs.Keeping.{Keeps-moved}
 use Rattle.sof_session.proofs.UpAgreement.{AgreeOnUse, on-use, from-use}
+use Rattle.sof_session.proofs.UpRings.{ticked-rings}
 use Rattle.sof_session.proofs.Writings.{bound_ends, one-ends}
 
 -- a tick of a device that is on, by its one call on the link; one that is off is not called
@@ -100,6 +101,11 @@ module _ {P : Type 0} (means : Meaning P) (old : SessionView P) (wire : Wire P) 
   both-on-use Off sides same =
       let device = ap (λ (w : Wire P). means.on w.device) same.0 in record { sides = (sides.0, device ∙ sides.1); there = ap there_on device }
 
+  ticked-ringed : (power : Power) → TickedBy means power old.link wire io io' → Ringed (means.on wire.device)
+  ticked-ringed On tick = ticked-rings (link means) (at old.link io) (at wire io') tick agreed.rings
+  ticked-ringed Unloaded same = subst (λ (w : Wire P). Ringed (means.on w.device)) (sym same.0) agreed.rings
+  ticked-ringed Off same = subst (λ (w : Wire P). Ringed (means.on w.device)) (sym same.0) agreed.rings
+
   pub AgreeOnUse-ticked : TickedBy means old.kept.power old.link wire io io' → AgreeOnUse means later up
   AgreeOnUse-ticked tick =
       let led = Ticked-led means old.kept.power old.link wire io io' tick in
@@ -108,6 +114,7 @@ module _ {P : Type 0} (means : Meaning P) (old : SessionView P) (wire : Wire P) 
       record {
         agree = record { record_is = agreed.agree.record_is; sides = both.sides };
         state = subst (λ (t : There). IsUpState old.plan (record { kept = old.kept; up = up; there = t })) (sym both.there) agreed.state;
+        rings = ticked-ringed old.kept.power tick;
         room = omega (arith, agreed.room, calls.steady.most);
         pending = omega (arith, agreed.pending, calls.inside.pending);
         fated = calls.fated;

@@ -43,7 +43,7 @@ module _ {P : Type 0} (means : Meaning P) where
     where
       by : (up : Option (List ℕ)) → seat.up ≡ up → is_some up ≡ true → PoweredBy means seat up → IsUpState seat.plan (up_state_of means seat)
       by None at some powered = absurd (false≢true some)
-      by (Some up) at some powered = subst (λ (o : Option (List ℕ)). IsUpState seat.plan (record (up_state_of means seat) { up = unwrap_or o [] })) (sym at) powered
+      by (Some up) at some powered = subst (λ (o : Option (List ℕ)). IsUpState seat.plan (record (up_state_of means seat) { up = unwrap_or o [] })) (sym at) powered.0
 
 -- what such a session shows
 up-shows : (command : Command) (plan : Plan) (s : UpState) → shown_in command (Some s.up) plan s.kept ≡ up_shown plan s command

@@ -12,13 +12,14 @@ use Rattle.host_widgets.specs.Routines.{Job, JobTested}
 use Rattle.host_widgets.specs.UpState.{UpState, up_act_rules}
 use Rattle.host_dynamic.specs.UpDevices.{up_state_in, UpAgrees}
 use Rattle.host_dynamic.specs.UpStates.{IsUpState}
-use Rattle.sof_session.specs.Agreement.{AreAgreed}
+use Rattle.sof_session.specs.Agreement.{AreAgreed, Ringed}
 use Rattle.sof_session.specs.SessionView.{SessionView}
 use Rattle.sof_session.specs.SessionCalls.{Stays}
 use Rattle.sof_session.proofs.Agreement.{at, CallsKept, calls-kept}
 use Rattle.sof_session.proofs.JobPorts.{job-io, job-ends, job-moves, job-led}
 use Rattle.sof_session.proofs.StillJobs.{StillJob}
-use Rattle.sof_session.proofs.UpAgreement.{from-use}
+use Rattle.sof_session.proofs.UpAgreement.{on-use, from-use, some-up}
+use Rattle.sof_session.proofs.UpRings.{tested-rings}
 use Rattle.sof_session.proofs.Writings.{bound_ends}
 use Rattle.host_widgets.specs.HostActs.{Act}
 
@@ -29,10 +30,11 @@ module _ {P : Type 0} (means : Meaning P) (old : SessionView P) (wire : Wire P) 
   new = record { link = wire; kept = kept; plan = old.plan; heap = old.heap; up = now_up }
 
   -- what is up again agrees
-  again : CallsKept means old.link wire io io' → IsUpState old.plan (up_state_in means kept up wire.device) → UpAgrees means old.plan kept up wire.device → AreAgreed means new
-  again calls state agree = from-use means new up is_up (record {
+  again : CallsKept means old.link wire io io' → Ringed (means.on wire.device) → IsUpState old.plan (up_state_in means kept up wire.device) → UpAgrees means old.plan kept up wire.device → AreAgreed means new
+  again calls rings state agree = from-use means new up is_up (record {
     agree = agree;
     state = state;
+    rings = rings;
     room = omega (arith, are.room, calls.steady.most);
     pending = omega (arith, are.pending, calls.inside.pending);
     fated = calls.fated;
@@ -48,6 +50,9 @@ module _ {P : Type 0} (means : Meaning P) (old : SessionView P) (wire : Wire P) 
         by : (t : Option HostFault) → test ≡ t → CallsKept means old.link wire io io'
         by (Some fault) is = calls-kept means old.link wire io io' are.fated [] (tested.early fault is).1
         by None is = let led = job-led means (up_act_rules old.plan) old.heap job s' (at old.link io) (at wire io') result (tested.late is) in calls-kept means old.link wire io io' are.fated led.0 led.1
+
+    first-rings : Ringed (means.on old.link.device)
+    first-rings = let x = some-up old.up some in (on-use means old x.0 x.1 are).rings
 
     ends : bound_ends io' ≡ bound_ends io
     ends = by test refl
@@ -73,7 +78,7 @@ module _ {P : Type 0} (means : Meaning P) (old : SessionView P) (wire : Wire P) 
     pub use-stays : IsUpState old.plan (up_state_in means kept up wire.device) → UpAgrees means old.plan kept up wire.device → Stays means old new io io'
     use-stays state agree = record {
       agreed = are;
-      later = again calls state agree;
+      later = again calls (tested-rings (link means) (up_act_rules old.plan) old.heap test job s s' (at old.link io) (at wire io') result tested first-rings) state agree;
       plan = refl;
       heap = refl;
       mode = ap (λ (o : Option (List ℕ)). is_some o) is_up ∙ sym some;

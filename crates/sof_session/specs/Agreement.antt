@@ -1,6 +1,7 @@
 -- What the type of a session keeps: its two sides agree.
-use Rattle.std.specs.Prelude.{◌≡◌, ◌<◌, ◌≤◌, ◌^◌, ℕ, List, Option, Some, None}
+use Rattle.std.specs.Prelude.{◌≡◌, ◌<◌, ◌≤◌, ◌^◌, ℕ, List, map, Option, Some, None}
 use Rattle.stream_law.specs.State.{FwState, View}
+use Rattle.stream_law.specs.Ways.{buffers}
 use Rattle.mbox_link.specs.Calls.{Meaning}
 use Rattle.mbox_link.specs.Wire.{Wire}
 use Rattle.mbox_link.specs.Fates.{AreHeld}
@@ -34,11 +35,16 @@ abbrev pub expected_in : Option (List ℕ) → Plan → Record → View
 expected_in None plan kept = record_view plan kept
 expected_in (Some up) plan kept = up_view plan kept up
 
+-- a device that is on has a ring for each buffer
+abbrev pub Ringed : Option FwState → Type 0
+Ringed None = Unit {0}
+Ringed (Some f) = map (λ r. r.buffer) f.rings ≡ buffers f.graph
+
 -- what is kept of the device: where all pipelines are made at a load, it keeps the record while it is on; and where they are made on use,
--- what is up is what the streams need that are not closed, and this, and nothing else, is there
+-- what is up is what the streams need that are not closed, this, and nothing else, is there, and each buffer of it has a ring
 abbrev pub PoweredBy : {P : Type 0} → Meaning P → SessionView P → Option (List ℕ) → Type 0
 PoweredBy means seat None = Powered means seat seat.kept.power
-PoweredBy means seat (Some up) = IsUpState seat.plan (up_state_in means seat.kept up seat.link.device)
+PoweredBy means seat (Some up) = IsUpState seat.plan (up_state_in means seat.kept up seat.link.device) × Ringed (means.on seat.link.device)
 
 -- The two sides agree: the device is on with the view that is expected, or off; the device itself has no tick pending, and
 -- what is planned has a meaning.

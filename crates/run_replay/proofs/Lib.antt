@@ -1,3 +1,4 @@
+pub mod FollowedRecords
 pub mod ReplayPhases
 pub mod ReplayTurns
 pub mod ReplayWalks

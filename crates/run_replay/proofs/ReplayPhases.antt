@@ -1,25 +1,29 @@
 -- The records of a trace that are left, given to a device, make all of it given.
 use Rattle.std.proofs.Common.{◌≡◌, refl, sym, ap, ◌∙◌, subst, ℕ, zero, suc, ◌-◌, ◌<◌, ◌≤◌, Bool, true, false, not, List, [], ◌∷◌, length, Option, Some, None, Result, Ok, Err, inl, inr, codes, arith}
-use Rattle.std.specs.Prelude.{is_some}
+use Rattle.std.specs.Prelude.{is_some, option_map}
+use Rattle.std.specs.Option.{option_or}
 use Rattle.sof_base.specs.Ports.{Io}
 use Rattle.sof_base.proofs.FieldLaws.{IsBytes}
 use Rattle.stream_law.specs.State.{FwState}
 use Rattle.mbox_link.specs.Calls as calls
 use Rattle.mbox_link.specs.Calls.{World, Meaning, Call, Did, Exchanged, Ticked, Steady, world}
 use Rattle.mbox_link.specs.Exchange.{ticked, ticks, Stepped}
-use Rattle.mbox_link.proofs.Led.{Led-steady}
+use Rattle.mbox_link.proofs.Led.{Led-steady, Steady-by}
 use Rattle.host_widgets.specs.declared.answers.Answer.TheVariants.{Done}
 use Rattle.ipc3_trace.specs.declared.entry.Entry.{Entry}
 use Rattle.ipc3_trace.specs.declared.entry.Entry.TheVariants.{Boot, Cut, Request, Reply, Tick, Lost}
 use Rattle.ipc3_trace.specs.declared.fault.TraceFault.{TraceFault}
 use Rattle.ipc3_trace.specs.Reading.{trace_in}
-use Rattle.ipc3_trace.specs.Steps.{no_ports}
+use Rattle.ipc3_trace.specs.Steps.{no_ports, quiescent, AreAlike, step_by}
 use Rattle.ipc3_trace.specs.RecordsAt.{IsRecordAt}
 use Rattle.ipc3_trace.specs.TraceFaults.{IsFaultAt}
 use Rattle.ipc3_trace.proofs.WholeLaws.{StandFrom, stands-in, goes-on, ends-here}
 use Rattle.sof_desk.specs.Desk.{DeskMeaning, Loaded}
 use Rattle.sof_session.specs.Lives.{Bare, Turned, Turns}
 use Rattle.sof_script.specs.Tasks.{Give, Turn}
+use Rattle.sof_session.specs.SessionStep.{Calm}
+use Rattle.sof_session.proofs.LinkFates.{Steady-none}
+use Rattle.sof_session.proofs.StepCounts.{Calm-between}
 use Rattle.run_replay.specs.declared.replay_fault.ReplayFault.{ReplayFault}
 use Rattle.run_replay.specs.declared.replay_fault.ReplayFault.TheVariants as faults
 use Rattle.run_replay.specs.declared.replay_fault.Stopped.{Stopped}
@@ -31,7 +35,9 @@ use Rattle.run_desk.specs.TopologyBytes.{AreBytes}
 use Rattle.run_desk.specs.LinesTodo.{lines_todo}
 use Rattle.run_replay.specs.ReplayTodo.{stopped_todo, without_fault, give_todo, given_todo, replayed_todo, replay}
 use Rattle.run_replay.specs.GivenRecords.{GaveRecord, WentOn, GivesOn, WentThrough}
+use Rattle.run_replay.specs.Replays.{reply_after, fault_from, replay_fault}
 use Rattle.run_desk.proofs.Steps.{ask_on, free_on, alone}
+use Rattle.run_replay.proofs.FollowedRecords.{alike-on, gave-follows, gave-failed-not}
 
 -- a message that is not at fault is given to a device that is on
 pub is-order : (wrong : Bool) (at : ℕ) → order_where wrong at ≡ None → wrong ≡ false
@@ -134,13 +140,18 @@ module _ {P : Type 0} (means : Meaning P) where
   give-off (Request message) next old new gave turns made status last turned goes = (gives (calls.Exchange message None) ∷ turns, (Bare new, gave, turned), (refl, goes))
   give-off other next old new gave turns made status last turned goes = absurd gave
 
-  most-same : (e : Entry) (reply : Option (List ℕ)) (old new : P) → GaveRecord means e old (Ok reply) new → means.most new ≡ means.most old
-  most-same (Boot heap) reply old new gave = (call-steady (calls.Boot heap) old new gave.1).most
-  most-same Cut reply old new gave = (call-steady calls.Cut old new gave.1).most
-  most-same (Request message) reply old new gave = (call-steady (calls.Exchange message reply) old new gave.1).most
-  most-same Tick reply old new gave = (call-steady calls.Tick old new gave.1).most
-  most-same (Reply other) reply old new gave = ap means.most gave.1
-  most-same Lost reply old new gave = ap means.most gave.1
+  gave-steady : (e : Entry) (reply : Option (List ℕ)) (old new : P) → GaveRecord means e old (Ok reply) new → Steady means old new
+  gave-steady (Boot heap) reply old new gave = call-steady (calls.Boot heap) old new gave.1
+  gave-steady Cut reply old new gave = call-steady calls.Cut old new gave.1
+  gave-steady (Request message) reply old new gave = call-steady (calls.Exchange message reply) old new gave.1
+  gave-steady Tick reply old new gave = call-steady calls.Tick old new gave.1
+  gave-steady (Reply other) reply old new gave = Steady-none means old new gave.1
+  gave-steady Lost reply old new gave = Steady-none means old new gave.1
+
+  -- a message that is not at fault meets a device that is on
+  sends-on : (e : Entry) (awaited : Option (List ℕ)) (at : ℕ) (old : P) → record_fault (means.most old) (is_some (means.on old)) awaited at e ≡ None → (message : List ℕ) → e ≡ Request message → is_some (means.on old) ≡ true
+  sends-on e awaited at old none message is =
+      message-on (means.most old) (is_some (means.on old)) awaited at message (subst (λ (x : Entry). record_fault (means.most old) (is_some (means.on old)) awaited at x ≡ None) is none)
 
   -- whether the device is on then
   pub sent-on : (message : List ℕ) (reply : Option (List ℕ)) (old new : P) → Exchanged means message reply (world old [] []) (world new [] []) → is_some (means.on old) ≡ true → is_some (means.on new) ≡ true
@@ -173,6 +184,13 @@ module _ {P : Type 0} (means : Meaning P) where
 
   -- ---- one after another
 
+  -- a state is alike to the device, from which the first fault of those that are left is this
+  pub record FaultsOn (es : List Entry) (fault : Option TraceFault) (awaited : Option (List ℕ)) (at : ℕ) (found : Option ReplayFault) (new : P) : Type 0 where
+    pub state : Option FwState
+    pub alike : AreAlike (means.on new) state
+    pub none : means.pending new ≡ 0
+    pub is : found ≡ fault_from (means.most new) es fault state awaited at
+
   -- from a place on these are left, and giving them makes all given
   pub record LeftToGive (bytes : List ℕ) (at : ℕ) (awaited : Option (List ℕ)) (tally : Tally) (old new : P) : Type 0 where
     pub es : List Entry
@@ -180,6 +198,8 @@ module _ {P : Type 0} (means : Meaning P) where
     pub stand : StandFrom bytes at es fault
     pub tally_is : tally_from tally es ≡ tally_of (trace_in bytes).0
     pub leads : (last : Bool → Todo) → GivesOn means (given_todo (means.most old) (trace_in bytes).0 (trace_in bytes).1 false None 0 last) (given_todo (means.most new) es fault (is_some (means.on new)) awaited at last) old new
+    pub steady : Steady means old new
+    pub first : means.pending old ≡ 0 → Calm means old new → FaultsOn es fault awaited at (replay_fault (means.most old) (trace_in bytes).0 (trace_in bytes).1) new
 
   module _ (bytes : List ℕ) where
     abbrev Through : P → Result Tally Stopped → P → Type 0
@@ -192,12 +212,30 @@ module _ {P : Type 0} (means : Meaning P) where
       stand = stands-in bytes are;
       tally_is = refl;
       leads = λ last turns made status end turned goes. (turns, turned, subst (λ (b : Bool). DoneBy (given_todo (means.most old) (trace_in bytes).0 (trace_in bytes).1 b None 0 last) turns made status) (ap is_some off) goes);
+      steady = Steady-none means old old refl;
+      first = λ none calm. record { state = None; alike = ap (option_map quiescent) off; none = none; is = refl };
     }
 
     module _ (at : ℕ) (awaited : Option (List ℕ)) (tally : Tally) (old mid : P) (left : LeftToGive bytes at awaited tally old mid) where
+      -- the first fault of all
+      abbrev whole : Option ReplayFault
+      whole = replay_fault (means.most old) (trace_in bytes).0 (trace_in bytes).1
+
+      -- is that of a record and those after it
+      first-here : (e : Entry) (es : List Entry) → left.es ≡ e ∷ es → (f : FaultsOn left.es left.fault awaited at whole mid) →
+          whole ≡ option_or (record_fault (means.most mid) (is_some (means.on mid)) awaited at e) (fault_from (means.most mid) es left.fault (step_by f.state e) (reply_after f.state e) (next_place at e))
+      first-here e es is f =
+          f.is ∙ ap (λ (xs : List Entry). fault_from (means.most mid) xs left.fault f.state awaited at) is
+          ∙ ap (λ (b : Bool). option_or (record_fault (means.most mid) b awaited at e) (fault_from (means.most mid) es left.fault (step_by f.state e) (reply_after f.state e) (next_place at e))) (sym (alike-on (means.on mid) f.state f.alike))
+
+      -- or of the end
+      first-end : (end : Option TraceFault) → (left.es ≡ []) × (left.fault ≡ end) → (f : FaultsOn left.es left.fault awaited at whole mid) → whole ≡ end_fault awaited at end
+      first-end end is f = f.is ∙ (λ i. fault_from (means.most mid) (is.0 i) (is.1 i) f.state awaited at)
+
       pub give-more : (next : ℕ) (e : Entry) (reply : Option (List ℕ)) (tally' : Tally) (new : P) → IsRecordAt bytes at e next → WentOn means e at awaited mid (Ok reply) new → tally' ≡ tallied e tally → LeftToGive bytes next reply tally' old new
       give-more next e reply tally' new r went is =
           let on = goes-on bytes at left.es left.fault e next left.stand r in
+          let steady : Steady means mid new = gave-steady e reply mid new went.1 in
           record {
             es = on.0;
             fault = left.fault;
@@ -208,31 +246,54 @@ module _ {P : Type 0} (means : Meaning P) where
                 let here : DoneBy (then_given reply) turns made status =
                 subst (λ (n : ℕ). DoneBy (given_todo (means.most mid) on.0 left.fault (on_after (is_some (means.on mid)) e) reply n last) turns made status) r.behind
                 (subst (λ (b : Bool). DoneBy (given_todo (means.most mid) on.0 left.fault b reply next last) turns made status) (on-is e awaited at reply mid new went.0 went.1)
-                (subst (λ (room : ℕ). DoneBy (given_todo room on.0 left.fault (is_some (means.on new)) reply next last) turns made status) (most-same e reply mid new went.1) goes)) in
+                (subst (λ (room : ℕ). DoneBy (given_todo room on.0 left.fault (is_some (means.on new)) reply next last) turns made status) steady.most goes)) in
                 let g = give-on e then_given reply mid new went.1 turns made status end turned here in
                 let whole : DoneBy (given_todo (means.most mid) (e ∷ on.0) left.fault (is_some (means.on mid)) awaited at last) g.0 made status =
                 subst (λ (f : Option ReplayFault). DoneBy (without_fault f (give_todo e then_given)) g.0 made status) (sym went.0) g.2 in
                 left.leads last g.0 made status end g.1
                 (subst (λ (es : List Entry). DoneBy (given_todo (means.most mid) es left.fault (is_some (means.on mid)) awaited at last) g.0 made status) (sym on.1) whole);
+            steady = Steady-by means old mid new left.steady steady;
+            first = λ none calm.
+                let f = left.first none (Calm-between means old old mid new (Steady-none means old old refl) steady calm) in
+                let still = Calm-between means old mid new new left.steady (Steady-none means new new refl) calm in
+                let g = gave-follows means mid new e reply f.state f.alike f.none still (sends-on e awaited at mid went.0) went.1 in
+                let rest : Option ReplayFault = fault_from (means.most mid) on.0 left.fault (step_by f.state e) (reply_after f.state e) (next_place at e) in
+                record {
+                  state = step_by f.state e;
+                  alike = g.0;
+                  none = omega (arith, f.none, steady.pending);
+                  is = first-here e on.0 on.1 f ∙ ap (λ (o : Option ReplayFault). option_or o rest) went.0
+                      ∙ (λ i. fault_from (sym steady.most i) on.0 left.fault (step_by f.state e) (sym g.1 i) (sym r.behind i));
+                };
           }
 
       -- the record is at fault, or the device failed
       pub give-stopped : (next : ℕ) (e : Entry) (why : Stopped) (new : P) → IsRecordAt bytes at e next → WentOn means e at awaited mid (Err why) new → Through old (Err why) new
-      give-stopped next e (At fault) new r went = λ last turns made status end turned goes.
-          let on = goes-on bytes at left.es left.fault e next left.stand r in
-          let then_given : Option (List ℕ) → Todo = λ reply. given_todo (means.most mid) on.0 left.fault (on_after (is_some (means.on mid)) e) reply (next_place at e) last in
-          let whole : DoneBy (given_todo (means.most mid) (e ∷ on.0) left.fault (is_some (means.on mid)) awaited at last) turns made status =
-          subst (λ (f : Option ReplayFault). DoneBy (without_fault f (give_todo e then_given)) turns made status) (sym went.0) goes in
-          left.leads last turns made status end (subst (λ (d : P). Turns means (Bare d) turns end) went.1 turned)
-          (subst (λ (es : List Entry). DoneBy (given_todo (means.most mid) es left.fault (is_some (means.on mid)) awaited at last) turns made status) (sym on.1) whole)
-      give-stopped next e Device new r went = λ last turns made status end turned goes.
-          let on = goes-on bytes at left.es left.fault e next left.stand r in
-          let then_given : Option (List ℕ) → Todo = λ reply. given_todo (means.most mid) on.0 left.fault (on_after (is_some (means.on mid)) e) reply (next_place at e) last in
-          let g = give-off e then_given mid new went.1 turns made status end turned goes in
-          let whole : DoneBy (given_todo (means.most mid) (e ∷ on.0) left.fault (is_some (means.on mid)) awaited at last) g.0 made status =
-          subst (λ (f : Option ReplayFault). DoneBy (without_fault f (give_todo e then_given)) g.0 made status) (sym went.0) g.2 in
-          left.leads last g.0 made status end g.1
-          (subst (λ (es : List Entry). DoneBy (given_todo (means.most mid) es left.fault (is_some (means.on mid)) awaited at last) g.0 made status) (sym on.1) whole)
+      give-stopped next e (At fault) new r went =
+          let on = goes-on bytes at left.es left.fault e next left.stand r in (
+            λ last turns made status end turned goes.
+                let then_given : Option (List ℕ) → Todo = λ reply. given_todo (means.most mid) on.0 left.fault (on_after (is_some (means.on mid)) e) reply (next_place at e) last in
+                let all : DoneBy (given_todo (means.most mid) (e ∷ on.0) left.fault (is_some (means.on mid)) awaited at last) turns made status =
+                subst (λ (f : Option ReplayFault). DoneBy (without_fault f (give_todo e then_given)) turns made status) (sym went.0) goes in
+                left.leads last turns made status end (subst (λ (d : P). Turns means (Bare d) turns end) went.1 turned)
+                (subst (λ (es : List Entry). DoneBy (given_todo (means.most mid) es left.fault (is_some (means.on mid)) awaited at last) turns made status) (sym on.1) all),
+            λ none calm.
+                let f = left.first none (subst (λ (d : P). Calm means old d) went.1 calm) in
+                let rest : Option ReplayFault = fault_from (means.most mid) on.0 left.fault (step_by f.state e) (reply_after f.state e) (next_place at e) in
+                first-here e on.0 on.1 f ∙ ap (λ (o : Option ReplayFault). option_or o rest) went.0,
+          )
+      give-stopped next e Device new r went =
+          let on = goes-on bytes at left.es left.fault e next left.stand r in (
+            λ last turns made status end turned goes.
+                let then_given : Option (List ℕ) → Todo = λ reply. given_todo (means.most mid) on.0 left.fault (on_after (is_some (means.on mid)) e) reply (next_place at e) last in
+                let g = give-off e then_given mid new went.1 turns made status end turned goes in
+                let all : DoneBy (given_todo (means.most mid) (e ∷ on.0) left.fault (is_some (means.on mid)) awaited at last) g.0 made status =
+                subst (λ (f : Option ReplayFault). DoneBy (without_fault f (give_todo e then_given)) g.0 made status) (sym went.0) g.2 in
+                left.leads last g.0 made status end g.1
+                (subst (λ (es : List Entry). DoneBy (given_todo (means.most mid) es left.fault (is_some (means.on mid)) awaited at last) g.0 made status) (sym on.1) all),
+            λ none calm.
+                absurd (gave-failed-not means mid new e (Calm-between means old mid new new left.steady (Steady-none means new new refl) calm) (sends-on e awaited at mid went.0) went.1),
+          )
 
       -- the end, or the first fault of the bytes
       abbrev Last : Option TraceFault → (Bool → Todo) → Todo
@@ -245,13 +306,18 @@ module _ {P : Type 0} (means : Meaning P) where
           (subst (λ (f : Option TraceFault). DoneBy (given_todo (means.most mid) [] f (is_some (means.on mid)) awaited at last) turns made status) (sym is.1) goes))
 
       pub give-broken : (fault : TraceFault) → at ≤ length bytes → IsFaultAt bytes at fault → Through old (Err (At (faults.Broken fault))) mid
-      give-broken fault within is = λ last turns made status end turned goes.
-          ended (Some fault) (ends-here bytes at left.es left.fault (Some fault) left.stand (within, is)) last turns made status end turned goes
+      give-broken fault within is =
+          let e = ends-here bytes at left.es left.fault (Some fault) left.stand (within, is) in
+          (λ last turns made status end turned goes. ended (Some fault) e last turns made status end turned goes, λ none calm. first-end (Some fault) e (left.first none calm))
 
       pub give-wanting : (reply : List ℕ) → awaited ≡ Some reply → at ≡ length bytes → Through old (Err (At (faults.Order at))) mid
-      give-wanting reply is here = λ last turns made status end turned goes.
-          ended None (ends-here bytes at left.es left.fault None left.stand here) last turns made status end turned
-          (subst (λ (o : Option (List ℕ)). DoneBy (without_fault (end_fault o at None) (last (is_some (means.on mid)))) turns made status) (sym is) goes)
+      give-wanting reply is here =
+          let e = ends-here bytes at left.es left.fault None left.stand here in (
+            λ last turns made status end turned goes.
+                ended None e last turns made status end turned
+                (subst (λ (o : Option (List ℕ)). DoneBy (without_fault (end_fault o at None) (last (is_some (means.on mid)))) turns made status) (sym is) goes),
+            λ none calm. first-end None e (left.first none calm) ∙ ap (λ (o : Option (List ℕ)). end_fault o at None) is,
+          )
 
       pub give-done : awaited ≡ None → at ≡ length bytes → Through old (Ok tally) mid
       give-done is here =
@@ -260,6 +326,7 @@ module _ {P : Type 0} (means : Meaning P) where
             λ last turns made status end turned goes.
                 ended None e last turns made status end turned
                 (subst (λ (o : Option (List ℕ)). DoneBy (without_fault (end_fault o at None) (last (is_some (means.on mid)))) turns made status) (sym is) goes),
+            λ none calm. first-end None e (left.first none calm) ∙ ap (λ (o : Option (List ℕ)). end_fault o at None) is,
           )
 
 -- ---- with the desk
@@ -278,7 +345,7 @@ module _ {D P : Type 0} (means : DeskMeaning D) (dsp : Meaning P) (es : List Ent
   pub replayed-stopped : (old new : D) (p q : P) (why : Stopped) (status : ℕ) → WentThrough dsp es end p (Err why) q → Played means (stopped_todo why) old [] status new →
       RanOn means (Turned dsp) (replayed_todo (dsp.most p) es end) old (Bare p) status new (Bare q)
   replayed-stopped old new p q why status went said =
-      let all = went (λ on. lines_todo (replay_lines (tally_of es) on) End) [] said.calls status (Bare q) refl said.goes in
+      let all = went.0 (λ on. lines_todo (replay_lines (tally_of es) on) End) [] said.calls status (Bare q) refl said.goes in
       record { turns = all.0; turned = all.1; played = record { calls = said.calls; led = said.led; goes = all.2 } }
 
 -- ---- the file

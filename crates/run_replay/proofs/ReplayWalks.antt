@@ -6,14 +6,11 @@ use Rattle.sof_desk.specs.Desk.{DeskCall}
 use Rattle.stream_law.specs.State.{FwState}
 use Rattle.mbox_link.specs.Step.{fresh, step}
 use Rattle.mbox_link.specs.Calls as calls
-use Rattle.mbox_link.specs.Calls.{Meaning, Did, world}
+use Rattle.mbox_link.specs.Calls.{Meaning}
 use Rattle.ipc3_trace.specs.declared.entry.Entry.{Entry}
 use Rattle.ipc3_trace.specs.declared.entry.Entry.TheVariants.{Boot, Cut, Request, Reply, Tick, Lost}
 use Rattle.ipc3_trace.specs.declared.fault.TraceFault.{TraceFault}
 use Rattle.ipc3_trace.specs.Steps.{quiescent, AreAlike, step_by, steps_from}
-use Rattle.ipc3_trace.specs.AlongCalls.{entries_by}
-use Rattle.ipc3_trace.specs.CallRecords.{IsPlain}
-use Rattle.ipc3_trace.proofs.LeadingLaws.{led-leads, replies-are}
 use Rattle.sof_session.specs.Lives.{Life, Bare, Turns, device_of}
 use Rattle.sof_script.specs.Tasks.{Turn}
 use Rattle.sof_session.specs.SessionStep.{Calm}
@@ -27,6 +24,7 @@ use Rattle.run_replay.specs.ReplayTodo.{stopped_todo, without_fault, replied_tod
 use Rattle.run_replay.specs.Replays.{reply_after, fault_from}
 use Rattle.run_desk.proofs.Steps.{no_turns}
 use Rattle.run_replay.proofs.ReplayPhases.{message-on, is-on}
+use Rattle.run_replay.proofs.FollowedRecords.{alike-on, tick-follows, message-follows, failed-not}
 use Rattle.run_replay.proofs.ReplayTurns.{Given, first-given, first-calm, later-calm, none-pending}
 
 module _ {P : Type 0} (dsp : Meaning P) where
@@ -76,18 +74,6 @@ module _ {P : Type 0} (dsp : Meaning P) where
           let g = first-given dsp calls.Cut turn turns d last goes.0 turned in
           others g.after turns made status last None None (next_place at Cut) g.rest goes.1 (ap (option_map quiescent) (g.did).0.on) (none-pending dsp g none) (later-calm dsp g calm)
 
-      -- a tick leaves on what is on
-      tick-alike : (after : P) → Did dsp calls.Tick (world d [] []) (world after [] []) → AreAlike (dsp.on after) (step_by s Tick)
-      tick-alike after did = by (dsp.on d) refl s alike
-        where
-          by : (o : Option FwState) → dsp.on d ≡ o → (s : Option FwState) → AreAlike o s → AreAlike (dsp.on after) (step_by s Tick)
-          by None is None alike = ap (option_map quiescent) (did.off is).0
-          by None is (Some f) alike = absurd (cc alike)
-          by (Some f) is None alike = absurd (cc alike)
-          by (Some f) is (Some g) alike =
-              let led = led-leads dsp (calls.Tick ∷ []) (world d [] []) (world after [] []) (world after [] [], did, refl) (tt, tt) (Some g) (subst (λ (o : Option FwState). AreAlike o (Some g)) (sym is) alike) in
-              subst (λ (b : Bool). AreAlike (dsp.on after) (steps_from (Some g) (entries_by b calls.Tick ++ []))) (ap is_some is) led
-
       tick-on : (s : Option FwState) → is_some (step_by s Tick) ≡ is_some s
       tick-on None = refl
       tick-on (Some f) = refl
@@ -97,34 +83,22 @@ module _ {P : Type 0} (dsp : Meaning P) where
       tick-walk (turn ∷ turns) turned goes =
           let g = first-given dsp calls.Tick turn turns d last goes.0 turned in
           others g.after turns made status last (step_by s Tick) None (next_place at Tick) g.rest
-          (subst (λ (b : Bool). DoneBy (given_todo room es end b None (next_place at Tick) final) turns made status) (sym (tick-on s)) goes.1) (tick-alike g.after g.did) (none-pending dsp g none) (later-calm dsp g calm)
+          (subst (λ (b : Bool). DoneBy (given_todo room es end b None (next_place at Tick) final) turns made status) (sym (tick-on s)) goes.1) (tick-follows dsp d g.after s alike g.did) (none-pending dsp g none) (later-calm dsp g calm)
 
       -- a device that is on answers what the firmware does
       module _ (message : List ℕ) (f : FwState) (s_is : s ≡ Some f) (turns : List Turn) where
-        on_d : is_some (dsp.on d) ≡ true
-        on_d = by (dsp.on d) (subst (λ (t : Option FwState). AreAlike (dsp.on d) t) s_is alike)
-          where
-            by : (o : Option FwState) → AreAlike o (Some f) → is_some o ≡ true
-            by None alike = absurd (cc alike)
-            by (Some g) alike = refl
+        same : AreAlike (dsp.on d) (Some f)
+        same = subst (λ (t : Option FwState). AreAlike (dsp.on d) t) s_is alike
 
         answered : (answer : Option (List ℕ)) (g : Given dsp (calls.Exchange message answer) turns d last) → DoneBy (replied_todo (then_given (Request message)) answer) turns made status → Behind (Request message)
-        answered None g goes =
-            let here = is-on (dsp.on d) on_d in
-            let came = (g.did).step here.0 here.1 in
-            absurd ((first-calm dsp g calm).faults came.1)
+        answered None g goes = absurd (failed-not dsp d g.after message (alike-on (dsp.on d) (Some f) same) (first-calm dsp g calm) g.did)
         answered (Some reply) g goes =
-            let plain : IsPlain dsp (calls.Exchange message (Some reply)) (world d [] []) (world g.after [] []) = (on_d, none, (first-calm dsp g calm).faults, (first-calm dsp g calm).refusals) in
-            let same : AreAlike (dsp.on d) (Some f) = subst (λ (t : Option FwState). AreAlike (dsp.on d) t) s_is alike in
-            let is : reply ≡ (step f message).1 = replies-are dsp (world d [] []) (world g.after [] []) message reply g.did plain f same in
-            let led = led-leads dsp (calls.Exchange message (Some reply) ∷ []) (world d [] []) (world g.after [] []) (world g.after [] [], g.did, refl) (plain, tt) (Some f) same in
-            let leads : AreAlike (dsp.on g.after) (Some (step f message).0) =
-            subst (λ (b : Bool). AreAlike (dsp.on g.after) (steps_from (Some f) (entries_by b (calls.Exchange message (Some reply)) ++ []))) on_d led in
+            let m = message-follows dsp d g.after message reply f same none (first-calm dsp g calm) g.did in
             let later : DoneBy (given_todo room es end true (Some (step f message).1) (next_place at (Request message)) final) turns made status =
             subst (λ (t : Option FwState). DoneBy (given_todo room es end (is_some t) (Some (step f message).1) (next_place at (Request message)) final) turns made status) s_is
-            (subst (λ (r : List ℕ). DoneBy (given_todo room es end (is_some s) (Some r) (next_place at (Request message)) final) turns made status) is goes) in
+            (subst (λ (r : List ℕ). DoneBy (given_todo room es end (is_some s) (Some r) (next_place at (Request message)) final) turns made status) m.0 goes) in
             subst (λ (t : Option FwState). Came (fault_from room es end (step_by t (Request message)) (reply_after t (Request message)) (next_place at (Request message))) (steps_from (step_by t (Request message)) es) made status last) (sym s_is)
-            (others g.after turns made status last (Some (step f message).0) (Some (step f message).1) (next_place at (Request message)) g.rest later leads (none-pending dsp g none) (later-calm dsp g calm))
+            (others g.after turns made status last (Some (step f message).0) (Some (step f message).1) (next_place at (Request message)) g.rest later m.1 (none-pending dsp g none) (later-calm dsp g calm))
 
       message-walk : (message : List ℕ) (turns : List Turn) → is_some s ≡ true → Turns dsp (Bare d) turns last → DoneBy (give_todo (Request message) (then_given (Request message))) turns made status → Behind (Request message)
       message-walk message [] on turned goes = absurd goes

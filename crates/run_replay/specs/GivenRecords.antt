@@ -7,6 +7,7 @@ use Rattle.ipc3_trace.specs.declared.entry.Entry.{Entry}
 use Rattle.ipc3_trace.specs.declared.entry.Entry.TheVariants.{Boot, Cut, Request, Reply, Tick, Lost}
 use Rattle.ipc3_trace.specs.declared.fault.TraceFault.{TraceFault}
 use Rattle.sof_session.specs.Lives.{Life, Bare, Turns}
+use Rattle.sof_session.specs.SessionStep.{Calm}
 use Rattle.sof_script.specs.Tasks.{Turn}
 use Rattle.run_replay.specs.declared.replay_fault.ReplayFault.{ReplayFault}
 use Rattle.run_replay.specs.declared.replay_fault.Stopped.{Stopped}
@@ -14,6 +15,7 @@ use Rattle.run_replay.specs.declared.replay_fault.Stopped.TheVariants.{At, Devic
 use Rattle.run_replay.specs.declared.replay_fault.Tally.{Tally}
 use Rattle.run_replay.specs.Replaying.{record_fault, tally_of}
 use Rattle.run_replay.specs.ReplayTodo.{given_todo, stopped_todo}
+use Rattle.run_replay.specs.Replays.{replay_fault}
 use Rattle.run_desk.specs.Todo.{Todo, DoneBy}
 
 -- ---- one record
@@ -48,13 +50,25 @@ GivesOn {P} means whole left old new =
     (turns : List Turn) (calls : List DeskCall) (status : ℕ) (last : Life P) → Turns means (Bare new) turns last → DoneBy left turns calls status
     → (all : List Turn) × Turns means (Bare old) all last × DoneBy whole all calls status
 
+-- the fault that is told, where there is one
+abbrev pub fault_told : Stopped → Option ReplayFault
+fault_told (At fault) = Some fault
+fault_told Device = None
+
+-- it is the first of all, over a device that has no tick pending and does nothing of its own accord
+abbrev pub IsFirst : {P : Type 0} → Meaning P → List Entry → Option TraceFault → P → Option ReplayFault → P → Type 0
+IsFirst means es end old told new = means.pending old ≡ 0 → Calm means old new → replay_fault (means.most old) es end ≡ told
+
 -- all records were given, and these are as many; or this is why no more are given
 abbrev pub WentThrough : {P : Type 0} → Meaning P → List Entry → Option TraceFault → P → Result Tally Stopped → P → Type 0
 WentThrough means es end old (Ok tally) new =
     (tally ≡ tally_of es) × ((last : Bool → Todo) → GivesOn means (given_todo (means.most old) es end false None 0 last) (last (is_some (means.on new))) old new)
-WentThrough means es end old (Err why) new = (last : Bool → Todo) → GivesOn means (given_todo (means.most old) es end false None 0 last) (stopped_todo why) old new
+    × IsFirst means es end old None new
+WentThrough means es end old (Err why) new =
+    ((last : Bool → Todo) → GivesOn means (given_todo (means.most old) es end false None 0 last) (stopped_todo why) old new) × IsFirst means es end old (fault_told why) new
 
--- this record is at fault, found where all in front of it were given; or none is, and all were given or the device failed
+-- this record is at fault, found where all in front of it were given; or none is, and all were given or the device failed. Over a device
+-- that does nothing of its own accord this is the first fault of all.
 abbrev pub FoundFault : {P : Type 0} → Meaning P → List Entry → Option TraceFault → P → Option ReplayFault → Type 0
 FoundFault {P} means es end old (Some fault) = (new : P) × WentThrough means es end old (Err (At fault)) new
 FoundFault {P} means es end old None = (new : P) × (((tally : Tally) × WentThrough means es end old (Ok tally) new) ⊎ WentThrough means es end old (Err Device) new)

@@ -45,7 +45,7 @@ use Rattle.run_words.specs.TraceForms.{replay_of}
 use Rattle.run_words.specs.Words.{Form, play_of}
 use Rattle.run_play.specs.Met.{met_units}
 use Rattle.run_play.specs.Pieces.{AreWritten, opened, bytes_of_pieces}
-use Rattle.run_play.specs.Traces.{met_in, TracesWhole}
+use Rattle.run_play.specs.Traces.{met_in, put_at, TracesWhole}
 use Rattle.run_play.specs.Keeping.{trace_slot, trace_slots, recorded_turns, recorded_outs, TurnsLeft, KeptRecords}
 use Rattle.sof_run.specs.Forms.{todo_for, todo_of, GaveSent}
 use Rattle.sof_run.specs.Ends.{IsEarly, Worded}
@@ -68,11 +68,12 @@ use Rattle.run_desk.proofs.LoadedBytes.{loads_bring}
 use Rattle.sof_run.proofs.Courses.{follows}
 use Rattle.run_play.proofs.PlayRuns.{play_goes, plays, before_begun}
 use Rattle.run_play.proofs.HeardRuns.{Began, Ended, play_heard, legs, over_is, met_is, view_is, all_legs}
-use Rattle.run_play.proofs.RecordedTurns.{Fronted, fronted_turns, none_recorded, as_many_outs}
+use Rattle.run_play.proofs.RecordedTurns.{Fronted, fronted_turns, none_recorded, as_many_outs, outs_recorded}
 use Rattle.run_play.proofs.MetRuns.{all_records, met-length}
 use Rattle.sof_run.proofs.TraceFiles.{trace-apart, file-bytes, trace-bytes}
 use Rattle.sof_run.proofs.RecordEntries.{records-each, trace-written, told_heard}
-use Rattle.sof_run.proofs.OnePlay.{all_made}
+use Rattle.sof_run.proofs.OnePlay.{all_made, all_pieces}
+use Rattle.sof_run.proofs.PutBytes.{play-put}
 use Rattle.run_desk.proofs.Statuses.{IsLate, ends, none_turned, none_asked, three_rose}
 use Rattle.sof_run.proofs.Throughout.{play_all, check_all, compile_all, source_all, stress_all, decode_all, replay_all, words_last}
 
@@ -332,6 +333,38 @@ module _ {D P : Type 0} (means : DeskMeaning D) (dsp : Meaning P) (words : List 
       each_taken : AllByRecursion IsEntry (all_records given.records)
       each_taken = records-each dsp given.turns (Bare p) given.last given.turned given.records kept_named
 
+      -- what was put to the trace's slot
+      abbrev IsPut : Type 0
+      IsPut = (put_at (Slot trace_slot) given.played.calls ≡ records_bytes (met_in a)) × IsTraceOf (records_bytes (met_in a)) (met_in a) None
+
+      put_by : heard_in given.played.calls ≡ Ok a.topology ∷ Ok a.script ∷ [] → status ≡ 0 → IsPut
+      put_by heard zero = by (heard_by heard)
+        where
+          by : IsBegun ⊎ Ended all_turns status → IsPut
+          by (inr ended) = absurd (not_zero status zero ended.1)
+          by (inl b) =
+              let g : Ground = ground_of a (bytes_read (reads_in given.turns)) in
+              let rounds : List Round = rounds_of a.read.commands in
+              let made : List (Leg Record) = legs_in made_at_load load at_load b in
+              let outs : List Out = map (λ (leg : Leg Record). leg.out) made in
+              let over = over_is a.form a.topology a.script (plan_of a.t) a.read ready all_turns status dsp p given.last given.records given.turns given.turned refl (kept_by a.form a.is_form) off a.make_run.right few b made_at_load load at_load in
+              let many : length made ≡ length rounds = all_legs a.form a.topology a.script (plan_of a.t) a.read ready all_turns status dsp p given.last given.records given.turns given.turned refl (kept_by a.form a.is_form) off a.make_run.right few b made_at_load load at_load zero in
+              let outs_many : length outs ≡ length rounds = length-map made (λ (leg : Leg Record). leg.out) ∙ many in
+              let left : given.records ≡ met_units (plan_of a.t) a.form.heap commands =
+              subst (λ (trace : Option (List ℕ)). AreMet trace (plan_of a.t) a.form.heap (take (length made) commands) given.records) named
+              (met_is a.form a.topology a.script (plan_of a.t) a.read ready all_turns status dsp p given.last given.records given.turns given.turned refl (kept_by a.form a.is_form) off a.make_run.right few b made_at_load load at_load refl calm)
+              ∙ ap (met_units (plan_of a.t) a.form.heap) (all_of (length made) many) in
+              let each : length given.records ≡ length outs =
+              ap length left ∙ met-length (plan_of a.t) a.form.heap commands ∙ length-map rounds (λ (round : Round). round.numbered.command) ∙ sym outs_many in
+              let apart = trace-apart a.topology a.t a.read.bindings a.make_run.file a.fit.0 a.make_run.right in
+              let put = play-put (Slot trace_slot) a.form a.topology a.script (plan_of a.t) a.read ready all_turns given.played.calls heard (subst (DoneBy (play a.form) all_turns given.played.calls) zero (plays_by a.form a.is_form)) in
+              let as_outs : carried_outs all_turns ≡ recorded_outs given.records outs = outs_recorded given.records given.turns ∙ ap (recorded_outs given.records) (sym over.outs) in
+              let is : put_at (Slot trace_slot) given.played.calls ≡ records_bytes (met_in a) =
+              put ∙ ap (λ (os : List Out). bytes_of_pieces (Slot trace_slot) (all_pieces rounds os)) as_outs
+              ∙ trace-bytes g over.doing (take (length made) commands) (first_at (basis_of g)) made rounds given.records over.run apart outs_many each
+              ∙ ap (λ (rs : List (List Entry)). records_bytes (all_records rs)) left in
+              (is, trace-written (records_bytes (met_in a)) (met_in a) refl (subst (λ (rs : List (List Entry)). AllByRecursion IsEntry (all_records rs)) left each_taken))
+
       file_by : AreFilesTold (means.holds old) a → status ≡ 0 → (bytes : List ℕ) → means.wrote new (Slot trace_slot) ≡ Some bytes → (bytes ≡ records_bytes (met_in a)) × IsTraceOf bytes (met_in a) None
       file_by told zero bytes wrote =
           by (subst (λ (on_use : Bool). PlaysIn on_use means dsp a.form.trace g (rounds_of a.read.commands) old new status p given.last given.turns given.records ⊎ Unbegun means (written_slots a) old new status p given.last) at_load (plays_whole off a told))
@@ -363,4 +396,4 @@ module _ {D P : Type 0} (means : DeskMeaning D) (dsp : Meaning P) (words : List 
   plays_heard off a heard = play_is_heard off a heard
 
   pub traces : dsp.on p ≡ None → TracesWhole means dsp words given.turns given.played.calls old new status p given.last given.records
-  traces off a name named calm = record { left = left_by off a name named calm; view = view_told off a name named calm; file = file_by off a name named calm }
+  traces off a name named calm = record { left = left_by off a name named calm; view = view_told off a name named calm; put = put_by off a name named calm; file = file_by off a name named calm }

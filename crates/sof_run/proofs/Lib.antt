@@ -1,5 +1,6 @@
 pub mod Throughout
 mod RecordEntries
+mod PutBytes
 mod RightDeeds
 mod RightRuns
 mod TracedViews

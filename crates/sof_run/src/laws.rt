@@ -1,5 +1,5 @@
 // What the contract of `run` entails. Nothing runs here.
-ghost use Rattle.sof_run.specs.PlayLaws.{PlaysAreOne, ReplaysAlike, TracesReplay, ReplaysEnd};
+ghost use Rattle.sof_run.specs.PlayLaws.{PlaysAreOne, ReplaysAlike, HeardReplaysAlike, TracesReplay, ReplaysEnd, HeardReplaysEnd};
 
 use mbox_link::Dsp;
 use sof_desk::Desk;
@@ -11,9 +11,11 @@ pub fn one_play<D: Desk, P: Dsp>()
 {}
 
 /// What `run` ensures of a trace and of its replay: the device to which the trace is given gets the view that the traced one had, where both
-/// end with status 0 and neither device did anything of its own accord.
+/// end with status 0 and neither device did anything of its own accord. The desks tell their files and what was written, or the load of the
+/// replay brought what was put to the trace's slot.
 pub fn one_view<D: Desk, P: Dsp, E: Desk, Q: Dsp>()
-    ensures { ReplaysAlike D.means P.means E.means Q.means }
+    ensures told { ReplaysAlike D.means P.means E.means Q.means }
+    ensures heard { HeardReplaysAlike D.means P.means E.means Q.means }
 {}
 
 /// A trace that `run` keeps has no fault that `replay` tells, over a device that has room for the traced heap: of every plan and all commands,
@@ -24,6 +26,8 @@ pub fn right_traces()
 
 /// The replay of a whole trace, which is not longer than a replay takes, ends with status 0 over a device that has room for the traced heap,
 /// where neither device did anything of its own accord. It has the view that the traced one had. Or the desk failed, or memory was missing.
+/// The desks tell their files and what was written, or the load of the replay brought what was put to the trace's slot.
 pub fn replays_end<D: Desk, P: Dsp, E: Desk, Q: Dsp>()
-    ensures { ReplaysEnd D.means P.means E.means Q.means }
+    ensures told { ReplaysEnd D.means P.means E.means Q.means }
+    ensures heard { HeardReplaysEnd D.means P.means E.means Q.means }
 {}

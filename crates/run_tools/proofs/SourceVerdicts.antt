@@ -49,17 +49,17 @@ no_turn files turns (Load n l (Err Failed) ∷ calls) status goes = goes.2.0
 -- ---- the status
 
 module _ (files : SourceFiles) (bytes : List ℕ) where
-  wanting : (turns : List Turn) (calls all : List DeskCall) (status : ℕ) → Says no_memory_line 7 turns calls status → SourceVerdict files bytes all status
+  wanting : (turns : List Turn) (calls all : List DeskCall) (status : ℕ) → Says no_memory_line 7 turns calls status → SourceVerdict source_for files bytes all status
   wanting turns calls all status says = want (said no_memory_line 7 turns calls status says)
     where
-      want : (status ≡ 3) ⊎ ((status ≡ 7) × (calls ≡ saying no_memory_line ∷ [])) → SourceVerdict files bytes all status
+      want : (status ≡ 3) ⊎ ((status ≡ 7) × (calls ≡ saying no_memory_line ∷ [])) → SourceVerdict source_for files bytes all status
       want (inl three) = inl (inl three)
       want (inr seven) = inl (inr seven.0)
 
-  long : (turns : List Turn) (calls : List DeskCall) (call : DeskCall) (status : ℕ) → call ≡ Load files.topology 1048576 (Err TooLong) → 1048576 < length bytes → Says (codes "too long topology\n") 5 turns calls status → SourceVerdict files bytes (call ∷ calls) status
+  long : (turns : List Turn) (calls : List DeskCall) (call : DeskCall) (status : ℕ) → call ≡ Load files.topology 1048576 (Err TooLong) → 1048576 < length bytes → Says (codes "too long topology\n") 5 turns calls status → SourceVerdict source_for files bytes (call ∷ calls) status
   long turns calls call status is over says = want (said (codes "too long topology\n") 5 turns calls status says)
     where
-      want : (status ≡ 3) ⊎ ((status ≡ 5) × (calls ≡ saying (codes "too long topology\n") ∷ [])) → SourceVerdict files bytes (call ∷ calls) status
+      want : (status ≡ 3) ⊎ ((status ≡ 5) × (calls ≡ saying (codes "too long topology\n") ∷ [])) → SourceVerdict source_for files bytes (call ∷ calls) status
       want (inl three) = inl (inl three)
       want (inr five) = inr (inl (five.0, over, λ i. is i ∷ five.1 i))
 
@@ -70,42 +70,44 @@ module _ (files : SourceFiles) (bytes : List ℕ) where
     two (halts.Rule rule item) is = refl
     two why is = absurd is
 
-    wrong : (why : Halt) → halt_status why ≡ 2 → IsWrong bytes why → Says (halt_line why) (halt_status why) turns calls status → SourceVerdict files bytes (call ∷ calls) status
+    wrong : (why : Halt) → halt_status why ≡ 2 → IsWrong bytes why → Says (halt_line why) (halt_status why) turns calls status → SourceVerdict source_for files bytes (call ∷ calls) status
     wrong why two is says = want (said (halt_line why) (halt_status why) turns calls status says)
       where
-        want : (status ≡ 3) ⊎ ((status ≡ halt_status why) × (calls ≡ saying (halt_line why) ∷ [])) → SourceVerdict files bytes (call ∷ calls) status
+        want : (status ≡ 3) ⊎ ((status ≡ halt_status why) × (calls ≡ saying (halt_line why) ∷ [])) → SourceVerdict source_for files bytes (call ∷ calls) status
         want (inl three) = inl (inl three)
         want (inr done) = inr (inr (inl (why, done.0 ∙ two, short, is, λ i. loads i ∷ done.1 i)))
 
-    none_kept : (t : Topology) → IsRight bytes t → source_for t ≡ None → Says no_source_line 2 turns calls status → SourceVerdict files bytes (call ∷ calls) status
+    none_kept : (t : Topology) → IsRight bytes t → source_for t ≡ None → Says no_source_line 2 turns calls status → SourceVerdict source_for files bytes (call ∷ calls) status
     none_kept t is none says = want (said no_source_line 2 turns calls status says)
       where
-        want : (status ≡ 3) ⊎ ((status ≡ 2) × (calls ≡ saying no_source_line ∷ [])) → SourceVerdict files bytes (call ∷ calls) status
+        want : (status ≡ 3) ⊎ ((status ≡ 2) × (calls ≡ saying no_source_line ∷ [])) → SourceVerdict source_for files bytes (call ∷ calls) status
         want (inl three) = inl (inl three)
         want (inr done) = inr (inr (inr (inl (t, done.0, short, is, none, λ i. loads i ∷ done.1 i))))
 
-    some_kept : (t : Topology) (text : List ℕ) → IsRight bytes t → source_for t ≡ Some text → DoneBy (file_todo files.out text End) turns calls status → SourceVerdict files bytes (call ∷ calls) status
+    some_kept : (t : Topology) (text : List ℕ) → IsRight bytes t → source_for t ≡ Some text → DoneBy (file_todo files.out text End) turns calls status → SourceVerdict source_for files bytes (call ∷ calls) status
     some_kept t text is kept goes = want (file_made files.out text turns calls status goes)
       where
-        want : (status ≡ 3) ⊎ ((status ≡ 0) × (calls ≡ making files.out text)) → SourceVerdict files bytes (call ∷ calls) status
+        want : (status ≡ 3) ⊎ ((status ≡ 0) × (calls ≡ making files.out text)) → SourceVerdict source_for files bytes (call ∷ calls) status
         want (inl three) = inl (inl three)
-        want (inr done) = inr (inr (inr (inr (done.0, short, (t, text, is, source_keeps t text kept, kept, λ i. loads i ∷ done.1 i)))))
+        want (inr done) =
+            let keeps = source_keeps t text kept in
+            inr (inr (inr (inr (done.0, short, (t, text, keeps.made, is, keeps.compiled, keeps.same, kept, λ i. loads i ∷ done.1 i)))))
 
-    by_source : (t : Topology) (o : Option (List ℕ)) → IsRight bytes t → source_for t ≡ o → DoneBy (kept_todo files.out o) turns calls status → SourceVerdict files bytes (call ∷ calls) status
+    by_source : (t : Topology) (o : Option (List ℕ)) → IsRight bytes t → source_for t ≡ o → DoneBy (kept_todo files.out o) turns calls status → SourceVerdict source_for files bytes (call ∷ calls) status
     by_source t (Some text) is kept goes = some_kept t text is kept goes
     by_source t None is none goes = none_kept t is none goes
 
-    by_found : (r : Result Topology Halt) → TopologyComesTo bytes r → DoneBy (sourced_todo files.out r) turns calls status → SourceVerdict files bytes (call ∷ calls) status
+    by_found : (r : Result Topology Halt) → TopologyComesTo bytes r → DoneBy (sourced_todo files.out r) turns calls status → SourceVerdict source_for files bytes (call ∷ calls) status
     by_found (Ok t) is goes = by_source t (source_for t) is refl goes
     by_found (Err why) is goes = wrong why (two why is) is goes
 
-    free : DoneBy (sourced_todo files.out (checked bytes)) turns calls status ⊎ Says no_memory_line 7 turns calls status → SourceVerdict files bytes (call ∷ calls) status
+    free : DoneBy (sourced_todo files.out (checked bytes)) turns calls status ⊎ Says no_memory_line 7 turns calls status → SourceVerdict source_for files bytes (call ∷ calls) status
     free (inl goes) = by_found (checked bytes) (checked_found bytes are) goes
     free (inr says) = wanting turns calls (call ∷ calls) status says
 
   module _ {D : Type 0} (means : DeskMeaning D) where
     -- the file's bytes are stated
-    judge : (turns : List Turn) (calls : List DeskCall) (status : ℕ) (d e : D) → means.holds d files.topology ≡ Some bytes → DoneBy (make_source files) turns calls status → DeskLed means d calls e → SourceVerdict files bytes calls status
+    judge : (turns : List Turn) (calls : List DeskCall) (status : ℕ) (d e : D) → means.holds d files.topology ≡ Some bytes → DoneBy (make_source files) turns calls status → DeskLed means d calls e → SourceVerdict source_for files bytes calls status
     judge turns [] status d e told goes led = absurd goes
     judge turns (Did act done ∷ calls) status d e told goes led = absurd goes
     judge turns (Read n size got ∷ calls) status d e told goes led = absurd goes
@@ -122,7 +124,7 @@ module _ (files : SourceFiles) (bytes : List ℕ) where
     judge turns (Load n l (Err Failed) ∷ calls) status d e told goes led = inl (inl goes.2.2)
 
     -- the load brought it
-    heard_judge : (turns : List Turn) (calls : List DeskCall) (status : ℕ) (d e : D) → heard_in calls ≡ Ok bytes ∷ [] → DoneBy (make_source files) turns calls status → DeskLed means d calls e → SourceVerdict files bytes calls status
+    heard_judge : (turns : List Turn) (calls : List DeskCall) (status : ℕ) (d e : D) → heard_in calls ≡ Ok bytes ∷ [] → DoneBy (make_source files) turns calls status → DeskLed means d calls e → SourceVerdict source_for files bytes calls status
     heard_judge turns [] status d e heard goes led = absurd goes
     heard_judge turns (Did act done ∷ calls) status d e heard goes led = absurd goes
     heard_judge turns (Read n size got ∷ calls) status d e heard goes led = absurd goes
@@ -179,7 +181,7 @@ module _ {D P : Type 0} (means : DeskMeaning D) (words : List (List ℕ)) (old n
   untouched : (files : SourceFiles) → source_files_of words ≡ Some files → q ≡ p
   untouched files is = still (no_turn files turns played.calls status (goes_on files is))
 
-  pub sources : Sources means words old p played.calls status new q
+  pub sources : Sources source_for means words old p played.calls status new q
   sources =
       record {
         alone = untouched;

@@ -241,7 +241,7 @@ keeping-same : (out : List ℕ) (o : Option (List ℕ)) (heard : List Heard) (tu
 keeping-same out (Some text) heard turns = refl
 keeping-same out None heard turns = refl
 
-sourcing-same : (out : List ℕ) (r : Result Topology Halt) (heard : List Heard) (turns : List Turn) → unrolled (sourced_todo out r) heard turns ≡ sourcing out r
+sourcing-same : (out : List ℕ) (r : Result Topology Halt) (heard : List Heard) (turns : List Turn) → unrolled (sourced_todo out r) heard turns ≡ sourcing source_for out r
 sourcing-same out (Ok t) heard turns = keeping-same out (source_for t) heard turns
 sourcing-same out (Err why) heard turns = refl
 
@@ -298,7 +298,7 @@ replayed-same room es end heard turns =
     given-same room end (λ on. lines_todo (replay_lines (tally_of es) on) End) (λ on. record { items = map (λ line. said_item (with_newline line)) (replay_lines (tally_of es) on); status = 0 }) heard
     (λ on turns. lines-same (replay_lines (tally_of es) on) heard turns) es false None 0 turns
 
-request-same : (room sent : ℕ) (r : Option Request) (heard : List Heard) (turns : List Turn) → unrolled (todo_for room sent r) heard turns ≡ course room sent r (findings_of heard) heard turns
+request-same : (room sent : ℕ) (r : Option Request) (heard : List Heard) (turns : List Turn) → unrolled (todo_for room sent r) heard turns ≡ course source_for room sent r (findings_of heard) heard turns
 request-same room sent (Some (Play form)) heard turns = playing-same form heard turns
 request-same room sent (Some (Check name)) heard turns = checking-same count_lines name heard turns
 request-same room sent (Some (Picture name)) heard turns = checking-same picture_lines name heard turns
@@ -307,7 +307,7 @@ request-same room sent (Some (Compile names)) heard turns =
     ap (before_course (Memory ∷ [])) (making-same names.out (compiled_of text) later turns ∙ ap (making_source names.out) (sym (ap source_heard is))))
 request-same room sent (Some (Source given)) heard turns =
     loading-same given.topology 1048576 (codes "too long topology\n") heard _ _ (λ bytes later is.
-    ap (before_course (Memory ∷ [])) (sourcing-same given.out (checked bytes) later turns ∙ ap (sourcing given.out) (sym (ap topology_heard is))))
+    ap (before_course (Memory ∷ [])) (sourcing-same given.out (checked bytes) later turns ∙ ap (sourcing source_for given.out) (sym (ap topology_heard is))))
 request-same room sent (Some (Stress seed)) heard turns = stressing-same room sent seed heard turns
 request-same room sent (Some (Decode name)) heard turns =
     loading-same name 16777216 (codes "too long trace\n") heard _ _ (λ bytes later is.
@@ -318,7 +318,7 @@ request-same room sent (Some (Replay name)) heard turns =
 request-same room sent None heard turns = refl
 
 -- what was done is the course of the words, or its front
-pub follows : (room sent : ℕ) (words : List (List ℕ)) (turns : List Turn) (calls : List DeskCall) (status : ℕ) → DoneBy (todo_of room sent words) turns calls status → FollowsCourse room sent words turns calls status
+pub follows : (room sent : ℕ) (words : List (List ℕ)) (turns : List Turn) (calls : List DeskCall) (status : ℕ) → DoneBy (todo_of room sent words) turns calls status → FollowsCourse source_for room sent words turns calls status
 follows room sent words turns calls status goes =
     record {
       found = findings_of (heard_in calls);

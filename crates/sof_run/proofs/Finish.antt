@@ -8,6 +8,7 @@ use Rattle.stream_law.specs.State.{view_of}
 use Rattle.mbox_link.specs.Calls.{Meaning}
 use Rattle.tplg_model.specs.declared.block.Topology.{Topology}
 use Rattle.tplg_graph.specs.PlanOf.{plan_of}
+use Rattle.tplg_source.specs.Outcome.{source_for}
 use Rattle.host_widgets.specs.declared.kept.Record.{Record}
 use Rattle.sof_script.specs.Commands.{Read}
 use Rattle.tplg_plan.specs.Sound.{IsSound}
@@ -162,8 +163,8 @@ module _ {D P : Type 0} (means : DeskMeaning D) (dsp : Meaning P) (words : List 
   other : Throughout (λ n. n ≡ 3 → ⊥) (λ name. Unit {0}) todo
   other = words_other (dsp.most p) given.sent (request_of (dsp.most p) words)
 
-  pub course_made : FollowsCourse (dsp.most p) (sent_in given.last) words all_turns given.played.calls status
-  course_made = subst (λ n. FollowsCourse (dsp.most p) n words all_turns given.played.calls status) given.is_sent (follows (dsp.most p) given.sent words all_turns given.played.calls status goes)
+  pub course_made : FollowsCourse source_for (dsp.most p) (sent_in given.last) words all_turns given.played.calls status
+  course_made = subst (λ n. FollowsCourse source_for (dsp.most p) n words all_turns given.played.calls status) given.is_sent (follows (dsp.most p) given.sent words all_turns given.played.calls status goes)
 
   pub bytes_loaded : AllByRecursion BringsBytes (heard_in given.played.calls)
   bytes_loaded = loads_bring todo all_turns given.played.calls status goes

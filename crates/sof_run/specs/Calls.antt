@@ -11,7 +11,6 @@ use Rattle.ipc3_trace.specs.declared.entry.Entry.{Entry}
 use Rattle.ipc3_trace.specs.declared.entry.Entry.TheVariants as entries
 use Rattle.ipc3_trace.specs.declared.fault.TraceFault.{TraceFault}
 use Rattle.tplg_graph.specs.PlanOf.{plan_of}
-use Rattle.tplg_source.specs.Outcome.{source_for}
 use Rattle.sof_script.specs.Commands.{Bound, Read as ReadScript}
 use Rattle.sof_script.specs.Tasks.{Out, Task, Begin, Carry, Fill, Give, Turn}
 use Rattle.mbox_link.specs.Calls as device
@@ -154,9 +153,9 @@ abbrev pub keeping : List ℕ → Option (List ℕ) → Course
 keeping out (Some text) = making_file out text
 keeping out None = last_line no_source_line 2
 
-abbrev pub sourcing : List ℕ → Result Topology Halt → Course
-sourcing out (Ok t) = keeping out (source_for t)
-sourcing out (Err why) = last_line (halt_line why) (halt_status why)
+abbrev pub sourcing : (Topology → Option (List ℕ)) → List ℕ → Result Topology Halt → Course
+sourcing source out (Ok t) = keeping out (source t)
+sourcing source out (Err why) = last_line (halt_line why) (halt_status why)
 
 -- ---- `decode`
 
@@ -212,19 +211,20 @@ stressing room sent seed turns =
 
 -- ---- all words
 
--- the course where this is asked for, or nothing is, over a device of this room; a stress has sent so many messages at its end
-abbrev pub course : ℕ → ℕ → Option Request → Findings → List Heard → List Turn → Course
-course room sent (Some (Play form)) found heard turns = playing form found.run heard turns
-course room sent (Some (Check name)) found heard turns = checking name heard (counting count_lines found.topology)
-course room sent (Some (Picture name)) found heard turns = checking name heard (counting picture_lines found.topology)
-course room sent (Some (Compile names)) found heard turns =
+-- the course where this is asked for, or nothing is, over a device of this room, by the text that is the source of a topology; a stress
+-- has sent so many messages at its end
+abbrev pub course : (Topology → Option (List ℕ)) → ℕ → ℕ → Option Request → Findings → List Heard → List Turn → Course
+course source room sent (Some (Play form)) found heard turns = playing form found.run heard turns
+course source room sent (Some (Check name)) found heard turns = checking name heard (counting count_lines found.topology)
+course source room sent (Some (Picture name)) found heard turns = checking name heard (counting picture_lines found.topology)
+course source room sent (Some (Compile names)) found heard turns =
     load_course names.source 1048576 (codes "too long source\n") heard (λ heard. before_course (Memory ∷ []) (making_source names.out found.source))
-course room sent (Some (Source given)) found heard turns = checking given.topology heard (sourcing given.out found.topology)
-course room sent (Some (Stress seed)) found heard turns = stressing room sent seed turns
-course room sent (Some (Decode name)) found heard turns = load_course name 16777216 (codes "too long trace\n") heard (λ heard. recounting found.trace)
-course room sent (Some (Replay name)) found heard turns =
+course source room sent (Some (Source given)) found heard turns = checking given.topology heard (sourcing source given.out found.topology)
+course source room sent (Some (Stress seed)) found heard turns = stressing room sent seed turns
+course source room sent (Some (Decode name)) found heard turns = load_course name 16777216 (codes "too long trace\n") heard (λ heard. recounting found.trace)
+course source room sent (Some (Replay name)) found heard turns =
     load_course name 16777216 (codes "too long trace\n") heard (λ heard. before_course (Memory ∷ []) (replaying room found.trace turns))
-course room sent None found heard turns = last_line (codes "words\n") 1
+course source room sent None found heard turns = last_line (codes "words\n") 1
 
 -- ---- what was made of it
 

@@ -1,6 +1,7 @@
 -- What the bytes that loads brought come to, by what is said of them; and that by it the course of the words was made.
-use Rattle.std.specs.Prelude.{◌≡◌, ℕ, List, [], ◌∷◌, Ok, MatchResult}
+use Rattle.std.specs.Prelude.{◌≡◌, ℕ, List, [], ◌∷◌, Option, Ok, MatchResult}
 use Rattle.sof_desk.specs.Desk.{Heard, DeskCall}
+use Rattle.tplg_model.specs.declared.block.Topology.{Topology}
 use Rattle.tplg_compile.specs.Compiled.{IsCompiled, IsCompileFault}
 use Rattle.ipc3_trace.specs.WholeTraces.{IsTraceOf}
 use Rattle.sof_script.specs.Tasks.{Turn}
@@ -24,7 +25,7 @@ pub record AreFindings (heard : List Heard) (found : Findings) : Type 0 where
   pub trace : (bytes : List ℕ) → heard ≡ Ok bytes ∷ [] → IsTraceOf bytes found.trace.0 found.trace.1
 
 -- what these words ask for was done, by what the loaded bytes come to and by the turns that were made
-pub record FollowsCourse (room sent : ℕ) (words : List (List ℕ)) (turns : List Turn) (calls : List DeskCall) (status : ℕ) : Type 0 where
+pub record FollowsCourse (source : Topology → Option (List ℕ)) (room sent : ℕ) (words : List (List ℕ)) (turns : List Turn) (calls : List DeskCall) (status : ℕ) : Type 0 where
   pub found : Findings
   pub are : AreFindings (heard_in calls) found
-  pub made : let c = course room sent (request_of room words) found (heard_in calls) turns in Made c.items c.status turns calls status
+  pub made : let c = course source room sent (request_of room words) found (heard_in calls) turns in Made c.items c.status turns calls status

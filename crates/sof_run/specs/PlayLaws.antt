@@ -4,6 +4,7 @@ use Rattle.sof_desk.specs.Desk.{DeskMeaning, DeskPlace, Slot}
 use Rattle.stream_law.specs.State.{view_of}
 use Rattle.mbox_link.specs.Calls.{Meaning}
 use Rattle.tplg_plan.specs.declared.plans.Plan.{Plan}
+use Rattle.tplg_source.specs.Outcome.{source_for}
 use Rattle.sof_script.specs.declared.script.Command.{Command}
 use Rattle.sof_session.specs.SessionStep.{Calm}
 use Rattle.run_play.specs.Keeping.{trace_slot}
@@ -20,7 +21,7 @@ use Rattle.sof_run.specs.Run.{RunContract}
 abbrev pub PlaysAreOne : {D P : Type 0} → DeskMeaning D → Meaning P → Type 0
 PlaysAreOne {D} {P} means dsp =
     (words : List (List ℕ)) (old new other : D) (p q r : P) (play : ToPlay (dsp.most p) words) → AreFilesTold (means.holds old) play →
-    RunContract means dsp words old p 0 new q → RunContract means dsp words old p 0 other r → Calm dsp p q → Calm dsp p r →
+    RunContract source_for means dsp words old p 0 new q → RunContract source_for means dsp words old p 0 other r → Calm dsp p q → Calm dsp p r →
     (place : DeskPlace) → means.wrote new place ≡ means.wrote other place
 
 -- What `RunContract` says of a trace and of its replay: the device to which the trace is given gets the view that the traced one had. Both plays end
@@ -29,8 +30,8 @@ PlaysAreOne {D} {P} means dsp =
 abbrev pub ReplaysAlike : {D P E Q : Type 0} → DeskMeaning D → Meaning P → DeskMeaning E → Meaning Q → Type 0
 ReplaysAlike {D} {P} {E} {Q} means dsp others device =
     (words again : List (List ℕ)) (old new : D) (p q : P) (before after : E) (r s : Q) (play : ToPlay (dsp.most p) words) (name file bytes : List ℕ) →
-    play.form.trace ≡ Some name → AreFilesTold (means.holds old) play → RunContract means dsp words old p 0 new q → Calm dsp p q → means.wrote new (Slot trace_slot) ≡ Some bytes →
-    replay_of again ≡ Some file → others.holds before file ≡ Some bytes → RunContract others device again before r 0 after s → Calm device r s →
+    play.form.trace ≡ Some name → AreFilesTold (means.holds old) play → RunContract source_for means dsp words old p 0 new q → Calm dsp p q → means.wrote new (Slot trace_slot) ≡ Some bytes →
+    replay_of again ≡ Some file → others.holds before file ≡ Some bytes → RunContract source_for others device again before r 0 after s → Calm device r s →
     option_map view_of (device.on s) ≡ option_map view_of (dsp.on q)
 
 -- So it is where the desks tell nothing: of the play's files by what its loads brought, and of the trace by what its calls put to the trace's
@@ -38,8 +39,8 @@ ReplaysAlike {D} {P} {E} {Q} means dsp others device =
 abbrev pub HeardReplaysAlike : {D P E Q : Type 0} → DeskMeaning D → Meaning P → DeskMeaning E → Meaning Q → Type 0
 HeardReplaysAlike {D} {P} {E} {Q} means dsp others device =
     (words again : List (List ℕ)) (old new : D) (p q : P) (before after : E) (r s : Q) (play : ToPlay (dsp.most p) words) (name file : List ℕ) →
-    play.form.trace ≡ Some name → (a : RunContract means dsp words old p 0 new q) → heard_in a.called.calls ≡ Ok play.topology ∷ Ok play.script ∷ [] → Calm dsp p q →
-    replay_of again ≡ Some file → (b : RunContract others device again before r 0 after s) → heard_in b.called.calls ≡ Ok (put_at (Slot trace_slot) a.called.calls) ∷ [] → Calm device r s →
+    play.form.trace ≡ Some name → (a : RunContract source_for means dsp words old p 0 new q) → heard_in a.called.calls ≡ Ok play.topology ∷ Ok play.script ∷ [] → Calm dsp p q →
+    replay_of again ≡ Some file → (b : RunContract source_for others device again before r 0 after s) → heard_in b.called.calls ≡ Ok (put_at (Slot trace_slot) a.called.calls) ∷ [] → Calm device r s →
     option_map view_of (device.on s) ≡ option_map view_of (dsp.on q)
 
 -- No record of those that a run leaves is at fault in a replay over a device whose room its heap does not exceed.
@@ -51,14 +52,14 @@ TracesReplay = (plan : Plan) (heap room : ℕ) (commands : List Command) → hea
 abbrev pub ReplaysEnd : {D P E Q : Type 0} → DeskMeaning D → Meaning P → DeskMeaning E → Meaning Q → Type 0
 ReplaysEnd {D} {P} {E} {Q} means dsp others device =
     (words again : List (List ℕ)) (old new : D) (p q : P) (before after : E) (r s : Q) (status : ℕ) (play : ToPlay (dsp.most p) words) (name file bytes : List ℕ) →
-    play.form.trace ≡ Some name → AreFilesTold (means.holds old) play → RunContract means dsp words old p 0 new q → Calm dsp p q → means.wrote new (Slot trace_slot) ≡ Some bytes →
-    play.form.heap ≤ device.most r → length bytes ≤ 16777216 → replay_of again ≡ Some file → others.holds before file ≡ Some bytes → RunContract others device again before r status after s → Calm device r s →
+    play.form.trace ≡ Some name → AreFilesTold (means.holds old) play → RunContract source_for means dsp words old p 0 new q → Calm dsp p q → means.wrote new (Slot trace_slot) ≡ Some bytes →
+    play.form.heap ≤ device.most r → length bytes ≤ 16777216 → replay_of again ≡ Some file → others.holds before file ≡ Some bytes → RunContract source_for others device again before r status after s → Calm device r s →
     ((status ≡ 3) ⊎ (status ≡ 7)) ⊎ ((status ≡ 0) × (option_map view_of (device.on s) ≡ option_map view_of (dsp.on q)))
 
 -- And where the desks tell nothing: the bytes that the load brought are within its limit.
 abbrev pub HeardReplaysEnd : {D P E Q : Type 0} → DeskMeaning D → Meaning P → DeskMeaning E → Meaning Q → Type 0
 HeardReplaysEnd {D} {P} {E} {Q} means dsp others device =
     (words again : List (List ℕ)) (old new : D) (p q : P) (before after : E) (r s : Q) (status : ℕ) (play : ToPlay (dsp.most p) words) (name file : List ℕ) →
-    play.form.trace ≡ Some name → (a : RunContract means dsp words old p 0 new q) → heard_in a.called.calls ≡ Ok play.topology ∷ Ok play.script ∷ [] → Calm dsp p q →
-    play.form.heap ≤ device.most r → replay_of again ≡ Some file → (b : RunContract others device again before r status after s) → heard_in b.called.calls ≡ Ok (put_at (Slot trace_slot) a.called.calls) ∷ [] → Calm device r s →
+    play.form.trace ≡ Some name → (a : RunContract source_for means dsp words old p 0 new q) → heard_in a.called.calls ≡ Ok play.topology ∷ Ok play.script ∷ [] → Calm dsp p q →
+    play.form.heap ≤ device.most r → replay_of again ≡ Some file → (b : RunContract source_for others device again before r status after s) → heard_in b.called.calls ≡ Ok (put_at (Slot trace_slot) a.called.calls) ∷ [] → Calm device r s →
     ((status ≡ 3) ⊎ (status ≡ 7)) ⊎ ((status ≡ 0) × (option_map view_of (device.on s) ≡ option_map view_of (dsp.on q)))

@@ -1,8 +1,9 @@
 -- What `run` does, by its words: over every desk and every device.
-use Rattle.std.specs.Prelude.{◌≡◌, ℕ, List, None}
+use Rattle.std.specs.Prelude.{◌≡◌, ℕ, List, Option, None}
 use Rattle.std.specs.List.{AllByRecursion}
 use Rattle.sof_desk.specs.Desk.{DeskMeaning, DeskCall, DeskLed, CountRose}
 use Rattle.mbox_link.specs.Calls.{Meaning}
+use Rattle.tplg_model.specs.declared.block.Topology.{Topology}
 use Rattle.ipc3_trace.specs.declared.entry.Entry.{Entry}
 use Rattle.sof_session.specs.Lives.{Life, Bare, Turns, device_of, Exit}
 use Rattle.sof_script.specs.Tasks.{Turn}
@@ -32,7 +33,7 @@ use Rattle.run_replay.specs.Replays.{Replays}
 -- The turns on the device, each a session's step or a call, and the calls on the desk: those that the words ask for, in their order and
 -- no others. Where a trace is kept, the records of each command's calls on the device stand before all else that it writes. What a load
 -- brought is bytes. Status 3 comes only where the desk's count rose.
-pub record Called {D P : Type 0} (means : DeskMeaning D) (dsp : Meaning P) (words : List (List ℕ)) (old : D) (p : P) (status : ℕ) (new : D) (last : Life P) : Type 0 where
+pub record Called {D P : Type 0} (source : Topology → Option (List ℕ)) (means : DeskMeaning D) (dsp : Meaning P) (words : List (List ℕ)) (old : D) (p : P) (status : ℕ) (new : D) (last : Life P) : Type 0 where
   pub turns : List Turn
   pub turned : Turns dsp (Bare p) turns last
   pub calls : List DeskCall
@@ -40,7 +41,7 @@ pub record Called {D P : Type 0} (means : DeskMeaning D) (dsp : Meaning P) (word
   pub bytes : AllByRecursion BringsBytes (heard_in calls)
   pub records : List (List Entry)
   pub kept : KeptRecords dsp (trace_named (dsp.most p) words) (Bare p) turns last turned records
-  pub follows : FollowsCourse (dsp.most p) (sent_in last) words (recorded_turns records turns) calls status
+  pub follows : FollowsCourse source (dsp.most p) (sent_in last) words (recorded_turns records turns) calls status
   pub failed : status ≡ 3 → CountRose (means.faults old) (means.faults new)
 
 -- The device that is handed back: where no trace is given to it, the one that was handed in, or that of a session whose two sides agree. It
@@ -52,10 +53,10 @@ pub record Left {P : Type 0} (dsp : Meaning P) (words : List (List ℕ)) (p q : 
   pub untouched : replay_of words ≡ None → IsEarly status → last ≡ Bare p
   pub unasked : status ≡ 3 → AllByRecursion IsOpening calls → last ≡ Bare p
 
--- all that is said of `run`
-pub record RunContract {D P : Type 0} (means : DeskMeaning D) (dsp : Meaning P) (words : List (List ℕ)) (old : D) (p : P) (status : ℕ) (new : D) (q : P) : Type 0 where
+-- All that is said of `run`, by the text that is the source of a topology, if it has one. `run` names it; part `sources` says what it means.
+pub record RunContract {D P : Type 0} (source : Topology → Option (List ℕ)) (means : DeskMeaning D) (dsp : Meaning P) (words : List (List ℕ)) (old : D) (p : P) (status : ℕ) (new : D) (q : P) : Type 0 where
   pub last : Life P
-  pub called : Called means dsp words old p status new last
+  pub called : Called source means dsp words old p status new last
   pub exit : Left dsp words p q last called.calls status
   pub worded : Worded (dsp.most p) words status
   pub judged : Judged means (dsp.most p) words old called.calls status
@@ -64,7 +65,7 @@ pub record RunContract {D P : Type 0} (means : DeskMeaning D) (dsp : Meaning P) 
   pub checks : Checks means count_lines (check_of words) old (Bare p) called.calls status new last
   pub pictures : Checks means picture_lines (graph_file_of words) old (Bare p) called.calls status new last
   pub compiles : Compiles means words old (Bare p) called.calls status new last
-  pub sources : Sources means words old (Bare p) called.calls status new last
+  pub sources : Sources source means words old (Bare p) called.calls status new last
   pub stresses : StressesWhole means dsp words old new status p last called.turns
   pub traces : TracesWhole means dsp words called.turns called.calls old new status p last called.records
   pub decodes : Decodes means words old (Bare p) called.calls status new last

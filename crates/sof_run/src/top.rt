@@ -1,5 +1,6 @@
 // The top call.
 ghost use Rattle.std.specs.Prelude.{◌≡◌, map, None, string_bytes};
+ghost use Rattle.tplg_source.specs.Outcome.{source_for};
 ghost use Rattle.run_tools.specs.CompileTodo.{MakesTopology};
 ghost use Rattle.sof_run.specs.Forms.{GaveSent, todo_of};
 ghost use Rattle.sof_run.specs.Run.{RunContract};
@@ -71,7 +72,7 @@ fn do_words<D: Desk, P: Dsp>(alloc: Global, words: &[String], desk: &mut D, dsp:
 pub fn run<D: Desk, P: Dsp>(alloc: Global, words: &[String], desk: &mut D, dsp: P) -> Ended<P>
     requires off { P.means.on dsp ≡ None }
     requires pending { P.means.pending dsp ≡ 0 }
-    ensures { RunContract D.means P.means (map string_bytes words.now) desk.old dsp result.status desk.new result.dsp }
+    ensures { RunContract source_for D.means P.means (map string_bytes words.now) desk.old dsp result.status desk.new result.dsp }
 {
     do_words(alloc, words, desk, dsp)
 }

@@ -6,6 +6,8 @@ mod drawn;
 #[cfg(test)]
 mod errors;
 #[cfg(test)]
+mod holes;
+#[cfg(test)]
 mod messages;
 #[cfg(test)]
 mod parts;

@@ -52,10 +52,15 @@ pub fn mixer(id: u32, pipe: u32) -> Message {
 }
 
 pub fn buffer(id: u32, pipe: u32) -> Message {
+    sized(id, pipe, 16)
+}
+
+// A buffer of so many bytes.
+pub fn sized(id: u32, pipe: u32, size: u32) -> Message {
     Message::BufferNew {
         id,
         pipe,
-        size: 16,
+        size,
         caps: 0,
     }
 }

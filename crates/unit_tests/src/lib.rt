@@ -6,6 +6,8 @@ mod cuts;
 #[cfg(test)]
 mod desk;
 #[cfg(test)]
+mod edges;
+#[cfg(test)]
 mod endpoints;
 #[cfg(test)]
 mod lines;

@@ -88,8 +88,8 @@ module _ (plan : Plan) (sound : IsSound plan) (kept : Record) where
       omega (
         arith,
         length-append widgets (up_edge_lines plan kept up),
-        length-append (map show.edge_line shown) (state_lines.state_lines plan kept),
-        length-append (state_lines.stream_lines plan kept) (state_lines.control_lines plan kept),
+        length-append (map show.edge_line shown ++ state_lines.stream_lines plan kept) (state_lines.control_lines plan kept),
+        length-append (map show.edge_line shown) (state_lines.stream_lines plan kept),
         length-map (shown_ids plan up) (show.widget_line plan),
         filter-most (λ (id : ℕ). is_among up (widget_words plan id).pipe) (widget_ids plan),
         length-range_with_len 0 (length plan.widgets),

@@ -45,8 +45,8 @@ echo_topology = record {
       ∷ block (Widgets (widget 12 (codes "C") (codes "C0") [] ∷ []))
       ∷ block (Widgets (widget 17 (codes "S") (codes "D") (number 200 1000 ∷ []) ∷ []))
       ∷ block (Routes (
-          route (codes "B0") (codes "P") ∷ route (codes "DM") (codes "B0") ∷ route (codes "BX") (codes "DM") ∷ route (codes "D") (codes "BX")
-          ∷ route (codes "BY") (codes "DM") ∷ route (codes "C") (codes "BY") ∷ []))
+      route (codes "B0") (codes "P") ∷ route (codes "DM") (codes "B0") ∷ route (codes "BX") (codes "DM") ∷ route (codes "D") (codes "BX")
+      ∷ route (codes "BY") (codes "DM") ∷ route (codes "C") (codes "BY") ∷ []))
       ∷ block (Pcms (pcm (codes "M") (codes "P0") ∷ []))
       ∷ block (Pcms (capture_pcm (codes "E") (codes "C0") ∷ [])) ∷ [];
 }
@@ -62,7 +62,7 @@ crossing_topology = record {
       ∷ block (Widgets (widget 12 (codes "C") (codes "C0") [] ∷ []))
       ∷ block (Widgets (widget 17 (codes "S") (codes "P") (number 200 1000 ∷ []) ∷ []))
       ∷ block (Routes (
-          route (codes "B0") (codes "P") ∷ route (codes "DM") (codes "B0") ∷ route (codes "BY") (codes "DM") ∷ route (codes "C") (codes "BY") ∷ []))
+      route (codes "B0") (codes "P") ∷ route (codes "DM") (codes "B0") ∷ route (codes "BY") (codes "DM") ∷ route (codes "C") (codes "BY") ∷ []))
       ∷ block (Pcms (pcm (codes "M") (codes "P0") ∷ []))
       ∷ block (Pcms (capture_pcm (codes "E") (codes "C0") ∷ [])) ∷ [];
 }

@@ -113,7 +113,8 @@ fn a_check_that_fails_leaves_a_front_of_its_lines(rt: HostRuntime) {
     }
 }
 
-const RECORDS: &[u8] = b"\x01\x00\x00\x00\x04\x00\x00\x00\xe0\x03\x00\x00\x05\x00\x00\x00\x00\x00\x00\x00";
+const RECORDS: &[u8] =
+    b"\x01\x00\x00\x00\x04\x00\x00\x00\xe0\x03\x00\x00\x05\x00\x00\x00\x00\x00\x00\x00";
 
 // Words over a file of these bytes, where a call fails.
 fn file_ends(
@@ -196,6 +197,7 @@ fn each_call_of_a_trace_that_fails_leaves_a_front(rt: HostRuntime) {
     ] {
         let words = ["trace", "992", "a.tplg", "s.txt", "x.trace"];
         let mut desk = desk_with(&rt, rt.alloc(), &topology, b"load\n", (call, passes));
+        desk.put_out("x.trace", 8192).expect(&rt, "there is memory");
         let said = b"1 ok\n".as_slice();
         let was_on = ends(
             &rt,

@@ -8,7 +8,7 @@ use Rattle.host_widgets.specs.ActMessages.{act_message}
 use Rattle.host_widgets.specs.Host.{Outcome, verdict}
 use Rattle.host_widgets.specs.HostActs.{Act, Make}
 
--- these were sent, one exchange each, up to the first that did not pass, and came to this; those in front of it passed
+-- these were sent, one exchange each, up to the first that did not pass, with this outcome; those before it passed
 abbrev pub ActsPassed : {D : Type 0} → Meaning D → Plan → List Act → List Act → World D → World D → Outcome → Type 0
 ActsPassed means plan [] passed w v result = (passed ≡ []) × (v ≡ w) × (result ≡ Ok tt)
 ActsPassed {D} means plan (act ∷ acts) passed w v result =

@@ -9,7 +9,7 @@ ghost use Rattle.sof_session.specs.UpRows.{SecondStreamIsRefused, SharedPipeline
 /// The run of a sound plan is one: the same commands, doings of the device and whole inputs lead to the same legs, from the
 /// first place, and from any place whose view has edges without a cycle. Such a place is each that a run from the first comes to. It is
 /// also one where pipelines are made on use: from the first place, and from any whose view has edges without a cycle and where what is
-/// there is joined as the plan joins it. Such a place is the first, and each that a run from one comes to.
+/// there is joined as the plan joins it. Such a place is the first, and each that a run from one reaches.
 pub fn one_run()
     ensures from_first { law.RunIsOne }
     ensures made_on_use { law.UpRunIsOne }

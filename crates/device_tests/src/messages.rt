@@ -102,43 +102,33 @@ pub(crate) fn mono(host: u32) -> Message {
     }
 }
 
-/// Host 0, buffer 1 of 768 bytes and DAI 2, in the pipeline 3 of a period of 1 ms.
-pub(crate) fn thin() -> [Message; 7] {
+// Component 0, buffer 1 of so many bytes and component 2, joined in this order, in the pipeline 3 of this period in µs.
+fn piped(first: Message, size: u32, last: Message, period: u32) -> [Message; 7] {
     [
-        component(0, S32, HOST),
-        buffer(1, 768),
-        component(2, S32, DAI),
-        pipeline(3, 2, 1000),
+        first,
+        buffer(1, size),
+        last,
+        pipeline(3, 2, period),
         connect(0, 1),
         connect(1, 2),
         Message::PipeComplete { id: 3 },
     ]
+}
+
+/// Host 0, buffer 1 of 768 bytes and DAI 2, in the pipeline 3 of a period of 1 ms.
+pub(crate) fn thin() -> [Message; 7] {
+    piped(component(0, S32, HOST), 768, component(2, S32, DAI), 1000)
 }
 
 /// The same with a buffer of 3840 bytes and a period of 10 ms.
 pub(crate) fn slow() -> [Message; 7] {
-    [
-        component(0, S32, HOST),
-        buffer(1, 3840),
-        component(2, S32, DAI),
-        pipeline(3, 2, 10000),
-        connect(0, 1),
-        connect(1, 2),
-        Message::PipeComplete { id: 3 },
-    ]
+    piped(component(0, S32, HOST), 3840, component(2, S32, DAI), 10000)
 }
 
 /// DAI 0, which captures 16 bits, buffer 1 and host 2, in the pipeline 3.
 pub(crate) fn capture() -> [Message; 7] {
-    [
-        component(0, S16, CAPTURE_DAI),
-        buffer(1, 768),
-        component(2, S32, CAPTURE_HOST),
-        pipeline(3, 2, 1000),
-        connect(0, 1),
-        connect(1, 2),
-        Message::PipeComplete { id: 3 },
-    ]
+    let dai = component(0, S16, CAPTURE_DAI);
+    piped(dai, 768, component(2, S32, CAPTURE_HOST), 1000)
 }
 
 /// Host 0, volume 2 of the gain 1 and DAI 4 of this frame format, with buffers 1 and 3 between them, in the pipeline 5.

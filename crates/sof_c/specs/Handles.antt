@@ -14,10 +14,10 @@ abbrev pub after_at : (Machine → Machine) → Option Machine → Option Machin
 after_at after None = None
 after_at after (Some m) = Some (after m)
 
--- the bytes that a call gives, none where the handle is closed
-abbrev pub given_at : (Machine → List ℕ) → Option Machine → List ℕ
-given_at given None = []
-given_at given (Some m) = given m
+-- the bytes that a call hands out, none where the handle is closed
+abbrev pub handed_bytes : (Machine → List ℕ) → Option Machine → List ℕ
+handed_bytes handed None = []
+handed_bytes handed (Some m) = handed m
 
 -- the number that a call gives, 0 where the handle is closed
 abbrev pub count_at : (Machine → ℕ) → Option Machine → ℕ

@@ -1,6 +1,6 @@
 // Devices for C. Each call but a free answers a number of `status.rt`, and `CLOSED` where the handle is closed.
 ghost use Rattle.std.specs.Prelude.{◌≡◌, None, length};
-ghost use Rattle.sof_c.specs.Handles.{status_at, after_at, given_at, count_at, IsOpened};
+ghost use Rattle.sof_c.specs.Handles.{status_at, after_at, handed_bytes, count_at, IsOpened};
 ghost use Rattle.sof_c.specs.Machines as law;
 ghost use Rattle.fw_core.specs.Device.{used_of};
 ghost use Rattle.sof_io.specs.Takes.{held_at};
@@ -83,8 +83,8 @@ pub extern "C" fn sof_c_exchange_unchecked(
 ) -> u32
     ensures status { result ≡ status_at (law.exchange_status (length reply.old)) device.old.machine }
     ensures after { device.new.machine ≡ after_at (law.after_exchange (length reply.old) request.now) device.old.machine }
-    ensures reply { reply.new ≡ law.with_prefix (given_at (law.reply_given (length reply.old) request.now) device.old.machine) reply.old }
-    ensures count { count.new ≡ length (given_at (law.reply_given (length reply.old) request.now) device.old.machine) }
+    ensures reply { reply.new ≡ law.with_prefix (handed_bytes (law.reply_given (length reply.old) request.now) device.old.machine) reply.old }
+    ensures count { count.new ≡ length (handed_bytes (law.reply_given (length reply.old) request.now) device.old.machine) }
 {
     *count = 0;
     if !device.is_open() {

@@ -1,6 +1,6 @@
 // The bytes of a device's endpoints for C. An endpoint is named by the id of its component.
 ghost use Rattle.std.specs.Prelude.{◌≡◌, length};
-ghost use Rattle.sof_c.specs.Handles.{status_at, after_at, given_at, count_at, CallAt};
+ghost use Rattle.sof_c.specs.Handles.{status_at, after_at, handed_bytes, count_at, CallAt};
 ghost use Rattle.sof_c.specs.Machines as law;
 ghost use Rattle.sof_io.specs.Takes.{held_at};
 ghost use Rattle.sof_io.specs.Puts.{bytes_at};
@@ -39,7 +39,12 @@ pub extern "C" fn sof_c_add_output_unchecked(device: &mut Handle, alloc: Global,
 
 /// Puts bytes after those that an input has left, all or none of them.
 #[unsafe(no_mangle)]
-pub extern "C" fn sof_c_fill_unchecked(device: &mut Handle, alloc: Global, id: u32, piece: &[u8]) -> u32
+pub extern "C" fn sof_c_fill_unchecked(
+    device: &mut Handle,
+    alloc: Global,
+    id: u32,
+    piece: &[u8],
+) -> u32
     ensures status { result ≡ status_at (law.fill_status id piece.now) device.old.machine }
     ensures after { device.new.machine ≡ after_at (law.after_fill id piece.now) device.old.machine }
 {
@@ -79,8 +84,8 @@ pub extern "C" fn sof_c_read_unchecked(
 ) -> u32
     ensures status { result ≡ status_at (law.read_status id (length out.old)) device.old.machine }
     ensures same { device.new.machine ≡ device.old.machine }
-    ensures out { out.new ≡ law.with_prefix (given_at (law.output_given id (length out.old)) device.old.machine) out.old }
-    ensures count { count.new ≡ length (given_at (λ m. bytes_at id m.outputs) device.old.machine) }
+    ensures out { out.new ≡ law.with_prefix (handed_bytes (law.output_given id (length out.old)) device.old.machine) out.old }
+    ensures count { count.new ≡ length (handed_bytes (λ m. bytes_at id m.outputs) device.old.machine) }
 {
     *count = 0;
     if !device.is_open() {

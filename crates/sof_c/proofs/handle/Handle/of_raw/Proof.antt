@@ -15,7 +15,7 @@ use denote.RattleType.{RattleType}
 use denote.Signature.{plain}
 use denote.Steps.{nothing}
 use denote.Triple.Walked.{Stays, says, stay_dropped, Goes-dropped, walk_of, ends_at}
-use Rattle.sof_c.proofs.Heap.{Rw, raw_val, raw_typed, raw_out}
+use Rattle.sof_c.proofs.Heap.{raw_row, raw_val, raw_typed, raw_out}
 use Rattle.sof_c.proofs.Handles.{handle_val, open_handle, open_typed, open_in}
 use Rattle.sof_c.specs.contracts.machine.Machine as Machine
 use Rattle.sof_c.specs.contracts.handle.Handle.of_raw as f
@@ -23,7 +23,7 @@ use Rattle.sof_c.proofs.handle.Handle.of_raw.Statement.{statement}
 use Rattle.sof_c.proofs.handle.Handle.of_raw.Code as code
 
 abbrev From : RattleType
-From = Rw Machine.the_row
+From = raw_row Machine.the_row
 
 abbrev stayed : Stays f.ended.signature.params f.ended.kept
 stayed = (stay_dropped (plain (λ _. From)) yes, tt)

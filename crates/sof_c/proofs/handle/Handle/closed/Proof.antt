@@ -1,5 +1,5 @@
 -- `closed` puts the fields together, and owns nothing besides.
-use Rattle.std.proofs.Common.{List, [], ◌∷◌, refl, false}
+use Rattle.std.proofs.Common.{[], ◌∷◌, refl, false}
 use Rattle.std.proofs.raw_atomic.Walks.{proved_at}
 use base.Logic.{SProp, emp}
 use base.Fml.{ftrue}

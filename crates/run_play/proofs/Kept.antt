@@ -171,7 +171,7 @@ module _ {P : Type 0} (means : Meaning P) where
     abbrev v : World (Wire (Traced P))
     v = world left.link inputs' c.outputs
 
-    did : CommandDoneIn T made_at_load command seat left w v k.bare.answer
+    pub did : CommandDoneIn T made_at_load command seat left w v k.bare.answer
     did = (load-stepped T command seat left w v k.bare.answer c.stepped mode_is).0
 
     abbrev cs : List Call

@@ -10,7 +10,7 @@ use Rattle.ipc3_trace.specs.WholeTraces.{IsTraceOf}
 use Rattle.ipc3_trace.proofs.WholeLaws.{written-stand}
 use Rattle.sof_script.specs.declared.script.Command.{Command}
 use Rattle.sof_session.specs.Lives.{Life, Bare, Seated, Turned, Turns}
-use Rattle.sof_script.specs.Tasks.{Out, Task, Begin, Fill, Carry, Give, Turn}
+use Rattle.sof_script.specs.Tasks.{Out, Task, Begin, Carry, Turn}
 use Rattle.run_words.specs.Words.{Form}
 use Rattle.run_play.specs.Keeping.{LeftBy, TurnLeft, TurnsLeft}
 use Rattle.run_desk.specs.Lines.{no_memory_line}
@@ -43,8 +43,7 @@ records-each means (turn ∷ turns) p q turned records kept = by (λ rs left. re
     by later (Carry command) step [] left = absurd left
     by later (Carry command) step (es ∷ rest) left = all_append es (all_records rest) (left_each means command turn.out p turned.0 step es left.0) (later rest left.1)
     by later (Begin on_use plan heap inputs slots) step rs left = later rs left
-    by later (Fill reads next) step rs left = later rs left
-    by later (Give call) step rs left = later rs left
+    by later task step rs left = later rs left
 
 -- what was written is a trace of them
 pub trace-written : (bytes : List ℕ) (es : List Entry) → bytes ≡ records_bytes es → AllByRecursion IsEntry es → IsTraceOf bytes es None

@@ -1,6 +1,5 @@
-//! The firmware model for C: devices behind handles that take messages and ticks, with the bytes of their endpoints, and the check of
-//! topologies. Every function that C may call stands in `device.rt`, `endpoints.rt` and `topology.rt`; their names end in `_unchecked`,
-//! since the header calls each after a test of its pointers.
+//! The firmware and the check of topologies for C: devices behind handles. What C calls stands in `device.rt`, `endpoints.rt` and
+//! `topology.rt`, and ends in `_unchecked`: the header tests its pointers first.
 #![tactic(auto)]
 
 mod device;

@@ -22,6 +22,7 @@ use Rattle.sof_session.specs.CommandRules.{CommandRules}
 use Rattle.sof_session.specs.CommandTests.{fault_of}
 use Rattle.sof_session.specs.Commands.{order_of}
 use Rattle.sof_session.specs.Show.{power_words, widget_line, edge_line, stream_line, control_line}
+use Rattle.host_widgets.specs.HostActs.{Act}
 
 -- ---- all commands
 

@@ -7,7 +7,7 @@ ghost use Rattle.sof_session.specs.UpLaws.{UpIsShown, FirstIsShown, RunShowsUp};
 ghost use Rattle.sof_session.specs.UpRows.{SecondStreamIsRefused, SharedPipelineStays, RefusedShowsUp, SharedShowsUp};
 
 /// The run of a sound plan is one: the same commands, doings of the device and whole inputs lead to the same legs, from the
-/// first place, and from any place whose view has edges without a cycle. Such a place is each that a run from the first comes to. It is
+/// first place, and from any place whose view has edges without a cycle. Such a place is each that a run from the first reaches. It is
 /// also one where pipelines are made on use: from the first place, and from any whose view has edges without a cycle and where what is
 /// there is joined as the plan joins it. Such a place is the first, and each that a run from one reaches.
 pub fn one_run()

@@ -132,13 +132,13 @@ module _ (place : DeskPlace) where
   never-said line turns (Did act false ∷ calls) says = cc says.3
 
   module _ (form : Form) (topology script : List ℕ) (plan : Plan) (read : Read) (ready : prepared topology script ≡ Ready plan read) (turns : List Turn) where
-    abbrev Put : List DeskCall → Type 0
-    Put calls = put_at place calls ≡ bytes_of_pieces place (all_pieces (rounds_of read.commands) (carried_outs turns))
+    abbrev HasPut : List DeskCall → Type 0
+    HasPut calls = put_at place calls ≡ bytes_of_pieces place (all_pieces (rounds_of read.commands) (carried_outs turns))
 
     abbrev session : Todo
     session = session_todo form.on_use form.heap plan read.commands (bound_inputs plan [] read.bindings) (bound_slots plan read.bindings)
 
-    session-put : (calls : List DeskCall) → DoneBy session turns calls 0 → Put calls
+    session-put : (calls : List DeskCall) → DoneBy session turns calls 0 → HasPut calls
     session-put calls goes = by turns goes
       where
         by : (ts : List Turn) → DoneBy session ts calls 0 → put_at place calls ≡ bytes_of_pieces place (all_pieces (rounds_of read.commands) (carried_outs ts))
@@ -147,19 +147,19 @@ module _ (place : DeskPlace) where
             units-put (rounds_of read.commands) others calls goes.1
             ∙ ap (λ (task : Task). bytes_of_pieces place (all_pieces (rounds_of read.commands) (with_out task begins.out (carried_outs others)))) (sym goes.0)
 
-    ready-put : (calls : List DeskCall) → DoneBy (ready_todo form.on_use form.heap form.trace plan read) turns calls 0 → Put calls
+    ready-put : (calls : List DeskCall) → DoneBy (ready_todo form.on_use form.heap form.trace plan read) turns calls 0 → HasPut calls
     ready-put calls goes =
         let b = bindings-put place turns plan read.bindings (traced_todo form.trace session) calls goes in
         let t = traced-put place turns form.trace session b.later b.goes in
         b.put ∙ t.put ∙ session-put t.later t.goes
 
-    files-put : (calls : List DeskCall) → DoneBy (Free (prepared_todo form.on_use form.heap form.trace (prepared topology script))) turns calls 0 → Put calls
+    files-put : (calls : List DeskCall) → DoneBy (Free (prepared_todo form.on_use form.heap form.trace (prepared topology script))) turns calls 0 → HasPut calls
     files-put calls (inl goes) = ready-put calls (subst (λ files. DoneBy (prepared_todo form.on_use form.heap form.trace files) turns calls 0) ready goes)
     files-put calls (inr says) = absurd (never-said no_memory_line turns calls says)
 
     -- a load that answered this, first of all that loads answered
     asked-put : (name line : List ℕ) (next : List ℕ → Todo) (bytes : List ℕ) (more : List Heard) (calls : List DeskCall) → heard_in calls ≡ Ok bytes ∷ more → DoneBy (Ask name 1048576 line next) turns calls 0 →
-        ((later : List DeskCall) → heard_in later ≡ more → DoneBy (next bytes) turns later 0 → Put later) → Put calls
+        ((later : List DeskCall) → heard_in later ≡ more → DoneBy (next bytes) turns later 0 → HasPut later) → HasPut calls
     asked-put name line next bytes more [] heard goes on = absurd goes
     asked-put name line next bytes more (Did act done ∷ calls) heard goes on = absurd goes
     asked-put name line next bytes more (ReadCall slot size got ∷ calls) heard goes on = absurd goes

@@ -24,10 +24,11 @@ fn said(message: &Message, at: usize, value: u32) -> Option<CodecFault> {
 fn takes(
     rt: &impl Abort,
     message: &Message,
-    (at, told): (usize, usize),
+    place: (usize, usize),
     allowed: &[u32],
     refused: &[u32],
 ) {
+    let (at, told) = place;
     for &value in allowed {
         same(
             rt,
@@ -128,7 +129,7 @@ fn words_of_parameters_have_their_edges(rt: HostRuntime) {
     takes(&rt, &message, (56, 56), &[0, 1], &[2, u32::MAX]);
     takes(&rt, &message, (60, 60), &[0, 1, 2], &[3, u32::MAX]);
     takes(&rt, &message, (68, 68), &[0, u32::MAX], &[]);
-    let channels = [0, 0xFFFF, 0x0009_0000, 0xFFFF_0000];
+    let channels: [u32; 4] = [0, 0xFFFF, 0x0009_0000, 0xFFFF_0000];
     takes(
         &rt,
         &message,

@@ -37,13 +37,13 @@ fn takes(
             &(value, None),
         );
     }
-    let fault = Some(CodecFault::Field(told));
+    let want = Some(CodecFault::Field(told));
     for &value in refused {
         same(
             rt,
             &told,
             &(value, said(message, at, value)),
-            &(value, fault),
+            &(value, want),
         );
     }
 }

@@ -45,7 +45,7 @@ end_at o c e = ap (λ x. is_end x c) e ∙ eq-eqb c c refl
 
 -- ---- where the test says so, there is one
 
-leads-walk : (edges : List Edge) (a b : ℕ) → leads_along edges a b ≡ true → Leads edges a b
+pub leads-walk : (edges : List Edge) (a b : ℕ) → leads_along edges a b ≡ true → Leads edges a b
 leads-walk [] a b h = (0, eqb-true a b h)
 leads-walk (e ∷ es) a b h = by_case (or_cases (leads_along es a b) (option_map_or (λ c. leads_along es a c) e.source false && option_map_or (λ c. leads_along es c b) e.sink false) h) (λ x y k. leads-walk es x y k)
   where
@@ -108,7 +108,7 @@ module _ (e : Edge) (es : List Edge) (rest : (n a b : ℕ) → EdgeWalk es n a b
       step a w.0 b (or_cases (is_end e.source a && is_end e.sink w.0) (are_joined es a w.0) w.1)
       (or_cases (leads_along es w.0 b) (option_map_or (λ x. leads_along es w.0 x) e.source false && option_map_or (λ x. leads_along es x b) e.sink false) (over n w.0 b w.2))
 
-walk-leads : (edges : List Edge) (n a b : ℕ) → EdgeWalk edges n a b → leads_along edges a b ≡ true
+pub walk-leads : (edges : List Edge) (n a b : ℕ) → EdgeWalk edges n a b → leads_along edges a b ≡ true
 walk-leads [] zero a b w = eq-eqb a b w
 walk-leads [] (suc n) a b w = absurd (false≢true w.1)
 walk-leads (e ∷ es) n a b w = over e es (λ m x y v. walk-leads es m x y v) n a b w

@@ -4,6 +4,8 @@
 
 mod echoes;
 mod failing;
+mod laws;
 mod walks;
 
 pub use failing::{failing_cycle, failing_way};
+pub use laws::walks_are_found;

@@ -1,4 +1,3 @@
-pub mod Acyclic
 pub mod Ascending
 pub mod BootKept
 pub mod ChangeKept

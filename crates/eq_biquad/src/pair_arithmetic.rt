@@ -54,7 +54,8 @@ pub fn add_both(a: i64x2, b: i64x2) -> i64x2
     a + b
 }
 
-/// The sums of two pairs, without the 30 bits at their bottom, held to 32 bits.
+/// The sums of two pairs, without the 30 bits at their bottom, held to 32 bits. Sums are exact modulo 2^64; whether one left the range is
+/// the sign of the sum and 2^61, and to which end the sign of the sum of its halves. A held sample costs as much as another.
 pub fn hold_both(a: i64x2, b: i64x2) -> i32x2
     requires first { BothAre (FitsSigned w64) a }
     requires second { BothAre (FitsSigned w64) b }

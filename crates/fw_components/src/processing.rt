@@ -13,7 +13,8 @@ impl Registry {
     /// The volume, mixer, mux, equaliser or demux of this id takes `n` frames out of each buffer `looked`, and puts what it makes of
     /// them into those that are `fed`, which have room for them: a demux into each what it keeps for it, any other into the one that
     /// there is. A volume, an equaliser and a demux look at one buffer. All have its channels, and each is named once. This takes no
-    /// memory.
+    /// memory. It does not ask that the buffers are joined to the component. Frames go as 2048 samples hold at a time, in a workspace that
+    /// lies in no region.
     /// SOF's terms: `looked` are the source buffers, `fed` the sink buffers.
     pub fn process(&mut self, id: u32, looked: &[u32], fed: &[u32], n: u32)
         requires unit { moves_at self.old id (length looked.now) ≡ true }

@@ -199,7 +199,8 @@ impl Registry {
         complete_in(&mut self.pipes, id);
     }
 
-    /// The host of this id has this phase and these parameters: none where it is Idle, and else 1 to 8 channels and a right rate.
+    /// The host of this id has this phase and these parameters: none where it is Idle, and else 1 to 8 channels and a right rate. Streams are
+    /// counted anew only where the host's is or was Running or Paused.
     pub fn set_stream(&mut self, host: u32, phase: Phase, params: Option<Params>)
         requires host { list_any (λ c. c.id == host && is_host_unit c.unit) self.old.comps ≡ true }
         requires stream { IsStreamOf (is_idle_phase phase) params }

@@ -1,4 +1,4 @@
-// The tables of a registry, as lists that one may read.
+// The tables of a registry, as lists that one may read: walks go over dense lists.
 ghost use Rattle.std.specs.Prelude.{◌≡◌};
 ghost use Rattle.fw_components.specs.Kept.{IsKept};
 

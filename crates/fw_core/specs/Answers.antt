@@ -24,7 +24,8 @@ abbrev pub reply_with : Result Body Errno → Reply
 reply_with (Ok body) = record { error = pos 0; body = body }
 reply_with (Err error) = record { error = error.0; body = Nothing }
 
--- What a call does that a row of messages describes: it leads to the row's state or tells its error, at any clock. What is so of the
+-- What a call does that a row of messages describes: it leads to the row's state or tells its error, at any clock, since the clock stands
+-- beside the tables. What is so of the
 -- tables and the region stays so, the region is the same with its sizes, and nothing changes where the row is refused.
 pub record IsRow {X : Type 0} (row : FwState → Result FwState ℤ) (t u : Tables) (r s : RegionState) (answer : Result X Errno) : Type 0 where
   pub told : (clock : ℕ) → answer_of (state_in u s clock) answer ≡ row (state_in t r clock)

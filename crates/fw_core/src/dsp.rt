@@ -28,6 +28,7 @@ impl Dsp for Firmware {
         self.boots = self.boots.saturating_add(1);
     }
 
+    // Pieces come back in the order of the tables; that one hole is left does not rest on the order.
     fn cut(&mut self) {
         self.registry.remove_all(&mut self.region);
         self.on = false;

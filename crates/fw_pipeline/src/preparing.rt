@@ -189,7 +189,8 @@ fn captures_at(registry: &Registry, id: u32) -> bool
     }
 }
 
-// Whether some walk from a playback's host to a capture's goes along no echo edge.
+// Whether some walk from a playback's host to a capture's goes along no echo edge: one walk from the hosts of all playbacks, so that the
+// number of walks does not grow with that of hosts.
 fn crosses(registry: &Registry, ways: &Ways) -> bool
     requires { AreWaysOf (graph_of registry.now) ways.now }
     ensures { result ≡ way_crosses (graph_of registry.now) }

@@ -29,7 +29,7 @@ impl Model for Places {
 }
 
 impl Places {
-    /// Those of these ids and of joins of these.
+    /// Those of these ids and of joins of these. The first index of each last byte of an id is noted, and tested before any search.
     pub fn of(ids: ArrayVec<u32, 256>, joins: &[Join]) -> Places
         requires listed { AllByRecursion (IsListed ids.items) joins.now }
         requires few { length joins.now ≤ 256 }

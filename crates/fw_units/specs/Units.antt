@@ -1,4 +1,5 @@
--- What a unit is, and how a component, a buffer or a pipeline is seen in the firmware's state.
+-- What a unit is, and how a component, a buffer or a pipeline is seen in the firmware's state. A new component moves one channel, and a new
+-- ring has frames of one sample, until a stream begins there.
 use Rattle.std.specs.Prelude.{ℕ, ◌+◌, ◌*◌, List, [], ◌∷◌, ◌++◌, map, take, nat_le, Bool, true, false, ◌==◌, Option, None, if◌then◌else◌, ℤ, pos}
 use Rattle.sof_base.specs.declared.format.Format.{Format}
 use Rattle.fw_heap.specs.Pieces.{PieceState}

@@ -44,7 +44,7 @@ impl<T> Items<T> {
 }
 
 impl<T: Drop> Items<T> {
-    /// One more item at the end. Where there is no memory, the list stays as it is.
+    /// One more item at the end. Where there is no memory, the list stays as it is. No other call of this crate may take memory.
     pub fn push(&mut self, item: T) -> Result<(), NoMemory>
         ensures ok { OnOk result (self.new ≡ self.old ++ item ∷ []) }
         ensures err { OnErr result (self.new ≡ self.old) }

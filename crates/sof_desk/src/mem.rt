@@ -74,7 +74,7 @@ impl MemDesk {
     }
 
     /// Holds an empty file that a slot may be created for, with room for `room` bytes. It takes the place of what the
-    /// desk held under this name.
+    /// desk held under this name; a slot that was created for it is no longer created.
     pub fn put_out(&mut self, name: &str, room: usize) -> Result<(), NoMemory>
         ensures ok { OnOk result (self.new ≡ with_file self.old (output_file name.now room)) }
         ensures err { OnErr result (self.new ≡ self.old) }

@@ -60,6 +60,7 @@ fn built(alloc: Global, source: &TopologySource) -> Result<Topology, SourceFault
     match build(alloc, source) {
         Ok(topology) => Ok(topology),
         Err(BuildFault::OutOfMemory) => Err(SourceFault::OutOfMemory),
+        // A text of 1048576 bytes has fewer than 2^32 - 1 entries, and shorter blobs.
         Err(BuildFault::TooLarge) => unreachable!(),
     }
 }

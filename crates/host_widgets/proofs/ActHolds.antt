@@ -69,9 +69,6 @@ module _ {D : Type 0} (means : Meaning D) (plan : Plan) (heap : ℕ) (goes_on : 
   ticked-on : StandsOn (Some f) w.io (Some before.0) before.1 (replicate m.lag Tick)
   ticked-on = ticks-stand m.lag f w.io (subst IsPlayable (sym keeps.view) (sound-plays plan sound kept (record_view plan kept).streams))
 
-  request : List ℕ
-  request = message_spelling (act_message plan act)
-
   -- one whose link failed
   lost : v.io ≡ before.1 → ReadsOn (Some f) w.io v.io (replicate m.lag Tick)
   lost io = subst (λ (x : Io). ReadsOn (Some f) w.io x (replicate m.lag Tick)) (sym io) (reads-of (Some f) (Some before.0) w.io before.1 (replicate m.lag Tick) ticked-on)

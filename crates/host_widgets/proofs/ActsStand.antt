@@ -18,7 +18,7 @@ use Rattle.stream_law.proofs.Standing.{Stands-now}
 use Rattle.tplg_plan.specs.declared.plans.Plan.{Plan}
 use Rattle.tplg_plan.specs.declared.plans.StreamPlan.{StreamPlan}
 use Rattle.host_widgets.specs.declared.kept.Found.{Found}
-use Rattle.host_widgets.specs.declared.kept.Found.TheVariants.{Closed, Open, Prepared, Running, Paused, On as Found_On}
+use Rattle.host_widgets.specs.declared.kept.Found.TheVariants.{Running, Paused}
 use Rattle.host_widgets.specs.declared.kept.StreamRec.{StreamRec}
 use Rattle.host_widgets.specs.HostRecord.{may_have}
 use Rattle.host_widgets.specs.Expected.{phase_of, stream_view}
@@ -35,10 +35,7 @@ has Running (Some p) may live = refl
 has Running None may live = absurd (false≢true may)
 has Paused (Some p) may live = refl
 has Paused None may live = absurd (false≢true may)
-has Closed params may live = absurd (false≢true live)
-has Open params may live = absurd (false≢true live)
-has Prepared params may live = absurd (false≢true live)
-has Found_On params may live = absurd (false≢true live)
+has found params may live = absurd (false≢true live)
 
 pub all-have : (ss : List StreamPlan) (rs : List StreamRec) → list_all (λ (r : StreamRec). may_have r.found r.params) rs ≡ true →
     (s : StreamView) → Contains (map stream_view (zip ss rs)) s → is_live_phase s.phase ≡ true → is_some s.params ≡ true

@@ -1,5 +1,5 @@
 -- Acts by their answers alone: one of them, lists one after another, and the orders of calls.
-use Rattle.std.proofs.Common.{◌≡◌, refl, sym, ap, subst, ◌∙◌, ℕ, List, [], ◌∷◌, ◌++◌, Option, Some, None, Result, Ok, Err}
+use Rattle.std.proofs.Common.{◌≡◌, refl, sym, ap, subst, ◌∙◌, ℕ, List, [], ◌∷◌, ◌++◌, Option, None, Result, Ok, Err}
 use Rattle.std.specs.Prelude.{MatchResult}
 use Rattle.ipc3_model.specs.declared.reply.Reply.{Reply}
 use Rattle.ipc3_model.specs.Messages.{message_spelling}
@@ -111,12 +111,6 @@ module _ {D : Type 0} (means : Meaning D) (plan : Plan) (heap : ℕ) where
   sends-rest Unloaded acts done answer kept kept' w none is = (is, refl, refl)
 
   -- ---- by a test
-
-  pub early-answered : (test : Option HostFault) (o : Procedure) (kept : Record) (w : World D) (fault : HostFault) (result : Outcome) → test ≡ Some fault → result ≡ Err fault → TestedAnswered means plan heap test o kept kept w w result
-  early-answered test o kept w fault result is this = record {
-    early = λ f e. (let same : fault ≡ f = cc (sym is ∙ e) in (this ∙ ap (λ (x : HostFault). Err x) same, refl, refl));
-    late = λ none. absurd (cc (sym is ∙ none));
-  }
 
   pub late-answered : (test : Option HostFault) (o : Procedure) (kept kept' : Record) (w v : World D) (result : Outcome) → test ≡ None → OrderAnswered means plan heap o kept kept' w v result → TestedAnswered means plan heap test o kept kept' w v result
   late-answered test o kept kept' w v result none x = record { early = λ f e. absurd (cc (sym none ∙ e)); late = λ is. x }

@@ -1,10 +1,8 @@
 -- The records of a list whose keys are below a number, where the list ascends.
-use Rattle.std.proofs.Common.{◌≡◌, refl, sym, ap, ◌∙◌, ℕ, ◌+◌, ◌<◌, ◌≤◌, List, [], ◌∷◌, ◌++◌, map, filter, length, Some, None, Bool, true, false, cond, ◌==◌, nat_lt, arith}
-use Rattle.std.proofs.lemmas.Bool.{eqb-true, eqb-false, ltb-true, ltb-false, lt-ltb, le-ltb, or_from, false_from_ne_true}
-use Rattle.std.specs.List.{list_any, find, AllByRecursion}
-use Rattle.stream_law.specs.Placed.{placed, AreAbove, Ascends, HasDistinct}
-use Rattle.stream_law.proofs.Placing.{map-placed, Ascends-filter, Ascends-distinct}
-use Rattle.host_widgets.proofs.LookedUp.{found-is}
+use Rattle.std.proofs.Common.{◌≡◌, refl, sym, ap, ◌∙◌, ℕ, ◌+◌, ◌<◌, ◌≤◌, List, [], ◌∷◌, ◌++◌, filter, length, Some, None, Bool, true, false, cond, ◌==◌, nat_lt, arith}
+use Rattle.std.proofs.lemmas.Bool.{eqb-true, eqb-false, ltb-true, ltb-false, lt-ltb, le-ltb}
+use Rattle.std.specs.List.{find, AllByRecursion}
+use Rattle.stream_law.specs.Placed.{AreAbove, Ascends}
 
 -- those whose keys are below n
 abbrev pub below : {X : Type 0} → (X → ℕ) → ℕ → List X → List X
@@ -83,57 +81,9 @@ below-more {X} key n (y ∷ ys) x up is = by_test (below-more key n ys x up.1) (
     by_test rest true e h = here (eqb-true (key y) n e) (cc h)
     by_test rest false e h = there (rest h) h (nat_lt (key y) n) refl
 
--- a record of this key is put after all that is below
-placed-last : {X : Type 0} (key : X → ℕ) (n : ℕ) (x : X) (xs : List X) → key x ≡ n → placed key x (below key n xs) ≡ below key n xs ++ x ∷ []
-placed-last key n x [] is = refl
-placed-last {X} key n x (y ∷ ys) is = by_order (placed-last key n x ys is) (nat_lt (key y) n) refl
-  where
-    by_order : placed key x (below key n ys) ≡ below key n ys ++ x ∷ [] → (b : Bool) → nat_lt (key y) n ≡ b → placed key x (cond b (y ∷ below key n ys) (below key n ys)) ≡ cond b (y ∷ below key n ys) (below key n ys) ++ x ∷ []
-    by_order rest true l =
-        let less = ltb-true (key y) n l in
-        ap (λ b. cond b (x ∷ y ∷ below key n ys) (y ∷ placed key x (below key n ys))) (le-ltb (key x) (key y) (omega arith)) ∙ ap (λ l. y ∷ l) rest
-    by_order rest false l = rest
-
--- ---- what is made of these
-
-module _ {X Y : Type 0} (f : X → Y) (key : X → ℕ) (name : Y → ℕ) (same : (x : X) → name (f x) ≡ key x) (n : ℕ) (xs : List X) where
-  -- what is made of one more is put into its place
-  pub made-more : (x : X) → Ascends key xs → find (λ y. key y == n) xs ≡ Some x → placed name (f x) (map f (below key n xs)) ≡ map f (below key (n + 1) xs)
-  made-more x up is =
-      sym (map-placed f key name same x (below key n xs)) ∙ ap (map f) (placed-last key n x xs (found-is key xs n x is)) ∙ ap (map f) (sym (below-more key n xs x up is))
-
-less-other : (a b : ℕ) → a < b → (a == b) ≡ false
-less-other a b less = false_from_ne_true (a == b) (λ e. let same : a ≡ b = eqb-true a b e in omega arith)
-
--- none of these has the key
-pub made-unused : {X Y : Type 0} (f : X → Y) (key : X → ℕ) (name : Y → ℕ) → ((x : X) → name (f x) ≡ key x) → (n : ℕ) (xs : List X) → list_any (λ y. name y == n) (map f (below key n xs)) ≡ false
-made-unused f key name same n [] = refl
-made-unused {X} {Y} f key name same n (x ∷ xs) = by_order (made-unused f key name same n xs) (nat_lt (key x) n) refl
-  where
-    by_order : list_any (λ y. name y == n) (map f (below key n xs)) ≡ false → (b : Bool) → nat_lt (key x) n ≡ b → list_any (λ y. name y == n) (map f (cond b (x ∷ below key n xs) (below key n xs))) ≡ false
-    by_order rest true l = let less = ltb-true (key x) n l in let e = same x in or_from (name (f x) == n) _ (less-other (name (f x)) n (omega arith)) rest
-    by_order rest false l = rest
-
--- how many there are
-pub below-length : {X : Type 0} (key : X → ℕ) (n : ℕ) (xs : List X) → length (below key n xs) ≤ length xs
-below-length key n [] = omega arith
-below-length {X} key n (x ∷ xs) = by_order (below-length key n xs) (nat_lt (key x) n)
-  where
-    by_order : length (below key n xs) ≤ length xs → (b : Bool) → length (cond b (x ∷ below key n xs) (below key n xs)) ≤ length (x ∷ xs)
-    by_order rest true = omega arith
-    by_order rest false = omega arith
-
 pub length-more : {X : Type 0} (key : X → ℕ) (n : ℕ) (xs : List X) (x : X) → Ascends key xs → find (λ y. key y == n) xs ≡ Some x → length (below key (n + 1) xs) ≡ length (below key n xs) + 1
 length-more {X} key n xs x up is = ap length (below-more key n xs x up is) ∙ pushed (below key n xs)
   where
     pushed : (ys : List X) → length (ys ++ x ∷ []) ≡ length ys + 1
     pushed [] = refl
     pushed (y ∷ ys) = let rest = pushed ys in omega arith
-
--- so there is room for one more below a limit
-pub length-room : {X : Type 0} (key : X → ℕ) (n limit : ℕ) (xs : List X) (x : X) → Ascends key xs → find (λ y. key y == n) xs ≡ Some x → length xs ≤ limit → length (below key n xs) < limit
-length-room key n limit xs x up is most = let more = length-more key n xs x up is in let all = below-length key (n + 1) xs in omega arith
-
--- no key comes twice
-pub below-distinct : {X : Type 0} (key : X → ℕ) (n : ℕ) (xs : List X) → Ascends key xs → HasDistinct key (below key n xs)
-below-distinct key n xs up = Ascends-distinct key (below key n xs) (Ascends-filter (λ x. nat_lt (key x) n) key xs up)

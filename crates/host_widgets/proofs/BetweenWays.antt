@@ -2,7 +2,7 @@
 use Rattle.std.proofs.Common.{◌≡◌, refl, sym, ap, subst, ◌∙◌, ℕ, zero, suc, List, length, Bool, true, false, cond, not, inl, inr, ◌||◌, ◌&&◌, Some, None}
 use Rattle.std.specs.Prelude.{Option}
 use Rattle.std.specs.Option.{option_map_or, option_and_then}
-use Rattle.std.proofs.lemmas.Bool.{false≢true, true≢false, or_left, or_right, and_parts, and_from}
+use Rattle.std.proofs.lemmas.Bool.{false≢true, true≢false, or_left, or_right, and_parts, and_from, not-true}
 use Rattle.stream_law.specs.declared.graph.Comp.{Comp}
 use Rattle.stream_law.specs.declared.graph.Edge.{Edge}
 use Rattle.stream_law.specs.declared.graph.Join.{Join}
@@ -35,10 +35,6 @@ is_plain_join k j = not (is_echo k j.source) && not (is_echo k j.sink)
 pub in-way : (k : Graph) (j : Join) → IsIn j k.joins → is_echo k j.source ≡ false → is_echo k j.sink ≡ false → IsIn j (way_joins k)
 unfolding way_joins
 in-way k j there source sink = in-kept (is_plain_join k) k.joins j there (λ i. not (source i) && not (sink i))
-
-not-true : (b : Bool) → not b ≡ true → b ≡ false
-not-true true is = absurd (false≢true is)
-not-true false is = refl
 
 pub way-in : (k : Graph) (j : Join) → IsIn j (way_joins k) → IsIn j k.joins × (is_echo k j.source ≡ false) × (is_echo k j.sink ≡ false)
 unfolding way_joins

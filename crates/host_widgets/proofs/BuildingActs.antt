@@ -12,7 +12,7 @@ use Rattle.tplg_plan.specs.declared.plans.ControlKind.{ControlKind}
 use Rattle.tplg_plan.specs.declared.plans.ControlKind.TheVariants.{Volume, Choice, Blob, Masks}
 use Rattle.host_widgets.specs.declared.answers.HostFault.{HostFault}
 use Rattle.host_widgets.specs.declared.answers.HostFault.TheVariants as faults
-use Rattle.host_widgets.specs.declared.answers.HostFault.TheVariants.{NotLoaded, Loaded, NoSuch, State, Off, Range, Refused, LinkDown}
+use Rattle.host_widgets.specs.declared.answers.HostFault.TheVariants.{NotLoaded}
 use Rattle.host_widgets.specs.declared.kept.ControlRec.{ControlRec}
 use Rattle.host_widgets.specs.declared.kept.Record.{Record}
 use Rattle.mbox_link.specs.BlobParts.{is_last, part_numbers}
@@ -31,22 +31,19 @@ use Rattle.host_widgets.proofs.ControlLists.{Pair, comp_at, zip-ascends}
 -- nothing goes on after a fault
 pub ends-at : (fault : HostFault) → goes_past false (Err fault) ≡ false
 ends-at NotLoaded = refl
-ends-at Loaded = refl
-ends-at (NoSuch name) = refl
-ends-at (State found) = refl
-ends-at Off = refl
-ends-at (Range n) = refl
-ends-at (Refused e) = refl
-ends-at LinkDown = refl
-ends-at (faults.Blob n) = refl
+ends-at fault = refl
 
-all-both : {X : Type 0} (P : X → Type 0) (xs ys : List X) → AllByRecursion P xs → AllByRecursion P ys → AllByRecursion P (xs ++ ys)
+pub all-both : {X : Type 0} (P : X → Type 0) (xs ys : List X) → AllByRecursion P xs → AllByRecursion P ys → AllByRecursion P (xs ++ ys)
 all-both P [] ys first rest = rest
 all-both P (x ∷ xs) ys first rest = (first.0, all-both P xs ys first.1 rest)
 
-all-mapped : {X Y : Type 0} (P : Y → Type 0) (f : X → Y) → ((x : X) → P (f x)) → (xs : List X) → AllByRecursion P (map f xs)
-all-mapped P f each [] = tt
-all-mapped P f each (x ∷ xs) = (each x, all-mapped P f each xs)
+pub all-mapped : {X Y : Type 0} (P : Y → Type 0) (f : X → Y) (xs : List X) → ((x : X) → P (f x)) → AllByRecursion P (map f xs)
+all-mapped P f [] each = tt
+all-mapped P f (x ∷ xs) each = (each x, all-mapped P f xs each)
+
+pub all-flat : {X Y : Type 0} (P : Y → Type 0) (f : X → List Y) (xs : List X) → ((x : X) → AllByRecursion P (f x)) → AllByRecursion P (flat_map f xs)
+all-flat P f [] each = tt
+all-flat P f (x ∷ xs) each = all-both P (f x) (flat_map f xs) (each x) (all-flat P f xs each)
 
 module _ (plan : Plan) (kept : Record) where
   -- an act that leaves this record
@@ -99,7 +96,7 @@ module _ (plan : Plan) (kept : Record) where
     one-leaves id (Volume min max channels lowest step mute) r put parts = (put, tt)
     one-leaves id (Choice items) r put parts = (put, tt)
     one-leaves id (Masks min max channels) r put parts = (put, tt)
-    one-leaves id (Blob most initial) r put parts = all-mapped Leaves (Part id r.blob) parts (part_numbers r.blob)
+    one-leaves id (Blob most initial) r put parts = all-mapped Leaves (Part id r.blob) (part_numbers r.blob) parts
 
     puts-leave : (ps : List Pair) → AllByRecursion IsThere ps → AllByRecursion Leaves (flat_map control_acts ps)
     puts-leave [] there = tt
@@ -117,10 +114,10 @@ module _ (plan : Plan) (kept : Record) where
       let puts : List Act = flat_map control_acts (controls_of plan kept) in
       let finishes : List Act = map (λ (p : Pipe). Finish p.id) plan.graph.pipes in
       let there : AllByRecursion IsThere (controls_of plan kept) = each-found comp_at (controls_of plan kept) (zip-ascends plan.controls kept.controls sound.controls_ascend) in
-      all-both Leaves makes (joins ++ (puts ++ finishes)) (all-mapped Leaves Make (λ (id : ℕ). refl) (widget_ids plan))
-      (all-both Leaves joins (puts ++ finishes) (all-mapped Leaves (λ (j : Joined). Join j.source j.sink) (λ (j : Joined). refl) plan.graph.joins)
+      all-both Leaves makes (joins ++ (puts ++ finishes)) (all-mapped Leaves Make (widget_ids plan) (λ (id : ℕ). refl))
+      (all-both Leaves joins (puts ++ finishes) (all-mapped Leaves (λ (j : Joined). Join j.source j.sink) plan.graph.joins (λ (j : Joined). refl))
       (all-both Leaves puts finishes (puts-leave there (controls_of plan kept) there)
-      (all-mapped Leaves (λ (p : Pipe). Finish p.id) (λ (p : Pipe). refl) plan.graph.pipes)))
+      (all-mapped Leaves (λ (p : Pipe). Finish p.id) plan.graph.pipes (λ (p : Pipe). refl))))
 
   -- a walk of such acts leaves the record, wherever it ends
   pub walk-leaves : (heap : ℕ) (acts : List Act) (ms : List Meeting) → AllByRecursion Leaves acts → (walk (act_rules plan heap) false next_of kept ms acts).kept ≡ kept

@@ -50,13 +50,11 @@ takes-by (Masks min max channels) of r is (inr s) = ranged-masks min max is.2 r.
 
 -- a control of another kind has no blob
 pub bare-one : (kind : ControlKind) (r : ControlRec) → ((most : ℕ) (initial : List ℕ) → kind ≡ Blob most initial → ⊥) → ((r ≡ record { values = first_values kind; blob = first_blob kind }) ⊎ IsControlSet kind r) → r.blob ≡ []
-bare-one (Volume min max channels lowest step mute) r other (inl e) = ap (λ (x : ControlRec). x.blob) e
 bare-one (Volume min max channels lowest step mute) r other (inr s) = s.2
-bare-one (Choice items) r other (inl e) = ap (λ (x : ControlRec). x.blob) e
 bare-one (Choice items) r other (inr s) = s.3
 bare-one (Blob most initial) r other was = absurd (other most initial refl)
-bare-one (Masks min max channels) r other (inl e) = ap (λ (x : ControlRec). x.blob) e
 bare-one (Masks min max channels) r other (inr s) = s.2
+bare-one kind r other (inl e) = ap (λ (x : ControlRec). x.blob) e
 
 -- ---- as a list
 

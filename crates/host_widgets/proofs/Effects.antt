@@ -13,18 +13,18 @@ use Rattle.stream_law.specs.Seen.{seen, is_volume}
 use Rattle.stream_law.specs.Joins.{with_join}
 use Rattle.stream_law.specs.State.{FwState}
 use Rattle.ipc3_model.specs.declared.message.Message.{Message}
-use Rattle.ipc3_model.specs.declared.message.Message.TheVariants.{CompNew, CompFree, Connect, PipeNew, PipeFree, PipeComplete, BufferNew, BufferFree, CtxSave, SetValue, GetValue, SetData, GetData, PcmParams, PcmFree, TrigStart, TrigStop, TrigPause, TrigRelease}
+use Rattle.ipc3_model.specs.declared.message.Message.TheVariants.{CompNew, CompFree, Connect, PipeNew, PipeFree, PipeComplete, BufferNew, BufferFree, CtxSave, SetValue, GetValue, SetData, PcmParams}
 use Rattle.ipc3_model.specs.declared.reply.Body.{Body}
 use Rattle.ipc3_model.specs.declared.reply.Body.TheVariants.{Nothing}
 use Rattle.ipc3_model.specs.Messages.{message_spelling, decoded}
 use Rattle.ipc3_model.specs.Meanings.{IsMessage}
 use Rattle.ipc3_model.proofs.Spelled.{decoded-spelling}
-use Rattle.mbox_link.specs.Step.{row, row_of, body, body_of, kind_of, first_setting, first_ramp, new_setting, with_setting_at, with_comp, with_buffer, with_pipe, with_pipes, with_staged, blob_installed, staged_bytes, staging_at, completed, no_memory}
+use Rattle.mbox_link.specs.Step.{row, row_of, body, body_of, kind_of, first_setting, first_ramp, new_setting, with_setting_at, with_comp, with_buffer, with_pipe, with_pipes, with_params, with_staged, blob_installed, staged_bytes, staging_at, completed, no_memory}
 use Rattle.tplg_plan.specs.declared.plans.Plan.{Plan}
 use Rattle.tplg_plan.specs.declared.plans.WidgetPlan.{WidgetPlan}
 use Rattle.tplg_plan.specs.declared.plans.ControlPlan.{ControlPlan}
 use Rattle.tplg_plan.specs.declared.plans.ControlKind.{ControlKind}
-use Rattle.tplg_plan.specs.declared.plans.ControlKind.TheVariants.{Volume, Choice, Blob, Masks}
+use Rattle.tplg_plan.specs.declared.plans.ControlKind.TheVariants.{Volume}
 use Rattle.host_widgets.specs.Controls.{control_of}
 use Rattle.host_widgets.specs.HostActs.{Act, Make, Join, Put, Part, Finish, Prepare, Trig, Free, Save, Ask, Unmake}
 use Rattle.host_widgets.specs.ActMessages.{act_message, set_message, put_message, unmake_by}
@@ -44,7 +44,7 @@ abbrev pub value_effect : ℕ → Option Setting → FwState → FwState
 value_effect id None f = f
 value_effect id (Some setting) f = cond (is_of f.graph is_volume id) (seen (with_setting_at f id setting) (Some id) f) (record f { graph = (with_setting_at f id setting).graph })
 
--- the effect of a message that brings a device up, where it is taken
+-- the effect of a message that brings a device up or gives a stream its parameters, where it is taken
 abbrev pub effect : Message → FwState → FwState
 effect (CompNew id pipe periods_sink periods_source frame_fmt kind) f = with_comp id pipe (kind_of kind frame_fmt) (first_setting kind) (first_ramp kind) f
 effect (BufferNew id pipe size caps) f = with_buffer id pipe size f
@@ -53,6 +53,7 @@ effect (Connect source sink) f = record f { graph = with_join f.graph (record { 
 effect (SetValue id command values) f = value_effect id (option_and_then (λ c. new_setting c.kind c.setting command values) (comp_of f.graph id)) f
 effect (PipeComplete id) f = record f { graph = with_pipes (map (completed id) f.graph.pipes) f.graph }
 effect (SetData id part) f = part_effect id (staged_bytes (staging_at f id) part) part f
+effect (PcmParams host direction params) f = seen (with_params f host params) None f
 effect m f = f
 
 part-at : (id : ℕ) (bytes : List ℕ) (p : Carried) (g : FwState) (t : ℕ) → part_effect id bytes p (at g t) ≡ at (part_effect id bytes p g) t
@@ -85,13 +86,7 @@ effect-at CtxSave g t = refl
 effect-at (SetValue id command values) g t = value-at id (option_and_then (λ c. new_setting c.kind c.setting command values) (comp_of g.graph id)) g t
 effect-at (GetValue id command) g t = refl
 effect-at (SetData id part) g t = part-at id (staged_bytes (staging_at g id) part) part g t
-effect-at (GetData id index) g t = refl
-effect-at (PcmParams host direction params) g t = refl
-effect-at (PcmFree id) g t = refl
-effect-at (TrigStart id) g t = refl
-effect-at (TrigStop id) g t = refl
-effect-at (TrigPause id) g t = refl
-effect-at (TrigRelease id) g t = refl
+effect-at message g t = refl
 
 -- all these acts have been taken
 abbrev pub effects : Plan → List Act → FwState → FwState
@@ -125,11 +120,9 @@ made-bare f id k w None (Some e) p = refl
 made-bare f id k w None None (Some p) = refl
 made-bare f id k w None None None = refl
 
-set-bare : (f : FwState) (comp : ℕ) (values : List ℕ) (kind : ControlKind) → body f (set_message comp values kind) ≡ Nothing
+pub set-bare : (f : FwState) (comp : ℕ) (values : List ℕ) (kind : ControlKind) → body f (set_message comp values kind) ≡ Nothing
 set-bare f comp values (Volume min max channels lowest step mute) = refl
-set-bare f comp values (Choice items) = refl
-set-bare f comp values (Blob most initial) = refl
-set-bare f comp values (Masks min max channels) = refl
+set-bare f comp values kind = refl
 
 put-bare : (f : FwState) (comp : ℕ) (values : List ℕ) (k : Option ControlPlan) → body f (put_message comp values k) ≡ Nothing
 put-bare f comp values (Some k) = set-bare f comp values k.kind

@@ -1,21 +1,18 @@
 -- How many joins a plan has, and so how many messages bring it up.
-use Rattle.std.proofs.Common.{◌≡◌, refl, sym, ap, ◌∙◌, ℕ, ◌+◌, ◌*◌, ◌≤◌, Bool, true, false, cond, List, [], ◌∷◌, ◌++◌, map, length, ◌==◌, ⊎_elim, inl, inr, arith}
-use Rattle.std.specs.Prelude.{◌||◌}
-use Rattle.std.specs.List.{AllByRecursion, list_any, count_by, flat_map, zip}
-use Rattle.std.proofs.lemmas.Bool.{cases_Bool, eq-eqb, eqb-true, or_left, or_right}
+use Rattle.std.proofs.Common.{◌≡◌, refl, sym, ℕ, ◌+◌, ◌*◌, ◌≤◌, true, List, [], ◌∷◌, ◌++◌, map, length, ◌==◌, inl, inr, arith, ◌⊎◌, Some}
+use Rattle.std.specs.Prelude.{unwrap_or}
+use Rattle.std.specs.List.{AllByRecursion, flat_map, zip}
 use Rattle.std.proofs.lemmas.List.{length-map, length-append}
 use Rattle.std.proofs.lemmas.List.FromFn.{length-range_with_len}
-use Rattle.std.proofs.lemmas.List.Sums.{sum_by-cons}
 use Rattle.stream_law.specs.declared.graph.Edge.{Edge}
 use Rattle.stream_law.specs.declared.graph.Join.{Join}
-use Rattle.stream_law.specs.declared.graph.Graph.{Graph}
 use Rattle.tplg_plan.specs.declared.plans.Plan.{Plan}
 use Rattle.tplg_plan.specs.declared.plans.ControlPlan.{ControlPlan}
 use Rattle.tplg_plan.specs.declared.plans.ControlKind.{ControlKind}
 use Rattle.tplg_plan.specs.declared.plans.ControlKind.TheVariants.{Volume, Choice, Blob, Masks}
 use Rattle.mbox_link.specs.BlobParts.{parts, part_numbers}
 use Rattle.tplg_plan.specs.Ranges.{is_initial}
-use Rattle.tplg_plan.specs.Sound.{IsSound, IsSideOf, IsPassed}
+use Rattle.tplg_plan.specs.Sound.{IsSound}
 use Rattle.host_widgets.specs.declared.kept.ControlRec.{ControlRec}
 use Rattle.host_widgets.specs.declared.kept.Record.{Record}
 use Rattle.host_widgets.specs.Kept.{controls_of}
@@ -24,99 +21,39 @@ use Rattle.host_widgets.proofs.ControlLists.{Pair, Takes, all-take}
 use Rattle.host_widgets.specs.HostActs.{Act, Make, Join as Joins, Part, Finish}
 use Rattle.host_widgets.specs.Acts.{widget_ids}
 use Rattle.host_widgets.specs.ActLists.{part_acts, control_acts_by, control_acts, bring_up}
-use Rattle.host_widgets.proofs.LookedUp.{any-found}
 use Rattle.host_widgets.proofs.NamedIds.{few-widgets}
 use Rattle.host_widgets.proofs.PartFacts.{few-parts}
+use Rattle.stream_law.proofs.Members.{IsIn, find-in}
+use Rattle.host_widgets.proofs.Needs.{in-flat}
+use Rattle.host_widgets.proofs.Sublists.{few-once}
+use Rattle.host_widgets.proofs.UpContext.{join-ends, whole-once}
 
--- joins into a buffer, and out of it
-abbrev into : Edge → List Join → ℕ
-into e js = count_by (λ j. j.sink == e.buffer) js
+-- the joins that may be at a buffer
+sides : Edge → List Join
+sides e = record { source = unwrap_or e.source 0; sink = e.buffer } ∷ record { source = e.buffer; sink = unwrap_or e.sink 0 } ∷ []
 
-abbrev out_of : Edge → List Join → ℕ
-out_of e js = count_by (λ j. j.source == e.buffer) js
+two-sides : (es : List Edge) → length (flat_map sides es) ≡ length es + length es
+unfolding sides
+two-sides [] = refl
+two-sides (e ∷ es) = omega (arith, two-sides es)
 
--- the joins at all of these buffers
-abbrev total : List Edge → List Join → ℕ
-total [] js = 0
-total (e ∷ es) js = into e js + out_of e js + total es js
+filled : (e : Edge) (j : Join) → j.sink ≡ e.buffer → e.source ≡ Some j.source → IsIn j (sides e)
+unfolding sides
+filled e j to from = inl (λ i. record { source = unwrap_or (sym from i) 0; sink = to i })
 
--- a join is at a buffer
-abbrev meets : Join → Edge → Bool
-meets j e = j.sink == e.buffer || j.source == e.buffer
+drained : (e : Edge) (j : Join) → j.source ≡ e.buffer → e.sink ≡ Some j.sink → IsIn j (sides e)
+unfolding sides
+drained e j from to = inr (inl (λ i. record { source = from i; sink = unwrap_or (sym to i) 0 }))
 
-no-fewer : (b : Bool) (n : ℕ) → n ≤ cond b 1 0 + n
-no-fewer true n = omega arith
-no-fewer false n = omega arith
-
-one-more : (a b : Bool) (m n : ℕ) → (a || b) ≡ true → m + n + 1 ≤ (cond a 1 0 + m) + (cond b 1 0 + n)
-one-more true b m n is = omega (arith, no-fewer b n)
-one-more false true m n is = omega arith
-one-more false false m n is = absurd (cc is)
-
-into-more : (e : Edge) (j : Join) (js : List Join) → into e (j ∷ js) ≡ cond (j.sink == e.buffer) 1 0 + into e js
-into-more e j js = sum_by-cons (λ (x : Join). cond (x.sink == e.buffer) 1 0) j js
-
-out-more : (e : Edge) (j : Join) (js : List Join) → out_of e (j ∷ js) ≡ cond (j.source == e.buffer) 1 0 + out_of e js
-out-more e j js = sum_by-cons (λ (x : Join). cond (x.source == e.buffer) 1 0) j js
-
-total-more : (es : List Edge) (j : Join) (js : List Join) → total es js ≤ total es (j ∷ js)
-total-more [] j js = omega arith
-total-more (e ∷ es) j js =
-    omega (arith, total-more es j js, into-more e j js, out-more e j js, no-fewer (j.sink == e.buffer) (into e js), no-fewer (j.source == e.buffer) (out_of e js))
-
-total-one : (es : List Edge) (j : Join) (js : List Join) → list_any (meets j) es ≡ true → total es js + 1 ≤ total es (j ∷ js)
-total-one [] j js is = absurd (cc is)
-total-one (e ∷ es) j js is = elim (cases_Bool (meets j e)) [
-  | inl here ↦
-      omega (arith, into-more e j js, out-more e j js, one-more (j.sink == e.buffer) (j.source == e.buffer) (into e js) (out_of e js) here, total-more es j js)
-  | inr other ↦
-      omega (
-        arith,
-        into-more e j js,
-        out-more e j js,
-        no-fewer (j.sink == e.buffer) (into e js),
-        no-fewer (j.source == e.buffer) (out_of e js),
-        total-one es j js (ap (λ (b : Bool). b || list_any (meets j) es) (sym other) ∙ is),
-      )
-]
-
-all-counted : (es : List Edge) (js : List Join) → AllByRecursion (λ j. list_any (meets j) es ≡ true) js → length js ≤ total es js
-all-counted es [] all = omega arith
-all-counted es (j ∷ js) all = omega (arith, all-counted es js all.1, total-one es j js all.0)
-
-module _ (g : Graph) where
-  two-each : (es : List Edge) → AllByRecursion (IsPassed g) es → total es g.joins ≡ 2 * length es
-  two-each [] all = refl
-  two-each (e ∷ es) all = omega (arith, all.0.ins, all.0.outs, two-each es all.1)
-
-  meets-sink : (es : List Edge) (j : Join) → list_any (λ e. e.buffer == j.sink) es ≡ true → list_any (meets j) es ≡ true
-  meets-sink [] j is = absurd (cc is)
-  meets-sink (e ∷ es) j is = elim (cases_Bool (e.buffer == j.sink)) [
-    | inl here ↦ or_left (meets j e) (list_any (meets j) es) (or_left (j.sink == e.buffer) (j.source == e.buffer) (eq-eqb j.sink e.buffer (sym (eqb-true e.buffer j.sink here))))
-    | inr other ↦ or_right (meets j e) (list_any (meets j) es) (meets-sink es j (ap (λ (b : Bool). b || list_any (λ e. e.buffer == j.sink) es) (sym other) ∙ is))
-  ]
-
-  meets-source : (es : List Edge) (j : Join) → list_any (λ e. e.buffer == j.source) es ≡ true → list_any (meets j) es ≡ true
-  meets-source [] j is = absurd (cc is)
-  meets-source (e ∷ es) j is = elim (cases_Bool (e.buffer == j.source)) [
-    | inl here ↦ or_left (meets j e) (list_any (meets j) es) (or_right (j.sink == e.buffer) (j.source == e.buffer) (eq-eqb j.source e.buffer (sym (eqb-true e.buffer j.source here))))
-    | inr other ↦ or_right (meets j e) (list_any (meets j) es) (meets-source es j (ap (λ (b : Bool). b || list_any (λ e. e.buffer == j.source) es) (sym other) ∙ is))
-  ]
-
-  side-meets : (j : Join) → IsSideOf g j → list_any (meets j) g.edges ≡ true
-  side-meets j side = ⊎_elim
-      (λ s. meets-sink g.edges j (any-found (λ e. e.buffer == j.sink) g.edges s.1 s.3))
-      (λ s. meets-source g.edges j (any-found (λ e. e.buffer == j.source) g.edges s.0 s.2))
-      side.between
-
-  all-meet : (js : List Join) → AllByRecursion (IsSideOf g) js → AllByRecursion (λ j. list_any (meets j) g.edges ≡ true) js
-  all-meet [] all = tt
-  all-meet (j ∷ js) all = (side-meets j all.0, all-meet js all.1)
-
-few-joins : (plan : Plan) → IsSound plan → length plan.graph.joins ≤ 256
-few-joins plan sound =
-    let g = plan.graph in
-    omega (arith, all-counted g.edges g.joins (all-meet g g.joins sound.joins), two-each g g.edges sound.passed, sound.edges)
+pub few-joins : (plan : Plan) → IsSound plan → length plan.graph.joins ≤ 256
+few-joins plan sound = omega (arith, few-once plan.graph.joins (flat_map sides plan.graph.edges) (whole-once plan sound) here, two-sides plan.graph.edges, sound.edges)
+  where
+    here : (j : Join) → IsIn j plan.graph.joins → IsIn j (flat_map sides plan.graph.edges)
+    here j there = let r = join-ends plan sound j there in in-flat sides plan.graph.edges r.edge j (find-in (λ (e : Edge). e.buffer == r.edge.buffer) plan.graph.edges r.edge r.found).0 (by r.edge r.ends)
+      where
+        by : (e : Edge) → ((j.sink ≡ e.buffer) × (e.source ≡ Some j.source)) ⊎ ((j.source ≡ e.buffer) × (e.sink ≡ Some j.sink)) → IsIn j (sides e)
+        by e (inl (to, from)) = filled e j to from
+        by e (inr (from, to)) = drained e j from to
 
 few-by : (kind : ControlKind) (comp : ℕ) (r : ControlRec) → Takes kind r → length (control_acts_by comp kind r) ≤ 4
 few-by (Volume min max channels lowest step mute) comp r takes = omega arith

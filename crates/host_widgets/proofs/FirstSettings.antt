@@ -21,10 +21,8 @@ values-are (Masks min max channels) = ap (λ (n : ℕ). replicate n max) (length
 
 -- a control that is no blob is set by one message
 one-put : (kind : ControlKind) (comp : ℕ) (r : ControlRec) → ((most : ℕ) (initial : List ℕ) → kind ≡ Blob most initial → ⊥) → control_acts_by comp kind r ≡ Put comp r.values ∷ []
-one-put (Volume min max channels lowest step mute) comp r other = refl
-one-put (Choice items) comp r other = refl
 one-put (Blob most initial) comp r other = absurd (other most initial refl)
-one-put (Masks min max channels) comp r other = refl
+one-put kind comp r other = refl
 
 pub put-acts : (k : ControlPlan) (r : ControlRec) → ((most : ℕ) (initial : List ℕ) → k.kind ≡ Blob most initial → ⊥) → control_acts (k, r) ≡ Put k.comp r.values ∷ []
 put-acts k r other = one-put k.kind k.comp r other

@@ -10,7 +10,7 @@ use Rattle.ipc3_model.specs.declared.message.Message.TheVariants.{SetValue}
 use Rattle.ipc3_model.specs.ControlWords.{value_slots}
 use Rattle.ipc3_model.specs.Meanings.{IsMessage}
 use Rattle.tplg_plan.specs.declared.plans.ControlKind.{ControlKind}
-use Rattle.tplg_plan.specs.declared.plans.ControlKind.TheVariants.{Volume, Choice, Blob, Masks}
+use Rattle.tplg_plan.specs.declared.plans.ControlKind.TheVariants.{Volume}
 use Rattle.tplg_plan.specs.GainOf.{control_gain}
 use Rattle.tplg_plan.proofs.Gains.{above-most, below-zero, below-suc}
 
@@ -49,9 +49,7 @@ gain-most lowest step mute value = by (value == 0 && not (mute == 0))
 
 pub control_gain-most : (kind : ControlKind) (value : ℕ) → control_gain kind value ≤ 16777216
 control_gain-most (Volume min max channels lowest step mute) value = gain-most lowest step mute value
-control_gain-most (Choice items) value = omega arith
-control_gain-most (Blob most initial) value = omega arith
-control_gain-most (Masks min max channels) value = omega arith
+control_gain-most kind value = omega arith
 
 -- ---- lists of gains
 
@@ -74,7 +72,7 @@ value-slots channel [] few are = tt
 value-slots channel (v ∷ vs) few are = (omega (arith, few), (omega (arith, are.0), value-slots (channel + 1) vs (omega (arith, few)) are.1))
 
 -- the command of a volume, of a mux or of a demux
-of-values : (command : ℕ) → command ≤ 2 → (command == 0 || command == 1 || command == 2) ≡ true
+pub of-values : (command : ℕ) → command ≤ 2 → (command == 0 || command == 1 || command == 2) ≡ true
 of-values zero low = refl
 of-values (suc zero) low = refl
 of-values (suc (suc zero)) low = refl

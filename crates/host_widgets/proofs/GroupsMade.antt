@@ -21,7 +21,8 @@ use Rattle.host_widgets.specs.Indices.{pipe_indices}
 use Rattle.host_widgets.specs.HostActs.{Act, Make, Part, Finish}
 use Rattle.host_widgets.specs.Kept.{controls_of}
 use Rattle.host_widgets.specs.MadeLists.{MadeListed, widget_made}
-use Rattle.host_widgets.proofs.GroupLists.{in-either, flat-in, mapped-in}
+use Rattle.host_widgets.proofs.Needs.{in-either, flat-in}
+use Rattle.host_widgets.proofs.StageStays.{from-map}
 use Rattle.host_widgets.proofs.MadeSent.{join_act, listed-then, listed-ended, sent-listed, listed-sent, none-made}
 use Rattle.host_widgets.proofs.Wholes.{bring-up-lists}
 use Rattle.host_widgets.proofs.Walks.{passing, sent-then, sent-ended}
@@ -46,17 +47,17 @@ module _ (plan : Plan) (kept : Record) (ids : List ℕ) (joined : List Joined) (
   control-none comp (controls.Choice items) c a (inr none) = absurd none
   control-none comp (controls.Masks min max channels) c a (inl is) = ap (λ (x : Act). widget_made x) is
   control-none comp (controls.Masks min max channels) c a (inr none) = absurd none
-  control-none comp (controls.Blob most initial) c a there = let r = mapped-in (Part comp c.blob) _ a there in ap (λ (x : Act). widget_made x) r.2
+  control-none comp (controls.Blob most initial) c a there = let r = from-map (Part comp c.blob) _ a there in ap (λ (x : Act). widget_made x) r.2
 
   rest-none : AllByRecursion (λ (a : Act). widget_made a ≡ None) rest
   rest-none = in-each (λ (a : Act). widget_made a ≡ None) rest (λ a there. first a (in-either joins (puts ++ finishes) a there))
     where
       last : (a : Act) → IsIn a puts ⊎ IsIn a finishes → widget_made a ≡ None
       last a (inl in_puts) = let r = flat-in control_acts (filter (is_control_of plan n) (controls_of plan kept)) a in_puts in control-none r.0.0.comp r.0.0.kind r.0.1 a r.2
-      last a (inr in_finishes) = let r = mapped-in Finish (finish_ids plan.graph n) a in_finishes in ap (λ (x : Act). widget_made x) r.2
+      last a (inr in_finishes) = let r = from-map Finish (finish_ids plan.graph n) a in_finishes in ap (λ (x : Act). widget_made x) r.2
 
       first : (a : Act) → IsIn a joins ⊎ IsIn a (puts ++ finishes) → widget_made a ≡ None
-      first a (inl in_joins) = let r = mapped-in join_act joined a in_joins in ap (λ (x : Act). widget_made x) r.2
+      first a (inl in_joins) = let r = from-map join_act joined a in_joins in ap (λ (x : Act). widget_made x) r.2
       first a (inr more) = last a (in-either puts finishes a more)
 
   module _ {D : Type 0} (means : Meaning D) (made made' : List ℕ) (w : World D) where

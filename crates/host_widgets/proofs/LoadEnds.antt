@@ -29,10 +29,11 @@ use Rattle.host_widgets.specs.Walk.{followed_by, walk}
 use Rattle.host_widgets.specs.ActCalls.{ActsDid, Counted, next_of, calls_of}
 use Rattle.host_widgets.specs.Orders.{Carried, brought_end, loading}
 use Rattle.host_widgets.proofs.Effects.{effect, FollowAll, own_cases}
-use Rattle.host_widgets.proofs.ManyEffects.{AllFree, passed-free, GoesOn, outcome_from}
+use Rattle.host_widgets.proofs.ManyEffects.{AllFree, GoesOn, outcome_from}
 use Rattle.host_widgets.proofs.Brings.{brings}
 use Rattle.host_widgets.proofs.BuildingActs.{Leaves, ends-at, bring-leaves, walk-leaves}
 use Rattle.host_widgets.proofs.Records.{closed-record, unloaded-agrees}
+use Rattle.host_widgets.proofs.UpWalks.{passed-free}
 
 module _ {D : Type 0} (means : Meaning D) (plan : Plan) (heap : ℕ) (kept : Record) where
   -- ---- acts that leave the record

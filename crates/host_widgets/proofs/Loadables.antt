@@ -1,9 +1,9 @@
 -- What is so of plans that are loaded, and of their records.
-use Rattle.std.proofs.Common.{◌≡◌, refl, sym, ap, subst, ◌∙◌, ℕ, zero, suc, ◌<◌, ◌≤◌, ◌^◌, Bool, true, cond, List, [], ◌∷◌, length, get_or, Option, Some, None, ◌==◌, ◌⊎◌, inl, inr, arith}
-use Rattle.std.specs.Prelude.{find, is_none}
+use Rattle.std.proofs.Common.{◌≡◌, refl, sym, ap, subst, ◌∙◌, ℕ, zero, suc, ◌<◌, ◌≤◌, ◌^◌, Bool, true, cond, List, [], ◌∷◌, length, get_or, Option, Some, ◌==◌, ◌⊎◌, inl, inr, arith}
+use Rattle.std.specs.Prelude.{find}
 use Rattle.std.specs.List.{AllByRecursion}
 use Rattle.std.proofs.lemmas.Bool.{cases_Bool, eq-eqb, eqb-true}
-use Rattle.sof_base.specs.BlobFaults.{BlobFault, blob_fault}
+use Rattle.sof_base.specs.BlobFaults.{blob_fault}
 use Rattle.sof_base.proofs.BlobTests.{tested-sound}
 use Rattle.stream_law.specs.Placed.{Ascends, AreAbove}
 use Rattle.stream_law.specs.declared.graph.Graph.{Graph}
@@ -21,6 +21,7 @@ use Rattle.host_widgets.specs.Host.{AreControls, IsControlSet}
 use Rattle.host_widgets.specs.Controls.{control_of, first_values, first_blob}
 use Rattle.host_widgets.specs.FewValues.{HasFew}
 use Rattle.host_widgets.proofs.ControlLists.{takes-by}
+use Rattle.host_widgets.proofs.PartFacts.{none-told}
 
 pub few-widgets : (plan : Plan) → IsSound plan → length plan.widgets < 2 ^ 32
 few-widgets plan sound = omega (arith, at-most plan sound)
@@ -58,11 +59,6 @@ first-at (k ∷ ks) (suc i) d within rises =
       | inl same ↦ absurd (omega (arith, less, eqb-true k.comp x.comp same))
       | inr other ↦ ap (λ (b : Bool). cond b (Some k) (found_in ks x.comp)) other ∙ first-at ks i d (omega (arith, within)) rises.1
     ]
-
--- what an equaliser begins with has at most 1024 bytes
-none-told : (fault : Option BlobFault) → is_none fault ≡ true → fault ≡ None
-none-told None is = refl
-none-told (Some f) is = absurd (cc is)
 
 few-initial : (bytes : List ℕ) → is_initial bytes ≡ true → length bytes ≤ 1024
 few-initial [] is = omega arith

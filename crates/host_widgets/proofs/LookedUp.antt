@@ -3,7 +3,7 @@ use Rattle.std.proofs.Common.{◌≡◌, ◌⊎◌, inl, inr, refl, sym, ap, ◌
 use Rattle.std.specs.Prelude.{nat_lt, count_by}
 use Rattle.std.specs.Option.{option_map}
 use Rattle.std.specs.List.{list_any, find, AllByRecursion}
-use Rattle.std.proofs.lemmas.Bool.{false≢true, true≢false, false_from_ne_true, eqb-true, eq-eqb, lt-ltb, ltb-true, le-ltb, or_left, or_right, or_cases}
+use Rattle.std.proofs.lemmas.Bool.{false≢true, true≢false, false_from_ne_true, eqb-true, eq-eqb, lt-ltb, ltb-true, le-ltb, or_cases}
 use Rattle.std.proofs.lemmas.List.Sums.{length-filter}
 use Rattle.stream_law.specs.Placed.{AreAbove, Ascends}
 
@@ -73,15 +73,6 @@ lost-any {X} p (y ∷ ys) none = by (p y) none (lost-any p ys)
     by : (h : Bool) → (h || list_any p ys) ≡ false → (list_any p ys ≡ false → find p ys ≡ None) → cond h (Some y) (find p ys) ≡ None
     by true none rest = absurd (true≢false none)
     by false none rest = rest none
-
--- what some record passes, another record made from it passes too
-pub any-implied : {X Y : Type 0} (f : X → Y) (p : Y → Bool) (q : X → Bool) → ((x : X) → p (f x) ≡ true → q x ≡ true) → (xs : List X) → list_any p (map f xs) ≡ true → list_any q xs ≡ true
-any-implied f p q step [] holds = holds
-any-implied {X} {Y} f p q step (x ∷ xs) holds = by (or_cases (p (f x)) (list_any p (map f xs)) holds) (any-implied f p q step xs)
-  where
-    by : (p (f x) ≡ true) ⊎ (list_any p (map f xs) ≡ true) → (list_any p (map f xs) ≡ true → list_any q xs ≡ true) → (q x || list_any q xs) ≡ true
-    by (inl here) rest = or_left (q x) (list_any q xs) (step x here)
-    by (inr there) rest = or_right (q x) (list_any q xs) (rest there)
 
 -- fewer pass a test that implies another, which some record passes alone
 pub filter-within : {X : Type 0} (p q : X → Bool) → ((x : X) → p x ≡ true → q x ≡ true) → (xs : List X) → length (filter p xs) ≤ length (filter q xs)

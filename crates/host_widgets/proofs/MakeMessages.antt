@@ -1,8 +1,7 @@
 -- No word of a message that makes a widget is refused.
-use Rattle.std.proofs.Common.{◌≡◌, refl, sym, ap, subst, ◌∙◌, ℕ, zero, suc, ◌%◌, ◌^◌, ◌<◌, List, [], ◌∷◌, length, replicate, Option, Some, None, true, ◌==◌, ◌&&◌, nat_le, get_or, arith}
+use Rattle.std.proofs.Common.{◌≡◌, refl, sym, ap, subst, ◌∙◌, ℕ, ◌%◌, ◌^◌, ◌<◌, length, replicate, Option, Some, None, true, ◌==◌, ◌&&◌, nat_le, arith}
 use Rattle.std.proofs.lemmas.Bool.{le-leb, leb-true, and_parts, and_from}
 use Rattle.std.proofs.lemmas.List.{length-replicate}
-use Rattle.std.specs.List.{AllByRecursion}
 use Rattle.sof_base.specs.Slots.{AreSlots, IsSlot}
 use Rattle.stream_law.specs.declared.graph.Kind.{Kind}
 use Rattle.stream_law.specs.declared.graph.Kind.TheVariants as kinds
@@ -15,7 +14,7 @@ use Rattle.tplg_plan.specs.declared.plans.Plan.{Plan}
 use Rattle.tplg_plan.specs.declared.plans.WidgetPlan.{WidgetPlan}
 use Rattle.tplg_plan.specs.declared.plans.ControlPlan.{ControlPlan}
 use Rattle.tplg_plan.specs.declared.plans.ControlKind.{ControlKind}
-use Rattle.tplg_plan.specs.declared.plans.ControlKind.TheVariants.{Volume, Choice, Blob, Masks}
+use Rattle.tplg_plan.specs.declared.plans.ControlKind.TheVariants.{Volume, Choice}
 use Rattle.tplg_plan.specs.WidgetWords.{FitsWords}
 use Rattle.tplg_plan.specs.Ranges as plan_ranges
 use Rattle.tplg_plan.specs.Sound.{IsSound, IsLive, IsControlOf, NamesComponent, NamesBuffer, NamesPipeline}
@@ -24,12 +23,7 @@ use Rattle.host_widgets.specs.Acts.{component_words, volume_words, widget_words,
 use Rattle.host_widgets.proofs.LookedUp.{found-is, all-found}
 use Rattle.host_widgets.proofs.NamedIds.{few-widgets}
 use Rattle.host_widgets.proofs.GreatestGains.{control_gain-most}
-
--- what holds of each holds of the one that is at a place
-all-at : {X : Type 0} (P : X → Type 0) (xs : List X) (n : ℕ) (d : X) → n < length xs → AllByRecursion P xs → P (get_or xs n d)
-all-at P [] n d within all = absurd (omega arith)
-all-at P (x ∷ xs) zero d within all = all.0
-all-at P (x ∷ xs) (suc n) d within all = all-at P xs n d (omega arith) all.1
+use Rattle.host_widgets.proofs.MadeSent.{all-at}
 
 -- ---- components
 
@@ -39,8 +33,7 @@ volume-allowed (Volume min max channels lowest step mute) is =
     let e : length (replicate channels (first_value (Volume min max channels lowest step mute))) ≡ channels = length-replicate channels _ in
     ap allowed.is_channels e ∙ and_from (nat_le 1 channels) (nat_le channels 8) (le-leb 1 channels is.3) (le-leb channels 8 is.4)
 volume-allowed (Choice items) is = let wrong = is.0 in absurd (cc wrong)
-volume-allowed (Blob most initial) is = let wrong = is.0 in absurd (cc wrong)
-volume-allowed (Masks min max channels) is = let wrong = is.0 in absurd (cc wrong)
+volume-allowed kind is = let wrong = is.0 in absurd (cc wrong)
 
 volume-channels : (n : ℕ) → allowed.is_channels n ≡ true → n < 2 ^ 32
 volume-channels n is = let low = leb-true n 8 (and_parts (nat_le 1 n) (nat_le n 8) is).1 in omega arith

@@ -1,49 +1,38 @@
--- A fresh firmware makes all widgets of a plan, one after the other.
-use Rattle.std.proofs.Common.{◌≡◌, refl, sym, ap, subst, ◌∙◌, ⊎_elim, ℕ, zero, suc, ◌+◌, ◌%◌, ◌<◌, ◌≤◌, List, [], ◌∷◌, ◌++◌, map, sum, fold, length, Option, Some, None, ◌-◌, ◌==◌, Bool, false, not, ltb, arith}
-use Rattle.std.proofs.lemmas.Bool.{ltb-false}
+-- The heap once the widgets of all ids below a number are made of a fresh one: a widget that no hole holds then is one up to which the
+-- stated sizes pass the heap.
+use Rattle.std.proofs.Common.{◌≡◌, refl, sym, ap, subst, ◌∙◌, inl, inr, ℕ, zero, suc, ◌+◌, ◌-◌, ◌%◌, ◌<◌, ◌≤◌, List, [], ◌∷◌, ◌++◌, map, sum, length, Bool, true, false, cond, ltb, leb, Option, Some, None, arith}
+use Rattle.std.specs.List.{range_with_len}
+use Rattle.std.proofs.lemmas.Bool.{ltb-true, ltb-false, le-leb, lt-leb}
 use Rattle.std.proofs.lemmas.List.{map-append}
-use Rattle.std.specs.List.{list_any, range_with_len, filter_map, IsDistinct}
-use Rattle.sof_base.specs.Holes.{rounded, usable_of}
+use Rattle.std.proofs.lemmas.List.Sums.{sum_by_push}
+use Rattle.sof_base.specs.declared.errno.Errno.{Errno}
+use Rattle.sof_base.specs.Holes.{rounded, usable_of, fits, carved}
 use Rattle.stream_law.specs.declared.graph.Kind.{Kind}
 use Rattle.stream_law.specs.declared.graph.Kind.TheVariants.{HostPlay}
 use Rattle.stream_law.specs.declared.graph.Comp.{Comp}
 use Rattle.stream_law.specs.declared.graph.Edge.{Edge}
-use Rattle.stream_law.specs.State.{FwState, HeapView, RingView}
-use Rattle.stream_law.specs.Ways.{comp_of, edge_of, is_live_phase}
-use Rattle.ipc3_model.specs.Meanings.{IsMessage}
-use Rattle.mbox_link.specs.Step.{fresh, comp_bytes}
+use Rattle.stream_law.specs.State.{FwState, HeapView}
+use Rattle.stream_law.specs.Ways.{comp_of, edge_of}
+use Rattle.ipc3_model.specs.declared.message.Message.{Message}
+use Rattle.mbox_link.specs.Step.{fresh, comp_bytes, heap_with_piece, no_memory}
 use Rattle.tplg_plan.specs.declared.plans.Plan.{Plan}
-use Rattle.tplg_plan.specs.Sound.{IsSound, host_of}
+use Rattle.tplg_plan.specs.Sound.{IsSound, Names}
 use Rattle.host_widgets.specs.declared.kept.Record.{Record}
-use Rattle.host_widgets.specs.HostActs.{Act, Make}
 use Rattle.host_widgets.specs.ActMessages.{act_message}
-use Rattle.host_widgets.specs.Acts.{widget_ids}
-use Rattle.host_widgets.specs.ActLists.{bring_up}
-use Rattle.host_widgets.specs.Expected.{stated_by, stated_bytes, needed_by}
-use Rattle.host_widgets.specs.StateOf.{state_by}
-use Rattle.host_widgets.specs.IdleStreams.{idle_view}
+use Rattle.host_widgets.specs.Acts.{widget_words}
 use Rattle.host_widgets.specs.Bringing.{Fits}
-use Rattle.host_widgets.proofs.SilentTicks.{IsStill}
-use Rattle.host_widgets.proofs.Carving.{left, fresh-left}
-use Rattle.host_widgets.proofs.Effects.{effects, Follows, FollowAll}
-use Rattle.host_widgets.proofs.ManyEffects.{AllFree, Brings}
-use Rattle.host_widgets.proofs.Making.{refusal-none, make_follows, room_for, carved_then}
-use Rattle.host_widgets.proofs.Stages.{made_state}
-use Rattle.host_widgets.proofs.LookedUp.{map-twice, all-of}
-use Rattle.host_widgets.proofs.OneAfterAnother.{effects-append, follow-append, Goes}
-use Rattle.host_widgets.proofs.BelowIds.{below-distinct}
-use Rattle.host_widgets.proofs.MakeStates.{made_by, made-first, made-last, heap_by, heap-more, ids-more, edges_below, comps_below, streams_by, empty_ring, message-comp, message-buffer, message-pipe, names-of, effect-next}
-use Rattle.host_widgets.proofs.MakeMessages.{is_comp_message, is_buffer_message, is_pipe_message}
-use Rattle.host_widgets.proofs.MakeRows.{row-make}
+use Rattle.host_widgets.specs.Controls.{control_of}
+use Rattle.host_widgets.specs.Expected.{loaded_heap, needed_by, stated_by, stated_bytes, with_pieces}
+use Rattle.host_widgets.specs.Host.{errno}
+use Rattle.host_widgets.specs.HostActs.{Act, Make}
+use Rattle.host_widgets.specs.OneAct.{own}
+use Rattle.host_widgets.proofs.Carving.{left, fresh-left, fits-left, carved-left}
+use Rattle.host_widgets.proofs.Effects.{effect}
+use Rattle.host_widgets.proofs.ManyEffects.{AllFree}
+use Rattle.host_widgets.proofs.MakeStates.{message-comp, message-buffer, message-pipe, bytes-comp, bytes-buffer, bytes-pipe, kind-read}
+use Rattle.host_widgets.proofs.NamedIds.{named-at}
 
 -- ---- bytes
-
-fold-pushed : (xs : List ℕ) (a n : ℕ) → fold ◌+◌ a (xs ++ n ∷ []) ≡ fold ◌+◌ a xs + n
-fold-pushed [] a n = refl
-fold-pushed (x ∷ xs) a n = fold-pushed xs (a + x) n
-
-sum-pushed : (xs : List ℕ) (n : ℕ) → sum (xs ++ n ∷ []) ≡ sum xs + n
-sum-pushed xs n = fold-pushed xs 0 n
 
 comp_bytes-some : (kind : Kind) → 0 < comp_bytes kind
 comp_bytes-some HostPlay = omega arith
@@ -60,6 +49,15 @@ rounded-some n some = omega arith
 rounded-whole : (n : ℕ) → rounded n % 16 ≡ 0
 rounded-whole n = omega arith
 
+range-more : (from n : ℕ) → range_with_len from (n + 1) ≡ range_with_len from n ++ (from + n) ∷ []
+range-more from zero = let e : from + 0 ≡ from = omega arith in rw e
+range-more from (suc n) =
+    let e : from + 1 + n ≡ from + suc n = omega arith in let f : suc n + 1 ≡ suc (n + 1) = omega arith in rw f (ap (λ l. from ∷ l) (range-more (from + 1) n ∙ rw e))
+
+-- the ids up to this one
+ids-more : (n : ℕ) → range_with_len 0 (n + 1) ≡ range_with_len 0 n ++ n ∷ []
+ids-more n = let e : 0 + n ≡ n = omega arith in range-more 0 n ∙ ap (λ k. range_with_len 0 n ++ k ∷ []) e
+
 module _ (plan : Plan) where
   abbrev bytes : ℕ → ℕ
   bytes n = rounded (stated_bytes plan n)
@@ -69,12 +67,12 @@ module _ (plan : Plan) where
 
   -- one widget more needs its bytes more
   pub needed-more : (n : ℕ) → needed_by plan (n + 1) ≡ needed_by plan n + bytes n
-  needed-more n = ap (λ (ids : List ℕ). sum (map bytes ids)) (ids-more n) ∙ ap sum (map-append bytes (range_with_len 0 n) (n ∷ [])) ∙ sum-pushed (map bytes (range_with_len 0 n)) (bytes n)
+  needed-more n = ap (λ (ids : List ℕ). sum (map bytes ids)) (ids-more n) ∙ ap sum (map-append bytes (range_with_len 0 n) (n ∷ [])) ∙ sum_by_push (λ m. m) (map bytes (range_with_len 0 n)) (bytes n)
 
   needed-next : (n : ℕ) → needed_by plan (suc n) ≡ needed_by plan n + bytes n
   needed-next n = let e : suc n ≡ n + 1 = omega arith in ap (needed_by plan) e ∙ needed-more n
 
-  pub needed-whole : (n : ℕ) → needed_by plan n % 16 ≡ 0
+  needed-whole : (n : ℕ) → needed_by plan n % 16 ≡ 0
   needed-whole zero = refl
   needed-whole (suc n) = let rest = needed-whole n in let whole = rounded-whole (stated_bytes plan n) in let next = needed-next n in omega (arith, rest, whole, next)
 
@@ -84,93 +82,105 @@ module _ (plan : Plan) where
       let e : needed_by plan (n + suc k) ≡ needed_by plan (n + k) + bytes (n + k) = (let f : n + suc k ≡ n + k + 1 = omega arith in ap (needed_by plan) f ∙ needed-more (n + k)) in
       omega (arith, e, needed-rises n k)
 
--- ---- nothing moves
+  -- ---- pieces
 
-streams-idle : (comps : List Comp) → list_any (λ s. is_live_phase s.phase) (streams_by comps) ≡ false
-streams-idle comps = idle (filter_map host_of comps)
-  where
-    idle : (hs : List (ℕ × Bool)) → list_any (λ s. is_live_phase s.phase) (map (λ h. idle_view h.0) hs) ≡ false
-    idle [] = refl
-    idle (h ∷ hs) = idle hs
+  -- the heap once the ids below n have their pieces
+  abbrev pub heap_by : ℕ → ℕ → HeapView
+  heap_by heap n = with_pieces plan (range_with_len 0 n) (fresh heap).heap
 
-module _ (plan : Plan) (heap : ℕ) (s : IsSound plan) where
-  pub made-still : (n : ℕ) → IsStill (made_by plan heap n)
-  unfolding IsDistinct
-  made-still n = record {
-    silent = ap not (streams-idle (comps_below plan n));
-    rings = subst (IsDistinct (λ (a b : ℕ). a == b)) (sym (map-twice (λ (r : RingView). r.buffer) empty_ring (λ (e : Edge). e.buffer) (edges_below plan n) (all-of (λ (e : Edge). e.buffer ≡ e.buffer) (λ (e : Edge). refl) (edges_below plan n)))) (below-distinct (λ (e : Edge). e.buffer) n plan.graph.edges s.edges_ascend);
-    histories = tt;
-  }
+  pieces-more : (ids : List ℕ) (n : ℕ) (h : HeapView) → with_pieces plan (ids ++ n ∷ []) h ≡ heap_with_piece n (stated_bytes plan n) (with_pieces plan ids h)
+  pieces-more [] n h = refl
+  pieces-more (id ∷ ids) n h = pieces-more ids n (heap_with_piece id (stated_bytes plan id) h)
 
-  make-message : (n : ℕ) → n < length plan.widgets → IsMessage (act_message plan (Make n))
-  make-message n within = ⊎_elim
-      (λ x. subst IsMessage (sym (message-comp plan heap s n x)) (is_comp_message plan s n within x))
-      (λ rest. ⊎_elim
-      (λ x. subst IsMessage (sym (message-buffer plan heap s n x)) (is_buffer_message plan s n within x))
-      (λ x. subst IsMessage (sym (message-pipe plan heap s n x)) (is_pipe_message plan s n within x))
-      rest)
-      (names-of plan heap s n within)
+  heap-more : (heap n : ℕ) → heap_with_piece n (stated_bytes plan n) (heap_by heap n) ≡ heap_by heap (n + 1)
+  heap-more heap n = sym (ap (λ ids. with_pieces plan ids (fresh heap).heap) (ids-more n) ∙ pieces-more (range_with_len 0 n) n (fresh heap).heap)
 
-  -- ---- one after the other
+  -- ---- refusals
 
-  -- the holes once the ids below n have their pieces
-  abbrev IsCarved : ℕ → Type 0
-  IsCarved n = (heap_by plan heap n).holes ≡ left (needed_by plan n) (usable_of heap)
+  -- what the firmware itself refuses by its holes: a widget that none holds, and no other act that makes pipelines
+  abbrev pub own_at : FwState → Act → Option Errno
+  own_at f (Make id) = cond (fits (bytes id) f.heap.holes) None (Some (errno no_memory))
+  own_at f act = None
 
-  module _ (kept : Record) where
-    follows-at : (n : ℕ) → n < length plan.widgets → IsCarved n → needed_by plan n ≤ usable_of heap → Follows plan heap kept (made_by plan heap n) (Make n)
-    follows-at n within holes room =
-        let bound : needed_by plan (n + 1) ≤ needed_by plan (length plan.widgets) = (let k : n + 1 + (length plan.widgets - (n + 1)) ≡ length plan.widgets = omega arith in subst (λ (m : ℕ). needed_by plan (n + 1) ≤ needed_by plan m) k (needed-rises plan (n + 1) (length plan.widgets - (n + 1)))) in
-        make_follows plan heap (needed_by plan n) (bytes plan n) (needed_by plan (n + 1)) (needed-whole plan (n + 1)) (bytes-are plan n) (needed-more plan n) room kept (made_by plan heap n) (Make n) tt (made-still n) (make-message n within) holes bound refl (row-make plan heap s n within)
+  module _ (heap : ℕ) where
+    -- the holes once those before an id are carved
+    carved-to : (id : ℕ) → needed_by plan id ≤ usable_of heap → (heap_by heap id).holes ≡ left (needed_by plan id) (usable_of heap)
+    carved-to zero within = fresh-left (usable_of heap)
+    carved-to (suc id) within =
+        let one : suc id ≡ id + 1 = omega arith in
+        let more = needed-more id in
+        let room : needed_by plan (id + 1) ≤ usable_of heap = subst (λ (n : ℕ). needed_by plan n ≤ usable_of heap) one within in
+        let before : needed_by plan id ≤ usable_of heap = omega (arith, room, more) in
+        ap (λ (n : ℕ). (heap_by heap n).holes) one
+        ∙ ap (λ (h : HeapView). h.holes) (sym (heap-more heap id))
+        ∙ ap (carved (bytes id)) (carved-to id before)
+        ∙ carved-left (bytes id) (needed_by plan id) (usable_of heap) (bytes-are id) (omega (arith, room, more))
+        ∙ ap (λ (n : ℕ). left n (usable_of heap)) (sym more ∙ ap (needed_by plan) (sym one))
 
-    -- the widgets from n on
-    follow-from : (k n : ℕ) → n + k ≡ length plan.widgets → IsCarved n → needed_by plan n ≤ usable_of heap → FollowAll plan heap kept (made_by plan heap n) (map Make (range_with_len n k))
-    follow-from zero n all holes room = tt
-    follow-from (suc k) n all holes room =
-        let within : n < length plan.widgets = omega arith in (
-          follows-at n within holes room,
-          λ free.
-              (let next : needed_by plan (n + 1) ≤ usable_of heap = (let fits = room_for plan heap (needed_by plan n) (bytes plan n) (needed_by plan (n + 1)) (needed-whole plan (n + 1)) (bytes-are plan n) (needed-more plan n) room free in let more = needed-more plan n in omega (arith, fits, more)) in
-              let carved : IsCarved (n + 1) = ap (λ (h : HeapView). h.holes) (sym (heap-more plan heap n)) ∙ carved_then plan heap (needed_by plan n) (bytes plan n) (needed_by plan (n + 1)) (needed-whole plan (n + 1)) (bytes-are plan n) (needed-more plan n) room (heap_by plan heap n).holes holes free in
-              subst (λ (g : FwState). FollowAll plan heap kept g (map Make (range_with_len (n + 1) k))) (sym (effect-next plan heap s n within)) (follow-from k (n + 1) (omega arith) carved next)),
-        )
+    -- both tests are one
+    refusal-one : (kept : Record) (f : FwState) (id : ℕ) → needed_by plan id ≤ usable_of heap → f.heap ≡ heap_by heap id → own plan heap kept (Make id) ≡ own_at f (Make id)
+    refusal-one kept f id within is = by (ltb heap (needed_by plan (id + 1))) refl ∙ ap (λ (b : Bool). cond b None (Some (errno no_memory))) (sym fits-is)
+      where
+        total : ℕ
+        total = needed_by plan id + bytes id
 
-    -- a fresh firmware follows the acts that make all widgets
-    pub makes-follow : FollowAll plan heap kept (fresh heap) (map Make (widget_ids plan))
-    makes-follow = subst (λ (g : FwState). FollowAll plan heap kept g (map Make (widget_ids plan))) (sym (made-first plan heap)) (follow-from (length plan.widgets) 0 (omega arith) (fresh-left (usable_of heap)) (omega arith))
+        fits-is : fits (bytes id) f.heap.holes ≡ leb total (usable_of heap)
+        fits-is = ap (λ (h : HeapView). fits (bytes id) h.holes) is ∙ ap (fits (bytes id)) (carved-to id within) ∙ fits-left (bytes id) (needed_by plan id) (usable_of heap) (bytes-are id) within
 
-    free-from : (k n : ℕ) → needed_by plan n ≤ heap → AllFree plan heap kept (map Make (range_with_len n k)) → needed_by plan (n + k) ≤ heap
-    free-from zero n fits free = let e : n + 0 ≡ n = omega arith in subst (λ (m : ℕ). needed_by plan m ≤ heap) (sym e) fits
-    free-from (suc k) n fits free =
-        let next = ltb-false heap (needed_by plan (n + 1)) (refusal-none (ltb heap (needed_by plan (n + 1))) free.0) in
-        let e : n + 1 + k ≡ n + suc k = omega arith in
-        subst (λ (m : ℕ). needed_by plan m ≤ heap) e (free-from k (n + 1) next free.1)
+        by : (b : Bool) → ltb heap (needed_by plan (id + 1)) ≡ b → ◌≡◌ {A = Option Errno} (cond b (Some (errno no_memory)) None) (cond (leb total (usable_of heap)) None (Some (errno no_memory)))
+        by true is = ap (λ (b : Bool). cond b None (Some (errno no_memory))) (sym (lt-leb total (usable_of heap) (let over = ltb-true heap (needed_by plan (id + 1)) is in omega (arith, over, needed-more id))))
+        by false is = ap (λ (b : Bool). cond b None (Some (errno no_memory))) (sym (le-leb total (usable_of heap) (let under = ltb-false heap (needed_by plan (id + 1)) is in omega (arith, under, needed-more id, needed-whole (id + 1)))))
 
-    -- where none is refused, all fit
-    pub makes-fit : AllFree plan heap kept (map Make (widget_ids plan)) → Fits plan heap
-    makes-fit free = let e : 0 + length plan.widgets ≡ length plan.widgets = omega arith in subst (λ (m : ℕ). needed_by plan m ≤ heap) e (free-from (length plan.widgets) 0 (omega arith) free)
+    refused-where : (b : Bool) → ◌≡◌ {A = Option Errno} (cond b (Some (errno no_memory)) None) None → b ≡ false
+    refused-where true is = absurd (cc is)
+    refused-where false is = refl
 
-  state-from : (k n : ℕ) → n + k ≡ length plan.widgets → effects plan (map Make (range_with_len n k)) (made_by plan heap n) ≡ made_by plan heap (length plan.widgets)
-  state-from zero n all = let e : n ≡ length plan.widgets = omega arith in ap (made_by plan heap) e
-  state-from (suc k) n all = let within : n < length plan.widgets = omega arith in ap (effects plan (map Make (range_with_len (n + 1) k))) (effect-next plan heap s n within) ∙ state-from k (n + 1) (omega arith)
+    refused-with : (b : Bool) (e : Errno) → ◌≡◌ {A = Option Errno} (cond b (Some (errno no_memory)) None) (Some e) → (b ≡ true) × (e ≡ errno no_memory)
+    refused-with true e is = (refl, cc is)
+    refused-with false e is = absurd (cc is)
 
-  -- what they leave
-  pub makes-state : effects plan (map Make (widget_ids plan)) (fresh heap) ≡ made_state plan heap
-  makes-state = ap (effects plan (map Make (widget_ids plan))) (made-first plan heap) ∙ state-from (length plan.widgets) 0 (omega arith) ∙ made-last plan heap s
+    -- up to a widget that is not refused the sizes fit
+    pub room-for : (kept : Record) (id : ℕ) → own plan heap kept (Make id) ≡ None → needed_by plan (id + 1) ≤ usable_of heap
+    room-for kept id free = let under = ltb-false heap (needed_by plan (id + 1)) (refused-where (ltb heap (needed_by plan (id + 1))) free) in omega (arith, under, needed-whole (id + 1))
 
--- ---- with what comes after
+    -- and where one is refused, not all of them do
+    pub refused-number : (kept : Record) (id : ℕ) → id < length plan.widgets → (e : Errno) → own plan heap kept (Make id) ≡ Some e → (e ≡ errno no_memory) × (heap < needed_by plan (length plan.widgets))
+    refused-number kept id low e refused =
+        let is = refused-with (ltb heap (needed_by plan (id + 1))) e refused in
+        let k : id + 1 + (length plan.widgets - (id + 1)) ≡ length plan.widgets = omega arith in
+        let bound : needed_by plan (id + 1) ≤ needed_by plan (length plan.widgets) = subst (λ (m : ℕ). needed_by plan (id + 1) ≤ needed_by plan m) k (needed-rises (id + 1) (length plan.widgets - (id + 1))) in
+        (is.1, omega (arith, ltb-true heap (needed_by plan (id + 1)) is.0, bound))
 
-free-first : (plan : Plan) (heap : ℕ) (kept : Record) (xs ys : List Act) → AllFree plan heap kept (xs ++ ys) → AllFree plan heap kept xs
-free-first plan heap kept [] ys free = tt
-free-first plan heap kept (x ∷ xs) ys free = (free.0, free-first plan heap kept xs ys free.1)
+    -- where none of them is refused, all of them fit
+    pub free-fits : (kept : Record) (k n : ℕ) (rest : List Act) → n + k ≡ length plan.widgets → needed_by plan n ≤ heap → AllFree plan heap kept (map Make (range_with_len n k) ++ rest) → Fits plan heap
+    free-fits kept zero n rest all fits free = let e : n ≡ length plan.widgets = omega (arith, all) in subst (λ (m : ℕ). needed_by plan m ≤ heap) e fits
+    free-fits kept (suc k) n rest all fits free =
+        free-fits kept k (n + 1) rest (omega (arith, all)) (ltb-false heap (needed_by plan (n + 1)) (refused-where (ltb heap (needed_by plan (n + 1))) free.0)) free.1
 
--- a plan is brought up where what comes after the widgets leads from these to the whole
-pub brings-by : (plan : Plan) (heap : ℕ) (kept : Record) → IsSound plan → (rest : List Act) → bring_up plan kept ≡ map Make (widget_ids plan) ++ rest → Goes plan heap kept (made_state plan heap) rest (state_by plan kept heap 0) → Brings plan heap kept
-brings-by plan heap kept s rest is goes =
-    let made = makes-state plan heap s in
-    record {
-      follow = subst (FollowAll plan heap kept (fresh heap)) (sym is)
-          (follow-append plan heap kept (map Make (widget_ids plan)) rest (fresh heap) (makes-follow plan heap s kept) (λ free. subst (λ (g : FwState). FollowAll plan heap kept g rest) (sym made) goes.follow));
-      fits = λ free. makes-fit plan heap s kept (free-first plan heap kept (map Make (widget_ids plan)) rest (subst (AllFree plan heap kept) is free));
-      state = ap (λ (acts : List Act). effects plan acts (fresh heap)) is ∙ effects-append plan heap kept (map Make (widget_ids plan)) rest (fresh heap) ∙ ap (effects plan rest) made ∙ goes.state;
-    }
+    -- ---- while all widgets are made by id, the firmware refuses what the sizes tell, and then the heap is that of the plan
+
+    module _ (sound : IsSound plan) (kept : Record) where
+      -- a widget that is made has its piece
+      make-heap : (id : ℕ) → id < length plan.widgets → (f : FwState) → (effect (act_message plan (Make id)) f).heap ≡ heap_with_piece id (stated_bytes plan id) f.heap
+      make-heap id low f = by (named-at plan sound id low)
+        where
+          Has : Message → Type 0
+          Has m = (effect m f).heap ≡ heap_with_piece id (stated_bytes plan id) f.heap
+
+          by : Names plan.graph id (widget_words plan id) → Has (act_message plan (Make id))
+          by (inl x) = subst Has (sym (message-comp plan 0 sound id x)) (ap (λ (b : ℕ). heap_with_piece id b f.heap) (ap comp_bytes (kind-read x.comp.kind (control_of plan id) (widget_words plan id) x.is.format) ∙ sym (bytes-comp plan 0 sound id x)))
+          by (inr (inl x)) = subst Has (sym (message-buffer plan 0 sound id x)) (ap (λ (b : ℕ). heap_with_piece id b f.heap) (sym (bytes-buffer plan 0 sound id x)))
+          by (inr (inr x)) = subst Has (sym (message-pipe plan 0 sound id x)) (ap (λ (b : ℕ). heap_with_piece id b f.heap) (sym (bytes-pipe plan 0 sound id x)))
+
+      -- as long as none is refused, each is refused by the holes where it is by the sizes
+      abbrev pub AreOwn : FwState → List Act → Type 0
+      AreOwn f [] = f.heap ≡ loaded_heap plan heap
+      AreOwn f (act ∷ acts) = (own plan heap kept act ≡ own_at f act) × (own plan heap kept act ≡ None → AreOwn (effect (act_message plan act) f) acts)
+
+      pub makes-own : (k n : ℕ) (f : FwState) → n + k ≡ length plan.widgets → f.heap ≡ heap_by heap n → needed_by plan n ≤ usable_of heap → (rest : List Act) → ((g : FwState) → g.heap ≡ loaded_heap plan heap → AreOwn g rest) → AreOwn f (map Make (range_with_len n k) ++ rest)
+      makes-own zero n f all is room rest then = then f (is ∙ ap (heap_by heap) (let e : n ≡ length plan.widgets = omega (arith, all) in e))
+      makes-own (suc k) n f all is room rest then = (
+        refusal-one kept f n room is,
+        λ free. makes-own k (n + 1) (effect (act_message plan (Make n)) f) (omega (arith, all))
+            (make-heap n (omega (arith, all)) f ∙ ap (heap_with_piece n (stated_bytes plan n)) is ∙ heap-more heap n) (room-for kept n free) rest then,
+      )

@@ -6,8 +6,6 @@ use Rattle.sof_base.specs.Ports.{Io}
 use Rattle.stream_law.specs.State.{FwState}
 use Rattle.ipc3_model.specs.declared.reply.Reply.{Reply}
 use Rattle.ipc3_model.specs.Messages.{message_spelling, decoded}
-use Rattle.mbox_link.specs.declared.fates.Fate.{Fate}
-use Rattle.mbox_link.specs.declared.fates.Fate.TheVariants.{Pass, Refuse, Drop, Lose}
 use Rattle.mbox_link.specs.Meetings.{Meeting}
 use Rattle.mbox_link.specs.Step.{fresh, row, body_of}
 use Rattle.mbox_link.specs.Exchange.{ticks}
@@ -32,19 +30,12 @@ use Rattle.host_widgets.proofs.SilentTicks.{at, AreInputs, ticks-still}
 use Rattle.host_widgets.proofs.Effects.{effect, effects, effect-at, Follows, FollowAll, verdict-done, row-decoded}
 use Rattle.host_widgets.proofs.ActsCome.{answer_by, act-did}
 use Rattle.host_widgets.proofs.BuildingActs.{Leaves, ends-at, walk-leaves}
+use Rattle.host_widgets.proofs.UpWalks.{passed-free}
 
 -- none of these acts is refused by the firmware itself
 abbrev pub AllFree : Plan → ℕ → Record → List Act → Type 0
 AllFree plan heap kept [] = Unit {0}
 AllFree plan heap kept (act ∷ acts) = (own plan heap kept act ≡ None) × AllFree plan heap kept acts
-
--- what passed was not refused
-pub passed-free : (fate : Fate) (refusal : Option Errno) → outcome_by fate refusal ≡ Ok tt → refusal ≡ None
-passed-free Pass None is = refl
-passed-free Pass (Some e) is = absurd (cc is)
-passed-free (Refuse n) refusal is = absurd (cc is)
-passed-free Drop refusal is = absurd (cc is)
-passed-free Lose refusal is = absurd (cc is)
 
 module _ {D : Type 0} (means : Meaning D) (plan : Plan) (heap : ℕ) (kept : Record) where
   -- ---- one act
@@ -111,6 +102,7 @@ module _ {D : Type 0} (means : Meaning D) (plan : Plan) (heap : ℕ) (kept : Rec
     pub came_so : result ≡ (walk (act_rules plan heap) false next_of kept meetings acts).outcome
     pub io : v.io ≡ w.io
     pub fewer : means.pending v.device ≤ means.pending w.device
+    pub free : result ≡ Ok tt → AllFree plan heap kept acts
     pub on : result ≡ Ok tt → means.on v.device ≡ Some (at (effects plan acts g) (t + (means.pending w.device - means.pending v.device)))
 
   pub follow-sent : (acts : List Act) (w v : World D) (g : FwState) (t : ℕ) (result : Outcome) → AllByRecursion (Leaves plan kept) acts → FollowAll plan heap kept g acts → AreInputs w.io.inputs → means.on w.device ≡ Some (at g t) → ActsSent means plan acts w v result → Followed acts w v g t result
@@ -122,6 +114,7 @@ module _ {D : Type 0} (means : Meaning D) (plan : Plan) (heap : ℕ) (kept : Rec
         came_so = sent.1;
         io = ap (λ (y : World D). y.io) sent.0;
         fewer = omega (arith, pending);
+        free = λ passed. tt;
         on = λ passed. ap (λ (y : World D). means.on y.device) sent.0 ∙ on ∙ ap (λ (n : ℕ). Some (at g n)) (let same : t ≡ t + (means.pending w.device - means.pending v.device) = omega (arith, pending) in same);
       }
   follow-sent (act ∷ acts) w v g t result all follow are on (mid, answer, x, more) =
@@ -150,6 +143,7 @@ module _ {D : Type 0} (means : Meaning D) (plan : Plan) (heap : ℕ) (kept : Rec
             came_so = subst (λ (o : Outcome). result ≡ outcome_from act acts it.0 r.meetings o) passed (subst (λ (now : Record). result ≡ (walk (act_rules plan heap) false next_of now r.meetings acts).outcome) (sym all.0) r.came_so);
             io = r.io ∙ io-stays;
             fewer = omega (arith, x.steady.pending, r.fewer);
+            free = λ done. (free, r.free done);
             on = λ done. r.on done ∙ ap (λ (n : ℕ). Some (at (effects plan acts (effect (act_message plan act) g)) n)) clock;
           }
       by (Err fault) is end go =
@@ -160,6 +154,7 @@ module _ {D : Type 0} (means : Meaning D) (plan : Plan) (heap : ℕ) (kept : Rec
             came_so = subst (λ (o : Outcome). result ≡ outcome_from act acts it.0 [] o) failed (subst (λ (b : Bool). result ≡ (followed_by act (came_by (act_rules plan heap) act kept (lag_of it.0) (Err fault)) [] b (walk (act_rules plan heap) false next_of kept [] acts)).outcome) (sym (ends-at fault)) end.1);
             io = ap (λ (y : World D). y.io) end.0 ∙ io-stays;
             fewer = omega (arith, x.steady.pending, ap (λ (y : World D). means.pending y.device) end.0);
+            free = λ done. absurd (let no : Err fault ≡ Ok tt = sym end.1 ∙ done in cc no);
             on = λ done. absurd (let no : Err fault ≡ Ok tt = sym end.1 ∙ done in cc no);
           }
 
@@ -169,7 +164,7 @@ module _ {D : Type 0} (means : Meaning D) (plan : Plan) (heap : ℕ) (kept : Rec
 pub record Brings (plan : Plan) (heap : ℕ) (kept : Record) : Type 0 where
   pub follow : FollowAll plan heap kept (fresh heap) (bring_up plan kept)
   pub fits : AllFree plan heap kept (bring_up plan kept) → Fits plan heap
-  pub state : effects plan (bring_up plan kept) (fresh heap) ≡ state_by plan kept heap 0
+  pub state : AllFree plan heap kept (bring_up plan kept) → effects plan (bring_up plan kept) (fresh heap) ≡ state_by plan kept heap 0
 
 module _ {D : Type 0} (means : Meaning D) (plan : Plan) (heap : ℕ) (kept : Record) (w v : World D) (brings : Brings plan heap kept) (leaves : AllByRecursion (Leaves plan kept) (bring_up plan kept)) (are : AreInputs w.io.inputs) (on : means.on w.device ≡ Some (fresh heap)) (result : Outcome) (sent : ActsSent means plan (bring_up plan kept) w v result) where
   followed : Followed means plan heap kept (bring_up plan kept) w v (fresh heap) 0 result
@@ -185,7 +180,7 @@ module _ {D : Type 0} (means : Meaning D) (plan : Plan) (heap : ℕ) (kept : Rec
   by (Ok done) is =
       let fall = means.pending w.device - means.pending v.device in
       let clock : 0 + fall ≡ fall = omega arith in
-      followed.on is ∙ ap (λ (n : ℕ). Some (at (effects plan (bring_up plan kept) (fresh heap)) n)) clock ∙ ap (λ (g : FwState). Some (at g fall)) brings.state
+      followed.on is ∙ ap (λ (n : ℕ). Some (at (effects plan (bring_up plan kept) (fresh heap)) n)) clock ∙ ap (λ (g : FwState). Some (at g fall)) (brings.state (followed.free is))
   by (Err fault) is = tt
 
   pub list-leaves : BroughtUp means plan heap kept w.device result v.device

@@ -18,7 +18,7 @@ use Rattle.host_widgets.specs.declared.kept.StreamRec.{StreamRec}
 use Rattle.host_widgets.specs.declared.kept.Record.{Record}
 use Rattle.host_widgets.specs.Host.{IsRecordOf, verdict}
 use Rattle.host_widgets.specs.Kept.{with_stream}
-use Rattle.host_widgets.specs.HostActs.{Act, Make, Join, Put, Part, Finish, Prepare, Trig, Free, Save, Ask, Unmake, after, fresh_in}
+use Rattle.host_widgets.specs.HostActs.{Act, Make, Join, Put, Part, after, fresh_in}
 use Rattle.host_widgets.specs.ActMessages.{act_message}
 use Rattle.host_widgets.specs.ViewOf.{record_view}
 use Rattle.host_widgets.specs.ActCalls.{came_to}
@@ -50,13 +50,7 @@ plain-asks (Make id) is f = tt
 plain-asks (Join source sink) is f = tt
 plain-asks (Put comp values) is f = tt
 plain-asks (Part comp blob k) is f = absurd is
-plain-asks (Finish id) is f = tt
-plain-asks (Prepare host params) is f = tt
-plain-asks (Trig host what) is f = tt
-plain-asks (Free host) is f = tt
-plain-asks Save is f = tt
-plain-asks (Ask comp k) is f = tt
-plain-asks (Unmake id) is f = tt
+plain-asks act is f = tt
 
 pub plain-ready : (plan : Plan) (goes_on : Bool) (acts : List Act) → AllByRecursion IsPlain acts → (f : FwState) → AreReady plan goes_on acts f
 plain-ready plan goes_on [] all f = tt

@@ -1,7 +1,5 @@
 -- One act alone as an order, and the room that it leaves.
-use Rattle.std.proofs.Common.{◌≡◌, ℕ, ◌*◌, [], ◌∷◌, Ok, Err, refl, sym, subst}
-use Rattle.sof_base.specs.Ports.{HasRoom}
-use Rattle.mbox_link.proofs.Rooms.{HasRoom-now}
+use Rattle.std.proofs.Common.{◌≡◌, ℕ, [], ◌∷◌, Ok, Err, refl, sym, subst}
 use Rattle.mbox_link.specs.Calls.{World, Meaning}
 use Rattle.tplg_plan.specs.declared.plans.Plan.{Plan}
 use Rattle.host_widgets.specs.declared.answers.Answer.{Answer}
@@ -30,9 +28,3 @@ module _ {D : Type 0} (means : Meaning D) (plan : Plan) (heap : ℕ) where
       by : (result : Outcome) → ActCarried means plan heap act kept kept' w v result → (result ≡ Ok tt → kept' ≡ done kept') → Carried means plan heap (plain (act ∷ []) done) kept kept' w v result
       by (Ok passed) x is = passes-alone means plan heap act done kept kept' w v x (is refl)
       by (Err fault) x is = ends-with means plan heap act [] done kept w fault kept' v x
-
-  -- an act leaves room for what is pending
-  pub act-room : (act : Act) (kept kept' : Record) (w v : World D) → ActCarried means plan heap act kept kept' w v (Ok tt) → HasRoom (61440 * means.pending w.device) w.io.outputs → HasRoom (61440 * means.pending v.device) v.io.outputs
-  act-room act kept kept' w v x room =
-      subst (λ (y : World D). HasRoom (61440 * means.pending y.device) y.io.outputs) (sym x.ends.1)
-      (HasRoom-now (61440 * means.pending w.device) (61440 * means.pending x.sent.device) w.io.outputs x.sent.io.outputs x.did.exchanged.room room)

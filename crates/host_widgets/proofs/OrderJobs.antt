@@ -1,17 +1,15 @@
 -- An order that is carried out is a job that is done.
-use Rattle.std.proofs.Common.{◌≡◌, ℕ, List, [], ◌++◌, Option, refl, sym, ap, ◌∙◌}
+use Rattle.std.proofs.Common.{◌≡◌, ℕ, List, [], ◌++◌, refl, sym, ap, ◌∙◌}
 use Rattle.std.proofs.lemmas.List.{append-nil}
 use Rattle.mbox_link.specs.Meetings.{Meeting}
 use Rattle.mbox_link.specs.Calls.{World, Meaning}
 use Rattle.tplg_plan.specs.declared.plans.Plan.{Plan}
-use Rattle.host_widgets.specs.declared.answers.HostFault.{HostFault}
 use Rattle.host_widgets.specs.declared.kept.Record.{Record}
 use Rattle.host_widgets.specs.Host.{Outcome}
 use Rattle.host_widgets.specs.OneAct.{act_rules}
 use Rattle.host_widgets.specs.ActCalls.{next_of}
 use Rattle.host_widgets.specs.Orders.{Procedure, Carried}
-use Rattle.host_widgets.specs.TestedOrders.{Tested}
-use Rattle.host_widgets.specs.Routines.{JobDone, JobTested, order_job, walk_routine}
+use Rattle.host_widgets.specs.Routines.{JobDone, order_job, walk_routine}
 
 module _ {D : Type 0} (means : Meaning D) (plan : Plan) (heap : ℕ) (o : Procedure) (kept kept' : Record) (w v : World D) (result : Outcome) where
   abbrev pub order-done : Carried means plan heap o kept kept' w v result → JobDone means (act_rules plan heap) heap (order_job plan kept o) kept' w v result
@@ -40,6 +38,3 @@ module _ {D : Type 0} (means : Meaning D) (plan : Plan) (heap : ℕ) (o : Proced
         came = j.came ∙ ap (λ (ms : List Meeting). (walk_routine (act_rules plan heap) next_of kept ms (order_job plan kept o).routine).outcome) same;
         ends = (j.left ∙ ap (λ (ms : List Meeting). (walk_routine (act_rules plan heap) next_of kept ms (order_job plan kept o).routine).kept) same, rest.1);
       }
-
-  pub order-tested : (test : Option HostFault) → Tested means plan heap test o kept kept' w v result → JobTested means (act_rules plan heap) heap test (order_job plan kept o) kept kept' w v result
-  order-tested test t = record { early = t.early; late = λ none. order-done (t.late none) }

@@ -9,7 +9,7 @@ use Rattle.sof_base.proofs.BlobTests.{tested-sound}
 use Rattle.mbox_link.specs.BlobParts.{payload, blob_part, is_last, parts}
 use Rattle.mbox_link.specs.Step.{bytes_left}
 
-none-told : (fault : Option BlobFault) → is_none fault ≡ true → fault ≡ None
+pub none-told : (fault : Option BlobFault) → is_none fault ≡ true → fault ≡ None
 none-told None is = refl
 none-told (Some f) is = absurd (cc is)
 

@@ -30,19 +30,6 @@ found-left {X} p q (y ∷ ys) x found is = by (p y) refl found (q y) refl (found
     by false at found true keep rest = ap (λ (b : Bool). cond b (Some y) (find p (filter q ys))) at ∙ rest found is
     by false at found false keep rest = rest found is
 
-pub none-left : {X : Type 0} (p q : X → Bool) (xs : List X) → find p xs ≡ None → find p (filter q xs) ≡ None
-none-left p q [] none = refl
-none-left {X} p q (y ∷ ys) none = by (p y) refl none (q y) (none-left p q ys)
-  where
-    by : (h : Bool) → p y ≡ h → cond h (Some y) (find p ys) ≡ None → (k : Bool) → (find p ys ≡ None → find p (filter q ys) ≡ None) → find p (cond k (y ∷ filter q ys) (filter q ys)) ≡ None
-    by true at none k rest = absurd (cc none)
-    by false at none true rest = ap (λ (b : Bool). cond b (Some y) (find p (filter q ys))) at ∙ rest none
-    by false at none false rest = rest none
-
--- what is found among what is left is what is found in the whole, and passes
-pub left-found : {X : Type 0} (p q : X → Bool) (xs : List X) (x : X) → find p (filter q xs) ≡ Some x → (q x ≡ true) × (p x ≡ true)
-left-found p q xs x found = let r = find-in p (filter q xs) x found in ((kept-in q xs x r.0).1, r.1)
-
 module _ (plan : Plan) (sound : IsSound plan) (up : List ℕ) where
   abbrev g : Graph
   g = plan.graph

@@ -6,7 +6,7 @@ use Rattle.mbox_link.specs.Calls.{World, Meaning, Led}
 use Rattle.tplg_plan.specs.declared.plans.Plan.{Plan}
 use Rattle.host_widgets.specs.declared.answers.Answer.TheVariants as answers
 use Rattle.host_widgets.specs.declared.answers.HostFault.{HostFault}
-use Rattle.host_widgets.specs.declared.answers.HostFault.TheVariants.{NotLoaded, Loaded, NoSuch, State, Off, Range, Refused, LinkDown, Blob}
+use Rattle.host_widgets.specs.declared.answers.HostFault.TheVariants.{NotLoaded}
 use Rattle.host_widgets.specs.declared.kept.Record.{Record}
 use Rattle.host_widgets.specs.HostActs.{Act, after}
 use Rattle.host_widgets.specs.Host.{Outcome}
@@ -15,34 +15,16 @@ use Rattle.host_widgets.specs.Walk.{Walked, walk, followed_by, goes_past}
 use Rattle.host_widgets.specs.ActCalls.{ActsDid, Onwards, next_of, calls_of}
 use Rattle.host_widgets.specs.Orders.{Procedure, Carried, Ends, Plain, plain_end}
 use Rattle.host_widgets.specs.ActCarried.{ActCarried}
+use Rattle.host_widgets.proofs.BuildingActs.{ends-at}
 
 -- acts alone, and this record once all passed
 abbrev pub plain : List Act → (Record → Record) → Procedure
 plain acts done = record { first = []; acts = acts; ending = Plain; done = done; answer = answers.Done }
 
--- nothing goes on after a fault
-pub ends-at : (fault : HostFault) → goes_past false (Err fault) ≡ false
-ends-at NotLoaded = refl
-ends-at Loaded = refl
-ends-at (NoSuch name) = refl
-ends-at (State found) = refl
-ends-at Off = refl
-ends-at (Range n) = refl
-ends-at (Refused e) = refl
-ends-at LinkDown = refl
-ends-at (Blob n) = refl
-
 -- what a fault leaves does not hang on what all would have left
 pub same-end : (done : Record → Record) (kept : Record) (fault : HostFault) → plain_end (λ now. now) kept (Err fault) ≡ plain_end done kept (Err fault)
 same-end done kept NotLoaded = refl
-same-end done kept Loaded = refl
-same-end done kept (NoSuch name) = refl
-same-end done kept (State found) = refl
-same-end done kept Off = refl
-same-end done kept (Range n) = refl
-same-end done kept (Refused e) = refl
-same-end done kept LinkDown = refl
-same-end done kept (Blob n) = refl
+same-end done kept fault = refl
 
 module _ {D : Type 0} (means : Meaning D) (plan : Plan) (heap : ℕ) where
   abbrev pub CarriedBy : List Act → (Record → Record) → Record → Record → World D → World D → Outcome → Type 0

@@ -1,6 +1,6 @@
 -- In the graph of a sound plan, whatever is set at its components, every way is ready, and the hosts of streams are there.
-use Rattle.std.proofs.Common.{◌≡◌, inl, inr, if◌then◌else◌, refl, sym, ap, ◌∙◌, ℕ, List, [], ◌∷◌, ◌++◌, map, length, Bool, true, false, not, ◌&&◌, ◌||◌, ◌==◌, is_some, Option, Some, None}
-use Rattle.std.specs.Option.{option_map, option_map_or}
+use Rattle.std.proofs.Common.{◌≡◌, inl, inr, if◌then◌else◌, refl, sym, ap, ◌∙◌, ℕ, List, [], ◌∷◌, map, length, Bool, true, false, not, ◌&&◌, ◌||◌, ◌==◌, is_some, Option, Some, None}
+use Rattle.std.specs.Option.{option_map}
 use Rattle.std.specs.List.{list_any, list_all, filter_map, cons_option, AllByRecursion}
 use Rattle.std.proofs.lemmas.Bool.{false≢true, and_from, and_parts, or_right, or_cases, eqb-true}
 use Rattle.stream_law.specs.declared.graph.Kind.{Kind}
@@ -9,7 +9,6 @@ use Rattle.stream_law.specs.declared.graph.Setting.{Setting}
 use Rattle.stream_law.specs.declared.graph.Comp.{Comp}
 use Rattle.stream_law.specs.declared.graph.Edge.{Edge}
 use Rattle.stream_law.specs.declared.graph.Graph.{Graph}
-use Rattle.stream_law.specs.declared.stream.StreamView.{StreamView}
 use Rattle.stream_law.specs.Ways.{comp_of, edge_of, ins, outs, on_way, is_capture, touch, is_complete}
 use Rattle.stream_law.specs.Joins.{fits_kind}
 use Rattle.stream_law.specs.Stays.{SameWays}

@@ -1,5 +1,5 @@
 -- The records that calls leave, over any plan.
-use Rattle.std.proofs.Common.{◌≡◌, ℕ, suc, Bool, true, false, not, List, [], ◌∷◌, ◌++◌, map, length, Option, Some, None, refl, sym, ap, subst, ◌∙◌}
+use Rattle.std.proofs.Common.{◌≡◌, ℕ, suc, Bool, true, false, not, List, [], ◌∷◌, map, length, Option, Some, None, refl, sym, ap, subst, ◌∙◌}
 use Rattle.std.specs.Prelude.{◌&&◌, ◌||◌, IsTrue}
 use Rattle.std.specs.List.{list_any, list_all, zip}
 use Rattle.std.proofs.lemmas.Bool.{and_parts}
@@ -134,11 +134,7 @@ down-record plan kept is = record {
 
 halted-rests : (found : Found) → is_live_phase (phase_of (halted_found found)) ≡ false
 halted-rests Closed = refl
-halted-rests Open = refl
-halted-rests Prepared = refl
-halted-rests Running = refl
-halted-rests Paused = refl
-halted-rests Found_On = refl
+halted-rests found = refl
 
 -- no stream runs or is paused
 pub down-rests : (rs : List StreamRec) → list_any (λ r. is_live_phase (phase_of r.found)) (map halted rs) ≡ false

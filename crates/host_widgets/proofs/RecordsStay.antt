@@ -68,11 +68,11 @@ or_true : (x : Bool) → (x || true) ≡ true
 or_true true = refl
 or_true false = refl
 
-none-left : (p : Option Params) → same_shape None p ≡ true
+pub none-left : (p : Option Params) → same_shape None p ≡ true
 none-left None = refl
 none-left (Some p) = refl
 
-none-right : (p : Option Params) → same_shape p None ≡ true
+pub none-right : (p : Option Params) → same_shape p None ≡ true
 none-right None = refl
 none-right (Some p) = refl
 

@@ -15,7 +15,7 @@ use Rattle.stream_law.specs.declared.graph.Pipe.{Pipe}
 use Rattle.stream_law.specs.declared.graph.Setting.{Setting}
 use Rattle.stream_law.specs.State.{FwState}
 use Rattle.ipc3_model.specs.declared.message.Message.{Message}
-use Rattle.ipc3_model.specs.declared.message.Message.TheVariants.{CompNew, CompFree, Connect, PipeNew, PipeFree, PipeComplete, BufferNew, BufferFree, CtxSave, SetValue, GetValue, SetData, GetData, PcmParams, PcmFree, TrigStart, TrigStop, TrigPause, TrigRelease}
+use Rattle.ipc3_model.specs.declared.message.Message.TheVariants.{PipeFree, PipeComplete, CtxSave, SetValue}
 use Rattle.ipc3_model.specs.declared.fault.CodecFault.{CodecFault}
 use Rattle.mbox_link.specs.Step.{error_reply, no_memory, busy, no_device, invalid, row, row_of, complete_pipe, free_pipe, value_set}
 
@@ -105,25 +105,11 @@ set_numbers f id None = is_invalid
 set_numbers f id (Some setting) = search numbers
 
 row_numbers : (f : FwState) (m : Message) → HasNumber (row f m)
-row_numbers f (CompNew id pipe periods_sink periods_source frame_fmt kind) = search numbers
-row_numbers f (BufferNew id pipe size caps) = search numbers
-row_numbers f (PipeNew id pipe sched period priority mips frames time_domain) = search numbers
-row_numbers f (Connect source sink) = search numbers
 row_numbers f (PipeComplete id) = search (numbers, complete_numbers)
-row_numbers f (PcmParams host direction params) = search numbers
-row_numbers f (PcmFree id) = search numbers
-row_numbers f (TrigStart id) = search numbers
-row_numbers f (TrigStop id) = search numbers
-row_numbers f (TrigPause id) = search numbers
-row_numbers f (TrigRelease id) = search numbers
 row_numbers f CtxSave = passes f
-row_numbers f (CompFree id) = search numbers
 row_numbers f (PipeFree id) = search (numbers, free_numbers)
-row_numbers f (BufferFree id) = search numbers
 row_numbers f (SetValue id command values) = search (numbers, set_numbers)
-row_numbers f (GetValue id command) = search numbers
-row_numbers f (SetData id part) = search numbers
-row_numbers f (GetData id index) = search numbers
+row_numbers f m = search numbers
 
 -- every refusal of the firmware is an error number
 pub row_of_numbers : (f : FwState) (r : Result Message CodecFault) → IfErr (row_of f r) IsErrorNumber

@@ -2,9 +2,9 @@
 -- has the edges of its kind.
 use Rattle.std.proofs.Common.{◌≡◌, refl, sym, ap, subst, ◌∙◌, ℕ, zero, suc, Bool, true, false, cond, ◌||◌, ◌==◌, List, [], ◌∷◌, length, Option, Some, None}
 use Rattle.std.specs.Prelude.{find}
-use Rattle.std.specs.List.{list_any, list_all}
+use Rattle.std.specs.List.{list_any}
 use Rattle.std.specs.Option.{option_map, option_map_or, option_and_then}
-use Rattle.std.proofs.lemmas.Bool.{true≢false, false≢true, and_parts, eqb-true}
+use Rattle.std.proofs.lemmas.Bool.{true≢false, false≢true, eqb-true}
 use Rattle.stream_law.specs.declared.graph.Comp.{Comp}
 use Rattle.stream_law.specs.declared.graph.Edge.{Edge}
 use Rattle.stream_law.specs.declared.graph.Graph.{Graph}
@@ -26,6 +26,7 @@ use Rattle.host_widgets.specs.declared.kept.Record.{Record}
 use Rattle.host_widgets.specs.Kept.{control_at}
 use Rattle.host_widgets.specs.ViewOf.{record_setting, graph_by}
 use Rattle.host_widgets.proofs.Joined.{side-source, side-sink}
+use Rattle.host_widgets.proofs.JoinRows.{list_all-found}
 use Rattle.host_widgets.proofs.LookedUp.{all-found, any-found, some-counted}
 use Rattle.host_widgets.proofs.NamedIds.{buffer-found}
 use Rattle.host_widgets.proofs.ReadyWays.{set_by, set_as, comp-set, comps-set}
@@ -40,16 +41,6 @@ some-found {X} q (x ∷ xs) any none = by (q x) any none (some-found q xs)
     by : (b : Bool) → (b || list_any q xs) ≡ true → cond b (Some x) (find q xs) ≡ None → (list_any q xs ≡ true → find q xs ≡ None → ⊥) → ⊥
     by true any none rest = cc none
     by false any none rest = rest any none
-
--- what all pass, what is found passes
-all-pass : {X : Type 0} (p q : X → Bool) (xs : List X) (x : X) → list_all p xs ≡ true → find q xs ≡ Some x → p x ≡ true
-all-pass p q [] x all found = absurd (cc found)
-all-pass {X} p q (y ∷ ys) x all found =
-    let parts = and_parts (p y) (list_all p ys) all in by (q y) found parts.0 (all-pass p q ys x parts.1)
-  where
-    by : (b : Bool) → cond b (Some y) (find q ys) ≡ Some x → p y ≡ true → (find q ys ≡ Some x → p x ≡ true) → p x ≡ true
-    by true found here rest = let same : y ≡ x = cc found in ap p (sym same) ∙ here
-    by false found here rest = rest found
 
 module _ (plan : Plan) (sound : IsSound plan) (setting : Comp → Setting) where
   abbrev g : Graph
@@ -152,7 +143,7 @@ module _ (plan : Plan) (sound : IsSound plan) (setting : Comp → Setting) where
       by None gone = absurd (some-found (λ (x : Comp). x.id == c) plan.graph.comps (list_any-keys (λ (x : Comp). x.id) plan.graph.comps c ∙ ap (λ (ids : List ℕ). is_among ids c) (sym same-components) ∙ among) gone)
       by (Some x) there =
           let same : x.id ≡ c = eqb-true x.id c (find-in (λ (y : Comp). y.id == c) plan.graph.comps x there).1 in
-          let here = all-pass (λ (y : Comp). fits_kind y.kind (length (ins plan.graph y.id)) (length (outs plan.graph y.id))) (λ (y : Comp). y.id == c) plan.graph.comps x sound.fits there in
+          let here = list_all-found (λ (y : Comp). fits_kind y.kind (length (ins plan.graph y.id)) (length (outs plan.graph y.id))) (λ (y : Comp). y.id == c) plan.graph.comps x sound.fits there in
           subst (λ (id : ℕ). fits_kind x.kind (length (ins plan.graph id)) (length (outs plan.graph id)) ≡ true) same here
 
   pub set-plays : (streams : List StreamView) → IsPlayable (record { graph = g; streams = streams })

@@ -23,7 +23,7 @@ use Rattle.host_widgets.specs.Up.{is_join_at, buffer_joins}
 use Rattle.host_widgets.proofs.Needs.{in-flat, among-in}
 use Rattle.host_widgets.proofs.Between.{IsBetween, EndsIn, join-into, join-outof, fills-index, drains-index}
 use Rattle.host_widgets.proofs.PartsBetween.{found-left}
-use Rattle.host_widgets.proofs.UpStages.{Stage, index_of_id, is_join_of, stage_graph, comps_left, edges_left, IsAmid}
+use Rattle.host_widgets.proofs.UpStages.{Stage, index_of_id, is_join_of, stage_graph, comps_left, edges_left, HasUp, IsAmid}
 use Rattle.host_widgets.specs.Indices.{join_index}
 
 -- what a map of an option comes to
@@ -150,29 +150,34 @@ module _ (plan : Plan) (sound : IsSound plan) where
 
   -- ---- between
 
-  module _ (kept : Record) (up n : List ℕ) (st : Stage) (amid : IsAmid plan up n st) where
-    whole-joins : (j : Join) → IsIn j st.joins → IsIn j g.joins
-    whole-joins j there = (amid.joins j there).0
-
-    -- a join of what is up is there
-    pub up-joined : (j : Join) (i : ℕ) → IsIn j g.joins → join_index g j ≡ Some i → is_among up i ≡ true → IsIn j st.joins
-    up-joined j i there at in_up =
-        let listed : IsIn j (flat_map (buffer_joins g) up) = in-flat (buffer_joins g) up i j (among-in up i in_up)
-        (in-kept (is_join_at g i) g.joins j there (ap (λ (o : Option ℕ). option_map_or (λ m. m == i) o false) at ∙ eq-eqb i i refl)) in
-        (kept-in (is_join_of g up) st.joins j (subst (IsIn j) (sym amid.rest) listed)).0
-
-    pub stage-between : IsBetween g up (stage_graph plan kept st)
-    stage-between = record {
+  module _ (kept : Record) (up : List ℕ) (st : Stage) (over : HasUp plan up st) where
+    pub up-between : IsBetween g up (stage_graph plan kept st)
+    up-between = record {
       comp_whole = λ a c found. let r = at-comp kept st a c found in (r.0, r.1, ap (λ (x : Comp). x.kind) (sym r.3));
-      comp_up = λ a d found there. (comp_while plan kept st.todo d, comp-at kept st a d found (amid.there a (ap (is_among up) (comp-index a d found) ∙ there)), refl);
+      comp_up = λ a d found there. (comp_while plan kept st.todo d, comp-at kept st a d found (over.there a (ap (is_among up) (comp-index a d found) ∙ there)), refl);
       edge_whole = λ b e found. let r = at-edge kept st b e found in (
         r.0,
         r.1,
-        subst (λ (x : Edge). EndsIn x.source r.0.source) r.3 (source-in st.joins whole-joins b r.0 r.1),
-        subst (λ (x : Edge). EndsIn x.sink r.0.sink) r.3 (sink-in st.joins whole-joins b r.0 r.1),
+        subst (λ (x : Edge). EndsIn x.source r.0.source) r.3 (source-in st.joins over.whole b r.0 r.1),
+        subst (λ (x : Edge). EndsIn x.sink r.0.sink) r.3 (sink-in st.joins over.whole b r.0 r.1),
       );
-      edge_up = λ b f found there. edge-at kept st b f found (amid.there b (ap (is_among up) (edge-index b f found) ∙ there))
-          ∙ ap Some (edge-full st.joins whole-joins b f found (λ j here at. up-joined j f.pipe here at there));
-      join_whole = whole-joins;
-      join_up = up-joined;
+      edge_up = λ b f found there. edge-at kept st b f found (over.there b (ap (is_among up) (edge-index b f found) ∙ there))
+          ∙ ap Some (edge-full st.joins over.whole b f found (λ j here at. over.joined j f.pipe here at there));
+      join_whole = over.whole;
+      join_up = over.joined;
     }
+
+  module _ (up n : List ℕ) (st : Stage) (amid : IsAmid plan up n st) where
+    pub amid-has : HasUp plan up st
+    amid-has = record {
+      there = amid.there;
+      whole = λ j here. (amid.joins j here).0;
+      joined = λ j i here at in_up.
+          (let listed : IsIn j (flat_map (buffer_joins g) up) = in-flat (buffer_joins g) up i j (among-in up i in_up)
+          (in-kept (is_join_at g i) g.joins j here (ap (λ (o : Option ℕ). option_map_or (λ m. m == i) o false) at ∙ eq-eqb i i refl)) in
+          (kept-in (is_join_of g up) st.joins j (subst (IsIn j) (sym amid.rest) listed)).0);
+      done = amid.done;
+    }
+
+  pub stage-between : (kept : Record) (up n : List ℕ) (st : Stage) → IsAmid plan up n st → IsBetween g up (stage_graph plan kept st)
+  stage-between kept up n st amid = up-between kept up st (amid-has up n st amid)

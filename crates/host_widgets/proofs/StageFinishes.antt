@@ -15,13 +15,12 @@ use Rattle.ipc3_model.specs.declared.message.Message.TheVariants.{PipeComplete}
 use Rattle.tplg_plan.specs.declared.plans.Plan.{Plan}
 use Rattle.tplg_plan.specs.Sound.{IsSound, pipe_at}
 use Rattle.host_widgets.specs.declared.kept.Record.{Record}
-use Rattle.host_widgets.specs.HostActs.{Finish}
 use Rattle.host_widgets.proofs.Joined.{edge_with}
 use Rattle.host_widgets.proofs.LookedUp.{any-found, found-map, found-is, map-twice}
 use Rattle.host_widgets.proofs.PutsTaken.{comp_while}
-use Rattle.host_widgets.specs.There.{there_after, silent_state}
+use Rattle.host_widgets.specs.There.{silent_state}
 use Rattle.host_widgets.proofs.PartsBetween.{found-left}
-use Rattle.host_widgets.proofs.RowsTold.{told, left-told}
+use Rattle.host_widgets.proofs.RowsTold.{told}
 use Rattle.host_widgets.proofs.StageJoins.{has-comp, used-comp}
 use Rattle.host_widgets.proofs.UpStages.{Stage, pipe_as, comps_left, edges_left, pipes_left, stage_graph, stage_streams, at_stage}
 
@@ -78,6 +77,3 @@ module _ (plan : Plan) (sound : IsSound plan) (kept : Record) (st : Stage) (whol
         graph = record { comps = map (comp_while plan kept st.todo) (comps_left plan st); edges = map (edge_with st.joins) (edges_left plan st); pipes = map-twice (completed id) (pipe_as st.done) (pipe_as (with_done id st).done) (pipes_left plan st) (each (pipes_left plan st)) i; joins = st.joins };
         streams = stage_streams plan kept st;
       }))
-
-  pub finish-is : there_after plan (Finish id) (at_stage plan kept st h) ≡ at_stage plan kept (with_done id st) h
-  finish-is = left-told (at_stage plan kept st h) (row f (PipeComplete id)) (at_stage plan kept (with_done id st) h) finish-told

@@ -25,11 +25,11 @@ use Rattle.host_widgets.proofs.Joined.{edge_with, never-both}
 use Rattle.host_widgets.proofs.LookedUp.{any-found, found-map, found-is}
 use Rattle.host_widgets.proofs.NamedIds.{IsPipeline, component-found, buffer-found, pipeline-found, each-edge}
 use Rattle.host_widgets.proofs.PutsTaken.{comp_while}
-use Rattle.host_widgets.specs.There.{there_after, silent_state}
+use Rattle.host_widgets.specs.There.{silent_state}
 use Rattle.host_widgets.proofs.Between.{side-of}
 use Rattle.host_widgets.proofs.HostStreams.{pairs, no-stream}
 use Rattle.host_widgets.proofs.PartsBetween.{found-left}
-use Rattle.host_widgets.proofs.RowsTold.{told, left-told}
+use Rattle.host_widgets.proofs.RowsTold.{told}
 use Rattle.host_widgets.proofs.StageBetween.{comp-at, edge-at}
 use Rattle.host_widgets.proofs.StageJoins.{has-comp, has-edge, no-comp, used-comp, used-edge}
 use Rattle.host_widgets.proofs.StageMakes.{lost-each, none-passes}
@@ -182,9 +182,6 @@ module _ (plan : Plan) (sound : IsSound plan) (kept : Record) (st : Stage) (whol
             ∙ ap (free_pipe f id) now-pipe
             ∙ ap (λ (b : Bool). cond b (Err invalid) (Ok (without_pipe id f))) held
 
-    pub free-pipe-is : is_index_held k (stage_streams plan kept st) p.index ≡ false → there_after plan (Unmake id) (at_stage plan kept st h) ≡ at_stage plan kept after (without_piece id h)
-    free-pipe-is held = left-told (at_stage plan kept st h) (row f (act_message plan (Unmake id))) (at_stage plan kept after (without_piece id h)) (free-pipe-told held)
-
   -- ---- a buffer or a component, once its pipeline is gone
 
   module _ (index : ℕ) (named : index_of k id ≡ Some index) (gone : (p : Pipe) → IsIn p g.pipes → p.index ≡ index → st.has p.id ≡ true → ⊥) where
@@ -263,10 +260,6 @@ module _ (plan : Plan) (sound : IsSound plan) (kept : Record) (st : Stage) (whol
           taken : (a b c d s : Bool) → a ≡ true → b ≡ false → c ≡ true → d ≡ false → s ≡ true → cond (not a) (Err no_device) (cond b (Err busy) (cond (not c || d || not s) (Err invalid) (Ok (without_buffer id f)))) ≡ Ok (without_buffer id f)
           taken a b c d s is_a is_b is_c is_d is_s = rw (is_a, is_b, is_c, is_d, is_s) refl
 
-      pub free-buffer-is : is_held k (stage_streams plan kept st) id ≡ false → stays (view_of f) (without_edge id k) ≡ true →
-          there_after plan (Unmake id) (at_stage plan kept st h) ≡ at_stage plan kept after (without_piece id h)
-      free-buffer-is held stay = left-told (at_stage plan kept st h) (row f (act_message plan (Unmake id))) (at_stage plan kept after (without_piece id h)) (free-buffer-told held stay)
-
     -- ---- a component
 
     module _ (c : Comp) (found : comp_of g id ≡ Some c) (apart : (j : Join) → IsIn j js → touches id j ≡ false) where
@@ -300,9 +293,6 @@ module _ (plan : Plan) (sound : IsSound plan) (kept : Record) (st : Stage) (whol
 
           taken : (a b d t : Bool) → a ≡ true → b ≡ false → d ≡ true → t ≡ false → cond (not a) (Err no_device) (cond b (Err busy) (cond (not d || t) (Err invalid) (Ok (without_comp id f)))) ≡ Ok (without_comp id f)
           taken a b d t is_a is_b is_d is_t = rw (is_a, is_b, is_d, is_t) refl
-
-      pub free-comp-is : there_after plan (Unmake id) (at_stage plan kept st h) ≡ at_stage plan kept after (without_piece id h)
-      free-comp-is = left-told (at_stage plan kept st h) (row f (act_message plan (Unmake id))) (at_stage plan kept after (without_piece id h)) free-comp-told
 
   -- ---- the index of what an id names
 

@@ -20,18 +20,18 @@ use Rattle.mbox_link.specs.Step.{row, has_comp, has_edge, has_pipe, is_used, is_
 use Rattle.tplg_plan.specs.declared.plans.Plan.{Plan}
 use Rattle.tplg_plan.specs.Sound.{IsSound, IsSideOf, IsPassed, FillsBuffer, DrainsBuffer}
 use Rattle.host_widgets.specs.declared.kept.Record.{Record}
-use Rattle.host_widgets.specs.HostActs.{Join as Joining}
 use Rattle.host_widgets.proofs.Joined.{source_by, sink_by, edge_with, never-both}
-use Rattle.host_widgets.proofs.JoinRows.{connects, within-outs, within-ins, list_all-found, end-some, end-at}
+use Rattle.host_widgets.proofs.JoinRows.{connects, within-outs, within-ins, list_all-found, end-at}
 use Rattle.host_widgets.proofs.LookedUp.{all-found, any-found, any-lost, map-twice, filter-fewer}
 use Rattle.host_widgets.proofs.NamedIds.{component-found, buffer-found, each-edge}
 use Rattle.host_widgets.proofs.PutsTaken.{comp_while}
-use Rattle.host_widgets.specs.There.{there_after, silent_state}
+use Rattle.host_widgets.specs.There.{silent_state}
 use Rattle.host_widgets.proofs.Between.{found-member, side-of}
-use Rattle.host_widgets.proofs.RowsTold.{told, left-told}
+use Rattle.host_widgets.proofs.RowsTold.{told}
 use Rattle.host_widgets.proofs.StageBetween.{comp-at, edge-at, at-comp, at-edge, source-in, sink-in}
 use Rattle.host_widgets.proofs.Sublists.{filter-both, filter-map}
 use Rattle.host_widgets.proofs.UpStages.{Stage, pipe_as, edges_left, comps_left, pipes_left, stage_graph, stage_streams, at_stage}
+use Rattle.stream_law.proofs.OneSolution.{is_end-some}
 
 -- ---- one of a kind
 
@@ -241,7 +241,7 @@ module _ (plan : Plan) (sound : IsSound plan) (kept : Record) (st : Stage) (whol
             after b = is_end (source_of g b) j.source
 
             step : (b : ℕ) → (st.has b && before b) ≡ true → after b ≡ true
-            step b h = end-at (source_of g b) j.source (source-whole b j.source (end-some (source_of k b) j.source (and_parts (st.has b) (before b) h).1))
+            step b h = end-at (source_of g b) j.source (source-whole b j.source (is_end-some (source_of k b) j.source (and_parts (st.has b) (before b) h).1))
 
             some : list_any (λ (b : ℕ). not (st.has b && before b) && after b) (buffers g) ≡ true
             some = in-any (λ (b : ℕ). not (st.has b && before b) && after b) (buffers g) j.sink (found-member (λ (x : Edge). x.buffer) g.edges j.sink e edge)
@@ -289,7 +289,7 @@ module _ (plan : Plan) (sound : IsSound plan) (kept : Record) (st : Stage) (whol
             after b = is_end (sink_of g b) j.sink
 
             step : (b : ℕ) → (st.has b && before b) ≡ true → after b ≡ true
-            step b h = end-at (sink_of g b) j.sink (sink-whole b j.sink (end-some (sink_of k b) j.sink (and_parts (st.has b) (before b) h).1))
+            step b h = end-at (sink_of g b) j.sink (sink-whole b j.sink (is_end-some (sink_of k b) j.sink (and_parts (st.has b) (before b) h).1))
 
             some : list_any (λ (b : ℕ). not (st.has b && before b) && after b) (buffers g) ≡ true
             some = in-any (λ (b : ℕ). not (st.has b && before b) && after b) (buffers g) j.source (found-member (λ (x : Edge). x.buffer) g.edges j.source e edge)
@@ -324,7 +324,3 @@ module _ (plan : Plan) (sound : IsSound plan) (kept : Record) (st : Stage) (whol
       join-told h stay =
           ap told (connects (silent_state (at_stage plan kept st h)) j.source j.sink ready.source_used ready.sink_used ready.free ready.takes no-cycle stay)
           ∙ (λ i. Ok (record { heap = h; graph = graph-joined i; streams = stage_streams plan kept st }))
-
-      pub join-is : (h : HeapView) → would_stay (view_of (silent_state (at_stage plan kept st h))) j.source j.sink ≡ true →
-          there_after plan (Joining j.source j.sink) (at_stage plan kept st h) ≡ at_stage plan kept (with_joined j st) h
-      join-is h stay = left-told (at_stage plan kept st h) (row (silent_state (at_stage plan kept st h)) (Connect j.source j.sink)) (at_stage plan kept (with_joined j st) h) (join-told h stay)

@@ -39,8 +39,8 @@ use Rattle.host_widgets.proofs.MakeStates.{message-comp, message-buffer, message
 use Rattle.host_widgets.proofs.NamedIds.{named-at}
 use Rattle.host_widgets.proofs.PutsTaken.{setting_while, comp_while}
 use Rattle.host_widgets.proofs.StreamPlaces.{streams-ascend}
-use Rattle.host_widgets.specs.There.{There, there_in, there_after, silent_state}
-use Rattle.host_widgets.proofs.RowsTold.{told, left-told}
+use Rattle.host_widgets.specs.There.{There, there_in, silent_state}
+use Rattle.host_widgets.proofs.RowsTold.{told}
 use Rattle.host_widgets.proofs.HostStreams.{IsHostKind, stream-comp, comp-stream, no-stream, no-host}
 use Rattle.host_widgets.proofs.Sublists.{all-placed, placed-left, none-placed, range-ascends, range-found, distinct-one}
 use Rattle.host_widgets.proofs.StageStays.{from-map}
@@ -400,6 +400,3 @@ module _ (plan : Plan) (sound : IsSound plan) (kept : Record) (st : Stage) (h : 
         by (inl x) = subst IsMade (sym (message-comp plan 0 sound id x)) (make-comp x)
         by (inr (inl x)) = subst IsMade (sym (message-buffer plan 0 sound id x)) (make-buffer x)
         by (inr (inr x)) = subst IsMade (sym (message-pipe plan 0 sound id x)) (make-pipe x)
-
-    pub make-is : there_after plan (Make id) (at_stage plan kept st h) ≡ after
-    make-is = left-told (at_stage plan kept st h) (row f (act_message plan (Make id))) after make-told

@@ -39,7 +39,7 @@ use Rattle.host_widgets.proofs.Between.{IsBetween, same-bools, comp-named}
 use Rattle.host_widgets.proofs.BetweenTouches.{touch-stays}
 use Rattle.host_widgets.proofs.HostStreams.{IsHostKind, stream-comp}
 use Rattle.host_widgets.proofs.RowsTold.{told, left-told}
-use Rattle.host_widgets.proofs.StageBetween.{comp-index, comp-at, stage-between}
+use Rattle.host_widgets.proofs.StageBetween.{comp-index, amid-has, comp-at, up-between}
 use Rattle.host_widgets.proofs.StageJoins.{used-comp}
 use Rattle.host_widgets.proofs.StageMakes.{zip-ascends}
 use Rattle.host_widgets.proofs.StageReady.{way-ready, stage-apart}
@@ -47,7 +47,7 @@ use Rattle.host_widgets.proofs.StageStays.{streams-agree, from-map}
 use Rattle.host_widgets.proofs.StageStreams.{changed_one, other-stays, streams-changed, stream-at}
 use Rattle.host_widgets.proofs.Sublists.{filter-all}
 use Rattle.host_widgets.proofs.UpContext.{IsServing, join-at, ends-up}
-use Rattle.host_widgets.proofs.UpStages.{Stage, StreamPair, stage_graph, stage_streams, at_stage, index_of_id, is_join_of, up_stage, IsAmid}
+use Rattle.host_widgets.proofs.UpStages.{Stage, StreamPair, stage_graph, stage_streams, at_stage, index_of_id, is_join_of, up_stage, HasUp, IsAmid}
 use Rattle.host_widgets.specs.Indices.{index_at, join_index}
 
 -- ---- the stage at which all that is up is there
@@ -74,6 +74,9 @@ module _ (plan : Plan) (sound : IsSound plan) (up : List ℕ) where
     todo = λ p none. absurd none;
     done = λ id is. refl;
   }
+
+  pub up-has : HasBrought plan.graph (is_among up) → HasUp plan up (up_stage plan up)
+  up-has brought = amid-has plan sound up [] (up_stage plan up) (up-amid brought)
 
 -- ---- streams by their hosts
 
@@ -110,7 +113,7 @@ none-one p xs x none there = false_from_ne_true (p x) (λ is. true≢false (sym 
 -- ---- parameters at a stage
 
 -- All that the stream of this host needs is up, and each join is of what is up.
-module _ (plan : Plan) (sound : IsSound plan) (kept : Record) (up n : List ℕ) (st : Stage) (amid : IsAmid plan up n st) (placed : (j : Join) → IsIn j st.joins → (i : ℕ) × (join_index plan.graph j ≡ Some i) × (is_among up i ≡ true))
+module _ (plan : Plan) (sound : IsSound plan) (kept : Record) (up : List ℕ) (st : Stage) (over : HasUp plan up st) (placed : (j : Join) → IsIn j st.joins → (i : ℕ) × (join_index plan.graph j ≡ Some i) × (is_among up i ≡ true))
     (h : HeapView) (host : ℕ) (enough : IsEnough plan.graph host (is_among up)) (comp : Comp) (at_host : comp_of plan.graph host ≡ Some comp) (kind : IsHostKind comp.kind) (params : Params) where
   abbrev k : Graph
   k = stage_graph plan kept st
@@ -118,16 +121,13 @@ module _ (plan : Plan) (sound : IsSound plan) (kept : Record) (up n : List ℕ) 
   abbrev given : StreamView → StreamView
   given = set_stream host phases.Prepared (Some params)
 
-  whole-joins : (j : Join) → IsIn j st.joins → IsIn j plan.graph.joins
-  whole-joins j there = (amid.joins j there).0
-
   between : IsBetween plan.graph up (stage_graph plan kept st)
-  between = stage-between plan sound kept up n st amid
+  between = up-between plan sound kept up st over
 
   -- the host is there
   pub host-has : st.has host ≡ true
   host-has =
-      amid.there host (ap (is_among up) (comp-index plan sound host comp at_host)
+      over.there host (ap (is_among up) (comp-index plan sound host comp at_host)
       ∙ has-at (is_among up) (index_at plan.graph host) comp.pipe (comp-named plan sound up host comp at_host) (enough.way host (host-on plan.graph host)))
 
   -- the row, whatever streams are there: this one does not move, and its parameters are refused exactly where streams would not agree
@@ -142,7 +142,7 @@ module _ (plan : Plan) (sound : IsSound plan) (kept : Record) (up n : List ℕ) 
     they_agree = agree (record { graph = k; streams = map given ss })
 
     used : is_used k host ≡ true
-    used = used-comp plan sound kept st whole-joins host comp at_host host-has
+    used = used-comp plan sound kept st over.whole host comp at_host host-has
 
     side : has_kind (λ (x : Kind). goes x (direction_of plan host)) (kind_at k host) ≡ true
     side =
@@ -151,10 +151,10 @@ module _ (plan : Plan) (sound : IsSound plan) (kept : Record) (up n : List ℕ) 
         ∙ goes-host comp.kind kind
 
     ready : is_way_ready k host ≡ true
-    ready = way-ready plan sound kept up n st amid host enough comp at_host kind
+    ready = way-ready plan sound kept up st over host enough comp at_host kind
 
     apart : crosses k ≡ false
-    apart = stage-apart plan sound kept up n st amid enough.closed placed
+    apart = stage-apart plan sound kept up st over enough.closed placed
 
     pub params-row : pcm_params (silent_state (record { heap = h; graph = stage_graph plan kept st; streams = ss })) host (direction_of plan host) params ≡ (if not they_agree then Err invalid else Ok left)
     params-row = λ i. if not (used i) then Err no_device else if not (side i) || still i || not (rate i) || not (ready i) || apart i || not they_agree then Err invalid else Ok left
@@ -178,7 +178,7 @@ module _ (plan : Plan) (sound : IsSound plan) (kept : Record) (up n : List ℕ) 
     streams = stage_streams plan kept st
 
     shown : find (λ (s : StreamView). s.host == host) (stage_streams plan kept st) ≡ Some (stream_view p)
-    shown = stream-at plan sound kept st whole-joins h host p found host-has
+    shown = stream-at plan sound kept st over.whole h host p found host-has
 
     -- it touches others as in the whole, so it conflicts with the same
     one-same : (q : StreamPair) → IsIn q pairs → is_other k host params (stream_view q) ≡ conflicts plan host params q
@@ -196,7 +196,7 @@ module _ (plan : Plan) (sound : IsSound plan) (kept : Record) (up n : List ℕ) 
     has-held : (q : StreamPair) → IsIn q pairs → is_some q.1.params ≡ true → st.has q.0.host ≡ true
     has-held q there some =
         let c = stream-comp plan sound kept q there in
-        amid.there q.0.host (ap (is_among up) (comp-index plan sound q.0.host c.0 c.1)
+        over.there q.0.host (ap (is_among up) (comp-index plan sound q.0.host c.0 c.1)
         ∙ has-at (is_among up) (index_at plan.graph q.0.host) c.0.pipe (comp-named plan sound up q.0.host c.0 c.1) ((serving.held q there some).way q.0.host (host-on plan.graph q.0.host)))
 
     others-are : list_any (is_other k host params) streams ≡ list_any (conflicts plan host params) pairs

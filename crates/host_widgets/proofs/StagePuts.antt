@@ -1,5 +1,5 @@
 -- A firmware at a stage has one live control set, to what the record says.
-use Rattle.std.proofs.Common.{◌≡◌, refl, sym, ap, subst, ◌∙◌, ℕ, zero, suc, ◌+◌, ◌<◌, ◌≤◌, List, [], ◌∷◌, ◌++◌, map, length, get_or, Bool, true, false, not, cond, ◌==◌, ◌||◌, Option, Some, None, inl, inr, Ok, Err, arith}
+use Rattle.std.proofs.Common.{◌≡◌, refl, sym, ap, subst, ◌∙◌, ℕ, zero, suc, ◌+◌, ◌<◌, ◌≤◌, List, [], ◌∷◌, map, length, get_or, Bool, true, false, not, cond, ◌==◌, ◌||◌, Option, Some, None, inl, inr, Ok, Err, arith}
 use Rattle.std.specs.Prelude.{option_and_then}
 use Rattle.std.specs.List.{list_any, list_all, range_with_len, AllByRecursion}
 use Rattle.std.proofs.lemmas.Bool.{eq-eqb, and_from}
@@ -48,7 +48,7 @@ use Rattle.host_widgets.proofs.PartFacts.{few-parts, more-behind, none-behind}
 use Rattle.host_widgets.proofs.PartRows.{HasStaged, part-message, part-more, part-last, staged-then}
 use Rattle.host_widgets.proofs.PartsReady.{made-more}
 use Rattle.host_widgets.proofs.PutsTaken.{comp_while, setting_while, wanted, with_kind, volume-new, put-comp, kept-comp}
-use Rattle.host_widgets.specs.There.{There, there_in, there_after, silent_state, by_part}
+use Rattle.host_widgets.specs.There.{There, there_in, silent_state, by_part}
 use Rattle.host_widgets.specs.UpState.{UpState}
 use Rattle.host_widgets.proofs.RowsTold.{told, left-told}
 use Rattle.host_widgets.proofs.StageBetween.{comp-at}
@@ -56,8 +56,8 @@ use Rattle.host_widgets.proofs.StageJoins.{used-comp}
 use Rattle.host_widgets.proofs.UpStages.{Stage, pipe_as, comps_left, edges_left, pipes_left, stage_graph, stage_streams, at_stage}
 use Rattle.host_widgets.proofs.RowsThere.{IsNoPart}
 use Rattle.host_widgets.proofs.UpExchanges.{IsOwn, own-told}
-use Rattle.host_widgets.proofs.UpSending.{StagedFirst, AreAnswered}
-use Rattle.host_widgets.proofs.UpWalks.{Runs, with_there}
+use Rattle.host_widgets.proofs.LeadingOn.{LeadsTo}
+use Rattle.host_widgets.proofs.UpWalks.{with_there}
 
 -- these live controls are still to be set
 abbrev pub with_todo : List Pair → Stage → Stage
@@ -150,10 +150,6 @@ module _ (plan : Plan) (sound : IsSound plan) (kept : Record) (st : Stage) (whol
       by : (b : Bool) (o : Option Setting) → b ≡ true → o ≡ Some (wanted q r) → told (cond (not b) (Err no_device) (value_set f id o)) ≡ Ok (at_stage plan kept behind h)
       by b o used is = subst (λ (x : Bool × Option Setting). told (cond (not x.0) (Err no_device) (value_set f id x.1)) ≡ Ok (at_stage plan kept behind h)) (λ i. (sym used i, sym is i)) (end (is_of k is_volume id))
 
-  pub value-is : (sets : List ℕ) (command : ℕ) (values : List ℕ) → put_message id sets (Some (with_kind id q)) ≡ SetValue id command values → new_setting live.comp.kind begins_with command values ≡ Some (wanted q r) →
-      there_after plan (Put id sets) (at_stage plan kept before h) ≡ at_stage plan kept behind h
-  value-is sets command values is new = left-told (at_stage plan kept before h) (row f (act_message plan (Put id sets))) (at_stage plan kept behind h) (value-told sets command values is new)
-
 -- ---- by kinds of controls
 
 module _ (plan : Plan) (sound : IsSound plan) (s : UpState) (Mid : There → Type 0) (st : Stage) (whole : (j : Join) → IsIn j st.joins → IsIn j plan.graph.joins) (h : HeapView) where
@@ -169,117 +165,20 @@ module _ (plan : Plan) (sound : IsSound plan) (s : UpState) (Mid : There → Typ
     last = at_stage plan s.kept (with_todo ks st) h
 
     -- one message that sets it
-    one-runs : (q : ControlKind) → Mid (first q) → after plan (Put id r.values) s.kept ≡ s.kept → there_after plan (Put id r.values) (first q) ≡ last → Runs plan Mid (with_there plan s (first q)) ((Put id r.values) ∷ []) (IsTodo ks)
-    one-runs q mid leaves is = (mid, leaves, λ free. is)
+    one-leads : (q : ControlKind) → Mid (first q) → IsMessage (act_message plan (Put id r.values)) → IsNoPart (act_message plan (Put id r.values)) → after plan (Put id r.values) s.kept ≡ s.kept → told (row (silent_state (first q)) (act_message plan (Put id r.values))) ≡ Ok last →
+        LeadsTo plan Mid (with_there plan s (first q)) (Put id r.values ∷ []) (IsTodo ks)
+    one-leads q mid fits no_part leaves said = (
+      mid,
+      leaves,
+      fits,
+      λ f same staged. own-told plan (with_there plan s (first q)) (Put id r.values) no_part refl f same refl last said,
+      λ f g staged done. tt,
+      λ free. left-told (first q) (row (silent_state (first q)) (act_message plan (Put id r.values))) last said,
+    )
 
     -- a blob in its parts, of which the last puts it in force
     module _ (most : ℕ) (initial : List ℕ) (live : IsLive plan.graph (with_kind id (Blob most initial))) (there : control_of plan id ≡ Some (with_kind id (Blob most initial))) (set : control_at plan s.kept id ≡ Some (with_kind id (Blob most initial), r))
         (mid : Mid (first (Blob most initial))) (leaves : (k : ℕ) → after plan (Part id r.blob k) s.kept ≡ s.kept) where
-      abbrev begun : There
-      begun = first (Blob most initial)
-
-      in-force : by_part id r.blob true begun ≡ last
-      in-force = λ i. record { heap = h; graph = graph-set plan sound s.kept st whole h id (Blob most initial) r live there set ks apart has i; streams = stage_streams plan s.kept (with_todo ks st) }
-
-      module _ (is : is_blob r.blob ≡ true) where
-        parts-run : (n k : ℕ) → k + suc n ≡ parts r.blob → Runs plan Mid (with_there plan s begun) (map (Part id r.blob) (range_with_len k (suc n))) (IsTodo ks)
-        parts-run zero k all = (mid, leaves k, λ free. by (is_last r.blob k) refl)
-          where
-            low : k < parts r.blob
-            low = omega (arith, all)
-
-            by : (b : Bool) → is_last r.blob k ≡ b → by_part id r.blob (is_last r.blob k) begun ≡ last
-            by true e = ap (λ (b : Bool). by_part id r.blob b begun) e ∙ in-force
-            by false e = absurd (let more = (more-behind r.blob is k low e).0 in omega (arith, all, more))
-        parts-run (suc n) k all = (mid, leaves k, λ free. by (is_last r.blob k) refl (parts-run n (k + 1) (let rest : (k + 1) + suc n ≡ parts r.blob = omega (arith, all) in rest)))
-          where
-            low : k < parts r.blob
-            low = omega (arith, all)
-
-            Rest : There → Type 0
-            Rest t = Runs plan Mid (with_there plan s t) (map (Part id r.blob) (range_with_len (k + 1) (suc n))) (IsTodo ks)
-
-            by : (b : Bool) → is_last r.blob k ≡ b → Rest begun → Rest (by_part id r.blob (is_last r.blob k) begun)
-            by true e rest = absurd (let none = none-behind r.blob is k low e in omega (arith, all, none))
-            by false e rest = subst Rest (sym (ap (λ (b : Bool). by_part id r.blob b begun) e)) rest
-
-        all-parts : Runs plan Mid (with_there plan s begun) (part_acts id r.blob) (IsTodo ks)
-        all-parts = by (parts r.blob) refl (few-parts r.blob is).0
-          where
-            by : (n : ℕ) → parts r.blob ≡ n → 1 ≤ n → Runs plan Mid (with_there plan s begun) (map (Part id r.blob) (range_with_len 0 n)) (IsTodo ks)
-            by zero same some = absurd (omega (arith, some))
-            by (suc n) same some = parts-run n 0 (let all : 0 + suc n ≡ parts r.blob = omega (arith, same) in all)
-
-      -- none are sent of an empty one
-      blob-runs : is_initial r.blob ≡ true → Runs plan Mid (with_there plan s begun) (part_acts id r.blob) (IsTodo ks)
-      blob-runs ok = by r.blob refl ok
-        where
-          none : r.blob ≡ [] → begun ≡ last
-          none bare = λ i. record { heap = h; graph = graph-kept plan sound s.kept st whole h id (Blob most initial) r live there set ks apart has (λ w kind is. ap (λ (x : Kind). first_setting (component_words x (Some (with_kind id (Blob most initial))) w)) is.0 ∙ ap settings.Blob (sym bare)) i; streams = stage_streams plan s.kept (with_todo ks st) }
-
-          by : (bytes : List ℕ) → r.blob ≡ bytes → is_initial bytes ≡ true → Runs plan Mid (with_there plan s begun) (part_acts id r.blob) (IsTodo ks)
-          by [] e is = subst (λ (bytes : List ℕ). Runs plan Mid (with_there plan s begun) (part_acts id bytes) (IsTodo ks)) (sym e) (none e)
-          by (b ∷ bytes) e is = all-parts (ap is_blob e ∙ is)
-
-    -- whatever its kind
-    pub put-runs : (q : ControlKind) → IsLive plan.graph (with_kind id q) → control_of plan id ≡ Some (with_kind id q) → control_at plan s.kept id ≡ Some (with_kind id q, r) → Takes q r → Mid (first q) →
-        after plan (Put id r.values) s.kept ≡ s.kept → ((k : ℕ) → after plan (Part id r.blob k) s.kept ≡ s.kept) → Runs plan Mid (with_there plan s (first q)) (control_acts_by id q r) (IsTodo ks)
-    put-runs (Volume min max channels lowest step mute) live there set takes mid put part =
-        one-runs volume mid put (value-is plan sound s.kept st whole h id volume r live there set ks apart has r.values 0 gains refl new)
-      where
-        volume : ControlKind
-        volume = Volume min max channels lowest step mute
-
-        gains : List ℕ
-        gains = map (control_gain volume) r.values
-
-        long : length gains ≡ channels
-        long = length-map r.values (control_gain volume) ∙ takes
-
-        new : new_setting live.comp.kind (first_setting (component_words live.comp.kind (Some (with_kind id volume)) (widget_words plan live.comp.id))) 0 gains ≡ Some (settings.Gains gains)
-        new =
-            ap (λ (kind : Kind). new_setting kind (first_setting (component_words kind (Some (with_kind id volume)) (widget_words plan live.comp.id))) 0 gains) live.kind.0
-            ∙ volume-new (length (first_values volume)) gains (long ∙ sym (length-replicate channels (first_value volume))) (gains-are volume r.values)
-    put-runs (Choice items) live there set takes mid put part =
-        one-runs (Choice items) mid put (value-is plan sound s.kept st whole h id (Choice items) r live there set ks apart has r.values 1 r.values refl new)
-      where
-        new : new_setting live.comp.kind (first_setting (component_words live.comp.kind (Some (with_kind id (Choice items))) (widget_words plan live.comp.id))) 1 r.values ≡ Some (settings.Choice (get_or r.values 0 0))
-        new =
-            ap (λ (kind : Kind). new_setting kind (first_setting (component_words kind (Some (with_kind id (Choice items))) (widget_words plan live.comp.id))) 1 r.values) live.kind.0
-            ∙ subst (λ (vs : List ℕ). new_setting kinds.Mux (settings.Choice 0) 1 vs ≡ Some (settings.Choice (get_or vs 0 0))) (sym takes.1) refl
-    put-runs (Masks min max channels) live there set takes mid put part =
-        one-runs demux mid put (value-is plan sound s.kept st whole h id demux r live there set ks apart has r.values 2 masks refl new)
-      where
-        demux : ControlKind
-        demux = Masks min max channels
-
-        masks : List ℕ
-        masks = eight_masks r.values
-
-        new : new_setting live.comp.kind (first_setting (component_words live.comp.kind (Some (with_kind id demux)) (widget_words plan live.comp.id))) 2 masks ≡ Some (settings.Masks masks)
-        new =
-            ap (λ (kind : Kind). new_setting kind (first_setting (component_words kind (Some (with_kind id demux)) (widget_words plan live.comp.id))) 2 masks) live.kind.0
-            ∙ ap (λ (b : Bool). cond b (Some (settings.Masks masks)) None) (and_from (length masks == 8) (list_all is_mask masks) (eq-eqb (length masks) 8 (eight r.values)) (few-masks r.values takes))
-    put-runs (Blob most initial) live there set takes mid put part = blob-runs most initial live there set mid part takes
-
-    -- ---- what the firmware answers
-
-    -- it answers a message as the rules say, and so those after it
-    one-asked : (q : ControlKind) → IsMessage (act_message plan (Put id r.values)) → IsNoPart (act_message plan (Put id r.values)) → after plan (Put id r.values) s.kept ≡ s.kept → told (row (silent_state (first q)) (act_message plan (Put id r.values))) ≡ Ok last →
-        (behind : List Act) → ((f : FwState) → StagedFirst behind f) → AreAnswered plan (with_there plan s last) behind → AreAnswered plan (with_there plan s (first q)) ((Put id r.values ∷ []) ++ behind)
-    one-asked q fits no_part leaves said behind loose then = (
-      fits,
-      λ f same staged. own-told plan (with_there plan s (first q)) (Put id r.values) no_part refl f same refl last said,
-      λ f g staged done. loose g,
-      λ free. subst (λ (u : UpState). AreAnswered plan u behind) (λ i. record { kept = sym leaves i; up = s.up; there = sym next i }) then,
-    )
-      where
-        next : there_after plan (Put id r.values) (first q) ≡ last
-        next = left-told (first q) (row (silent_state (first q)) (act_message plan (Put id r.values))) last said
-
-    -- a blob in its parts
-    module _ (most : ℕ) (initial : List ℕ) (live : IsLive plan.graph (with_kind id (Blob most initial))) (there : control_of plan id ≡ Some (with_kind id (Blob most initial))) (set : control_at plan s.kept id ≡ Some (with_kind id (Blob most initial), r))
-        (leaves : (k : ℕ) → after plan (Part id r.blob k) s.kept ≡ s.kept) (behind : List Act) (loose : (f : FwState) → StagedFirst behind f) (then : AreAnswered plan (with_there plan s last) behind) where
       abbrev start : There
       start = first (Blob most initial)
 
@@ -307,12 +206,14 @@ module _ (plan : Plan) (sound : IsSound plan) (s : UpState) (Mid : There → Typ
         part-fits : (k : ℕ) → k < parts r.blob → IsMessage (act_message plan (Part id r.blob k))
         part-fits k low = part-message id r.blob is k low (id-fits plan sound id (component-found plan sound id live.comp live.there).low)
 
-        parts-asked : (n k : ℕ) → k + suc n ≡ parts r.blob → AreAnswered plan (with_there plan s start) (part_acts_from k (suc n) ++ behind)
-        parts-asked zero k all = (
+        parts-lead : (n k : ℕ) → k + suc n ≡ parts r.blob → LeadsTo plan Mid (with_there plan s start) (part_acts_from k (suc n)) (IsTodo ks)
+        parts-lead zero k all = (
+          mid,
+          leaves k,
           part-fits k low,
           λ f same staged. part-own k low f same staged,
-          λ f g staged done. loose g,
-          λ free. subst (λ (u : UpState). AreAnswered plan u behind) (λ i. record { kept = sym (leaves k) i; up = s.up; there = sym (next (is_last r.blob k) refl) i }) then,
+          λ f g staged done. tt,
+          λ free. next (is_last r.blob k) refl,
         )
           where
             low : k < parts r.blob
@@ -321,11 +222,15 @@ module _ (plan : Plan) (sound : IsSound plan) (s : UpState) (Mid : There → Typ
             next : (b : Bool) → is_last r.blob k ≡ b → by_part id r.blob (is_last r.blob k) start ≡ last
             next true e = ap (λ (b : Bool). by_part id r.blob b start) e ∙ ends-so
             next false e = absurd (let more = (more-behind r.blob is k low e).0 in omega (arith, all, more))
-        parts-asked (suc n) k all = (
+        parts-lead (suc n) k all = (
+          mid,
+          leaves k,
           part-fits k low,
           λ f same staged. part-own k low f same staged,
           λ f g staged done. subst (HasStaged id r.blob (k + 1)) (sym (made-more id r.blob is k low f g staged more-yet done)) (staged-then id r.blob k f),
-          λ free. on (parts-asked n (k + 1) (let rest : (k + 1) + suc n ≡ parts r.blob = omega (arith, all) in rest)),
+          λ free.
+              subst (λ (t : There). LeadsTo plan Mid (with_there plan s t) (part_acts_from (k + 1) (suc n)) (IsTodo ks)) (sym stays)
+              (parts-lead n (k + 1) (let rest : (k + 1) + suc n ≡ parts r.blob = omega (arith, all) in rest)),
         )
           where
             low : k < parts r.blob
@@ -341,34 +246,30 @@ module _ (plan : Plan) (sound : IsSound plan) (s : UpState) (Mid : There → Typ
             stays : by_part id r.blob (is_last r.blob k) start ≡ start
             stays = ap (λ (b : Bool). by_part id r.blob b start) more-yet
 
-            on : AreAnswered plan (with_there plan s start) (part_acts_from (k + 1) (suc n) ++ behind) →
-                AreAnswered plan (record { kept = after plan (Part id r.blob k) s.kept; up = s.up; there = by_part id r.blob (is_last r.blob k) start }) (part_acts_from (k + 1) (suc n) ++ behind)
-            on rest = subst (λ (u : UpState). AreAnswered plan u (part_acts_from (k + 1) (suc n) ++ behind)) (λ i. record { kept = sym (leaves k) i; up = s.up; there = sym stays i }) rest
-
-        all-asked : AreAnswered plan (with_there plan s start) (part_acts id r.blob ++ behind)
-        all-asked = by (parts r.blob) refl (few-parts r.blob is).0
+        all-lead : LeadsTo plan Mid (with_there plan s start) (part_acts id r.blob) (IsTodo ks)
+        all-lead = by (parts r.blob) refl (few-parts r.blob is).0
           where
-            by : (n : ℕ) → parts r.blob ≡ n → 1 ≤ n → AreAnswered plan (with_there plan s start) (part_acts_from 0 n ++ behind)
+            by : (n : ℕ) → parts r.blob ≡ n → 1 ≤ n → LeadsTo plan Mid (with_there plan s start) (part_acts_from 0 n) (IsTodo ks)
             by zero same some = absurd (omega (arith, some))
-            by (suc n) same some = parts-asked n 0 (let all : 0 + suc n ≡ parts r.blob = omega (arith, same) in all)
+            by (suc n) same some = parts-lead n 0 (let all : 0 + suc n ≡ parts r.blob = omega (arith, same) in all)
 
-      blob-asked : is_initial r.blob ≡ true → AreAnswered plan (with_there plan s start) (part_acts id r.blob ++ behind)
-      blob-asked ok = by r.blob refl ok
+      -- none are sent of an empty one
+      blob-leads : is_initial r.blob ≡ true → LeadsTo plan Mid (with_there plan s start) (part_acts id r.blob) (IsTodo ks)
+      blob-leads ok = by r.blob refl ok
         where
           none : r.blob ≡ [] → start ≡ last
           none bare = λ i. record { heap = h; graph = graph-kept plan sound s.kept st whole h id (Blob most initial) r live there set ks apart has (λ w kind is. ap (λ (x : Kind). first_setting (component_words x (Some (with_kind id (Blob most initial))) w)) is.0 ∙ ap settings.Blob (sym bare)) i; streams = stage_streams plan s.kept (with_todo ks st) }
 
-          by : (bytes : List ℕ) → r.blob ≡ bytes → is_initial bytes ≡ true → AreAnswered plan (with_there plan s start) (part_acts id r.blob ++ behind)
-          by [] e is = subst (λ (bytes : List ℕ). AreAnswered plan (with_there plan s start) (part_acts id bytes ++ behind)) (sym e)
-              (subst (λ (t : There). AreAnswered plan (with_there plan s t) behind) (sym (none e)) then)
-          by (b ∷ bytes) e is = all-asked (ap is_blob e ∙ is)
+          by : (bytes : List ℕ) → r.blob ≡ bytes → is_initial bytes ≡ true → LeadsTo plan Mid (with_there plan s start) (part_acts id r.blob) (IsTodo ks)
+          by [] e is = subst (λ (bytes : List ℕ). LeadsTo plan Mid (with_there plan s start) (part_acts id bytes) (IsTodo ks)) (sym e) (none e)
+          by (b ∷ bytes) e is = all-lead (ap is_blob e ∙ is)
 
     -- whatever its kind
-    pub put-asked : (q : ControlKind) → IsLive plan.graph (with_kind id q) → control_of plan id ≡ Some (with_kind id q) → control_at plan s.kept id ≡ Some (with_kind id q, r) → Takes q r → after plan (Put id r.values) s.kept ≡ s.kept → ((k : ℕ) → after plan (Part id r.blob k) s.kept ≡ s.kept) →
-        (behind : List Act) → ((f : FwState) → StagedFirst behind f) → AreAnswered plan (with_there plan s last) behind → AreAnswered plan (with_there plan s (first q)) (control_acts_by id q r ++ behind)
-    put-asked (Volume min max channels lowest step mute) live there set takes put part behind loose then =
-        one-asked volume (subst IsMessage (sym says) (set-message id 0 gains (id-fits plan sound id (component-found plan sound id live.comp live.there).low) (omega arith) (omega (arith, long, live.kind.3)) (omega (arith, long, live.kind.4)) (gains-are volume r.values)))
-        (subst IsNoPart (sym says) tt) put (value-told plan sound s.kept st whole h id volume r live there set ks apart has r.values 0 gains refl new) behind loose then
+    pub put-leads : (q : ControlKind) → IsLive plan.graph (with_kind id q) → control_of plan id ≡ Some (with_kind id q) → control_at plan s.kept id ≡ Some (with_kind id q, r) → Takes q r → Mid (first q) → after plan (Put id r.values) s.kept ≡ s.kept → ((k : ℕ) → after plan (Part id r.blob k) s.kept ≡ s.kept) →
+        LeadsTo plan Mid (with_there plan s (first q)) (control_acts_by id q r) (IsTodo ks)
+    put-leads (Volume min max channels lowest step mute) live there set takes mid put part =
+        one-leads volume mid (subst IsMessage (sym says) (set-message id 0 gains (id-fits plan sound id (component-found plan sound id live.comp live.there).low) (omega arith) (omega (arith, long, live.kind.3)) (omega (arith, long, live.kind.4)) (gains-are volume r.values)))
+        (subst IsNoPart (sym says) tt) put (value-told plan sound s.kept st whole h id volume r live there set ks apart has r.values 0 gains refl new)
       where
         volume : ControlKind
         volume = Volume min max channels lowest step mute
@@ -386,9 +287,9 @@ module _ (plan : Plan) (sound : IsSound plan) (s : UpState) (Mid : There → Typ
         new =
             ap (λ (kind : Kind). new_setting kind (first_setting (component_words kind (Some (with_kind id volume)) (widget_words plan live.comp.id))) 0 gains) live.kind.0
             ∙ volume-new (length (first_values volume)) gains (long ∙ sym (length-replicate channels (first_value volume))) (gains-are volume r.values)
-    put-asked (Choice items) live there set takes put part behind loose then =
-        one-asked (Choice items) (subst IsMessage (sym says) (set-message id 1 r.values (id-fits plan sound id (component-found plan sound id live.comp live.there).low) (omega arith) (omega (arith, ap length takes.1)) (omega (arith, ap length takes.1)) (subst AreGains (sym takes.1) (takes.2, tt))))
-        (subst IsNoPart (sym says) tt) put (value-told plan sound s.kept st whole h id (Choice items) r live there set ks apart has r.values 1 r.values refl new) behind loose then
+    put-leads (Choice items) live there set takes mid put part =
+        one-leads (Choice items) mid (subst IsMessage (sym says) (set-message id 1 r.values (id-fits plan sound id (component-found plan sound id live.comp live.there).low) (omega arith) (omega (arith, ap length takes.1)) (omega (arith, ap length takes.1)) (subst AreGains (sym takes.1) (takes.2, tt))))
+        (subst IsNoPart (sym says) tt) put (value-told plan sound s.kept st whole h id (Choice items) r live there set ks apart has r.values 1 r.values refl new)
       where
         says : act_message plan (Put id r.values) ≡ SetValue id 1 r.values
         says = ap (put_message id r.values) there
@@ -397,9 +298,9 @@ module _ (plan : Plan) (sound : IsSound plan) (s : UpState) (Mid : There → Typ
         new =
             ap (λ (kind : Kind). new_setting kind (first_setting (component_words kind (Some (with_kind id (Choice items))) (widget_words plan live.comp.id))) 1 r.values) live.kind.0
             ∙ subst (λ (vs : List ℕ). new_setting kinds.Mux (settings.Choice 0) 1 vs ≡ Some (settings.Choice (get_or vs 0 0))) (sym takes.1) refl
-    put-asked (Masks min max channels) live there set takes put part behind loose then =
-        one-asked demux (subst IsMessage (sym says) (set-message id 2 masks (id-fits plan sound id (component-found plan sound id live.comp live.there).low) (omega arith) (omega (arith, eight r.values)) (omega (arith, eight r.values)) (masks-few masks (few-masks r.values takes))))
-        (subst IsNoPart (sym says) tt) put (value-told plan sound s.kept st whole h id demux r live there set ks apart has r.values 2 masks refl new) behind loose then
+    put-leads (Masks min max channels) live there set takes mid put part =
+        one-leads demux mid (subst IsMessage (sym says) (set-message id 2 masks (id-fits plan sound id (component-found plan sound id live.comp live.there).low) (omega arith) (omega (arith, eight r.values)) (omega (arith, eight r.values)) (masks-few masks (few-masks r.values takes))))
+        (subst IsNoPart (sym says) tt) put (value-told plan sound s.kept st whole h id demux r live there set ks apart has r.values 2 masks refl new)
       where
         demux : ControlKind
         demux = Masks min max channels
@@ -414,4 +315,4 @@ module _ (plan : Plan) (sound : IsSound plan) (s : UpState) (Mid : There → Typ
         new =
             ap (λ (kind : Kind). new_setting kind (first_setting (component_words kind (Some (with_kind id demux)) (widget_words plan live.comp.id))) 2 masks) live.kind.0
             ∙ ap (λ (b : Bool). cond b (Some (settings.Masks masks)) None) (and_from (length masks == 8) (list_all is_mask masks) (eq-eqb (length masks) 8 (eight r.values)) (few-masks r.values takes))
-    put-asked (Blob most initial) live there set takes put part behind loose then = blob-asked most initial live there set part behind loose then takes
+    put-leads (Blob most initial) live there set takes mid put part = blob-leads most initial live there set mid part takes

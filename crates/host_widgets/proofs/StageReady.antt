@@ -29,13 +29,14 @@ use Rattle.host_widgets.proofs.Needs.{in-map, has-at}
 use Rattle.host_widgets.proofs.Between.{IsBetween, same-bools, found-member, kind-of, comp-named, edge-named, named-up, up-named, Side, side-of, fills-index, drains-index, join-into, join-outof, whole-kind, kind-in, echo-stays, never-echo}
 use Rattle.host_widgets.proofs.BetweenWays.{ways-walk, walk-ways, in-way, way-in, on-by, echo-splits, echo-up, back-on, echo-on, out-on, way-stays}
 use Rattle.host_widgets.proofs.HostStreams.{IsHostKind}
-use Rattle.host_widgets.proofs.StageBetween.{edge-index, edge-at, stage-between}
+use Rattle.host_widgets.proofs.StageBetween.{edge-index, edge-at, up-between}
 use Rattle.host_widgets.proofs.StageJoins.{stage-buffers, source-whole, sink-whole}
 use Rattle.host_widgets.proofs.StageStays.{all-pass, pass-each, from-map}
 use Rattle.host_widgets.proofs.Sublists.{filter-same, filter-both}
 use Rattle.host_widgets.proofs.UpContext.{own-index}
-use Rattle.host_widgets.proofs.UpStages.{Stage, index_of_id, stage_graph, comps_left, edges_left, pipes_left, pipe_as, IsAmid}
+use Rattle.host_widgets.proofs.UpStages.{Stage, index_of_id, stage_graph, comps_left, edges_left, pipes_left, pipe_as, HasUp}
 use Rattle.host_widgets.specs.Indices.{index_at, is_up, join_index}
+use Rattle.stream_law.proofs.OneSolution.{is_end-some}
 
 -- ---- right numbers
 
@@ -69,10 +70,6 @@ path-last joins (suc n) a b (j, there, from, p) =
 
 -- ---- ends of edges
 
-end-is : (o : Option ℕ) (c : ℕ) → is_end o c ≡ true → o ≡ Some c
-end-is None c is = absurd (false≢true is)
-end-is (Some a) c is = ap Some (eqb-true a c is)
-
 is-end : (c : ℕ) (o : Option ℕ) → o ≡ Some c → is_end o c ≡ true
 is-end c o is = ap (λ (p : Option ℕ). is_end p c) is ∙ eq-eqb c c refl
 
@@ -85,18 +82,15 @@ to_sink e = e.sink
 abbrev end_of : (Edge → Option ℕ) → Graph → ℕ → Option ℕ
 end_of pick m b = option_and_then pick (edge_of m b)
 
-module _ (plan : Plan) (sound : IsSound plan) (kept : Record) (up n : List ℕ) (st : Stage) (amid : IsAmid plan up n st) where
+module _ (plan : Plan) (sound : IsSound plan) (kept : Record) (up : List ℕ) (st : Stage) (over : HasUp plan up st) where
   abbrev g : Graph
   g = plan.graph
 
   abbrev k : Graph
   k = stage_graph plan kept st
 
-  whole-joins : (j : Join) → IsIn j st.joins → IsIn j plan.graph.joins
-  whole-joins j there = (amid.joins j there).0
-
   between : IsBetween plan.graph up (stage_graph plan kept st)
-  between = stage-between plan sound kept up n st amid
+  between = up-between plan sound kept up st over
 
   -- ---- as many edges at a component as in the whole, where all of them are up, and else fewer
 
@@ -111,10 +105,10 @@ module _ (plan : Plan) (sound : IsSound plan) (kept : Record) (up n : List ℕ) 
     stage_at c b = st.has b && is_end (end_of pick k b) c
 
     stage-whole : (c b : ℕ) → stage_at c b ≡ true → whole_at c b ≡ true
-    stage-whole c b is = is-end c (end_of pick g b) (whole b c (end-is (end_of pick k b) c (and_parts (st.has b) (is_end (end_of pick k b) c) is).1))
+    stage-whole c b is = is-end c (end_of pick g b) (whole b c (is_end-some (end_of pick k b) c (and_parts (st.has b) (is_end (end_of pick k b) c) is).1))
 
     ends-are : (c : ℕ) → ends k c ≡ filter (stage_at c) (buffers g)
-    ends-are c = ap (filter (λ (b : ℕ). is_end (end_of pick k b) c)) (stage-buffers plan sound kept st whole-joins) ∙ filter-both (λ (b : ℕ). is_end (end_of pick k b) c) st.has (buffers g)
+    ends-are c = ap (filter (λ (b : ℕ). is_end (end_of pick k b) c)) (stage-buffers plan sound kept st over.whole) ∙ filter-both (λ (b : ℕ). is_end (end_of pick k b) c) st.has (buffers g)
 
     ends-fewer : (c : ℕ) → length (ends k c) ≤ length (ends g c)
     ends-fewer c = subst (λ (bs : List ℕ). length bs ≤ length (ends g c)) (sym (ends-are c)) (filter-within (stage_at c) (whole_at c) (stage-whole c) (buffers g))
@@ -122,7 +116,7 @@ module _ (plan : Plan) (sound : IsSound plan) (kept : Record) (up n : List ℕ) 
     -- an edge that is up is there with its ends
     end-there : (b c : ℕ) (e : Edge) → edge_of g b ≡ Some e → pick e ≡ Some c → is_among up e.pipe ≡ true → stage_at c b ≡ true
     end-there b c e at to here =
-        and_from (st.has b) (is_end (end_of pick k b) c) (amid.there b (ap (is_among up) (edge-index plan sound b e at) ∙ here))
+        and_from (st.has b) (is_end (end_of pick k b) c) (over.there b (ap (is_among up) (edge-index plan sound b e at) ∙ here))
         (is-end c (end_of pick k b) (ap (option_and_then pick) (between.edge_up b e at here) ∙ to))
 
     ends-all : (c : ℕ) → ((b : ℕ) (e : Edge) → edge_of g b ≡ Some e → pick e ≡ Some c → is_among up e.pipe ≡ true) → length (ends k c) ≡ length (ends g c)
@@ -131,7 +125,7 @@ module _ (plan : Plan) (sound : IsSound plan) (kept : Record) (up n : List ℕ) 
         ∙ filter-same (stage_at c) (whole_at c) (buffers g) (in-each (λ (b : ℕ). stage_at c b ≡ whole_at c b) (buffers g) (λ b there. same-bools (stage_at c b) (whole_at c b) (stage-whole c b) (back b))))
       where
         back : (b : ℕ) → whole_at c b ≡ true → stage_at c b ≡ true
-        back b is = by (edge_of g b) refl (end-is (end_of pick g b) c is)
+        back b is = by (edge_of g b) refl (is_end-some (end_of pick g b) c is)
           where
             by : (o : Option Edge) → edge_of g b ≡ o → option_and_then pick o ≡ Some c → stage_at c b ≡ true
             by None at none = absurd (cc none)
@@ -143,10 +137,10 @@ module _ (plan : Plan) (sound : IsSound plan) (kept : Record) (up n : List ℕ) 
         (in-length (filter (stage_at c) (buffers g)) b (in-kept (stage_at c) (buffers g) b (found-member (λ (x : Edge). x.buffer) g.edges b e at) (end-there b c e at to here)))
 
   sources-whole : (b c : ℕ) → end_of to_source k b ≡ Some c → end_of to_source g b ≡ Some c
-  sources-whole b c is = source-whole plan sound kept st whole-joins b c is
+  sources-whole b c is = source-whole plan sound kept st over.whole b c is
 
   sinks-whole : (b c : ℕ) → end_of to_sink k b ≡ Some c → end_of to_sink g b ≡ Some c
-  sinks-whole b c is = sink-whole plan sound kept st whole-joins b c is
+  sinks-whole b c is = sink-whole plan sound kept st over.whole b c is
 
   -- a pipeline that is up is complete
   pipe-done : (i : ℕ) → is_complete g i ≡ true → is_among up i ≡ true → is_complete k i ≡ true
@@ -155,8 +149,8 @@ module _ (plan : Plan) (sound : IsSound plan) (kept : Record) (up n : List ℕ) 
       let parts = and_parts (r.0.index == i) r.0.complete r.2 in
       let in_up : is_among up (index_of_id plan r.0.id) ≡ true = ap (is_among up) (own-index plan sound r.0 r.1 ∙ eqb-true r.0.index i parts.0) ∙ here in
       in-any (λ (p : Pipe). p.index == i && p.complete) k.pipes (pipe_as st.done r.0)
-      (in-map (pipe_as st.done) (pipes_left plan st) r.0 (in-kept (λ (p : Pipe). st.has p.id) g.pipes r.0 r.1 (amid.there r.0.id in_up)))
-      (and_from (r.0.index == i) (st.done r.0.id) parts.0 (amid.done r.0.id in_up))
+      (in-map (pipe_as st.done) (pipes_left plan st) r.0 (in-kept (λ (p : Pipe). st.has p.id) g.pipes r.0 r.1 (over.there r.0.id in_up)))
+      (and_from (r.0.index == i) (st.done r.0.id) parts.0 (over.done r.0.id in_up))
 
   -- ---- the way of a stream that has what it needs
 
@@ -357,7 +351,7 @@ module _ (plan : Plan) (sound : IsSound plan) (kept : Record) (up n : List ℕ) 
         parts = way-in k j there
 
         whole : IsIn j g.joins
-        whole = whole-joins j parts.0
+        whole = over.whole j parts.0
 
         same-echo : (b : ℕ) (e : Edge) → edge_of g b ≡ Some e → join_index g j ≡ Some e.pipe → is_echo g b ≡ is_echo k b
         same-echo b e at index =

@@ -72,9 +72,13 @@ pub rests : (found : Found) → takes_params found ≡ true → is_live_phase (p
 rests Closed is = absurd (cc is)
 rests Open is = refl
 rests Prepared is = refl
-rests Running is = absurd (cc is)
-rests Paused is = absurd (cc is)
-rests Found_On is = absurd (cc is)
+rests found is = absurd (cc is)
+
+-- what is so of every record is so at each host
+pub anywhere : (So : StreamRec → Type 0) → ((r : StreamRec) → So r) → (host : ℕ) (ss : List StreamPlan) (rs : List StreamRec) → AllAt So host ss rs
+anywhere So so host [] rs = tt
+anywhere So so host (s ∷ ss) [] = tt
+anywhere So so host (s ∷ ss) (r ∷ rs) = (λ here. so r, anywhere So so host ss rs)
 
 pub all-at : (So Is : StreamRec → Type 0) → ((r : StreamRec) → So r → Is r) → (host : ℕ) (ss : List StreamPlan) (rs : List StreamRec) → AllAt So host ss rs → AllAt Is host ss rs
 all-at So Is next host [] rs so = tt

@@ -1,6 +1,6 @@
 -- No word of a message on a stream of a sound plan is refused.
 use Rattle.std.proofs.Common.{◌≡◌, if◌then◌else◌, refl, ℕ, ◌<◌, ◌≤◌, ◌^◌, Bool, true, false, Option, Some, None, arith}
-use Rattle.std.specs.Prelude.{◌&&◌, ◌==◌, ◌%◌, nat_le}
+use Rattle.std.specs.Prelude.{◌&&◌, nat_le}
 use Rattle.std.proofs.lemmas.Bool.{leb-true, and_parts}
 use Rattle.sof_base.specs.declared.format.Format.{Format}
 use Rattle.sof_base.specs.declared.format.Format.TheVariants.{S16, S24, S32}
@@ -17,7 +17,7 @@ use Rattle.mbox_link.specs.Step.{is_rate}
 use Rattle.tplg_plan.specs.declared.plans.Plan.{Plan}
 use Rattle.tplg_plan.specs.Sound.{IsSound}
 use Rattle.host_widgets.specs.declared.trigger.Trigger.{Trigger}
-use Rattle.host_widgets.specs.declared.trigger.Trigger.TheVariants.{Start, Stop, Pause, Release}
+use Rattle.host_widgets.specs.declared.trigger.Trigger.TheVariants.{Start}
 use Rattle.host_widgets.specs.HostRecord.{are_in_range}
 use Rattle.host_widgets.specs.Acts.{direction_by, direction_of, trigger_message}
 use Rattle.host_widgets.proofs.NamedIds.{component-found, id-fits}
@@ -52,9 +52,7 @@ module _ (plan : Plan) (sound : IsSound plan) (host : ℕ) (some : has_host plan
   pub trigger-fits : (what : Trigger) → IsMessage (trigger_message host what)
   unfolding AreSlots IsSlot
   trigger-fits Start = ((tt, (omega arith, (host-fits, tt))), tt)
-  trigger-fits Stop = ((tt, (omega arith, (host-fits, tt))), tt)
-  trigger-fits Pause = ((tt, (omega arith, (host-fits, tt))), tt)
-  trigger-fits Release = ((tt, (omega arith, (host-fits, tt))), tt)
+  trigger-fits what = ((tt, (omega arith, (host-fits, tt))), tt)
 
   pub free-fits : IsMessage (PcmFree host)
   unfolding AreSlots IsSlot

@@ -11,7 +11,7 @@ use Rattle.tplg_plan.specs.Sound.{IsSound}
 use Rattle.host_widgets.specs.declared.kept.Found.TheVariants.{Prepared}
 use Rattle.host_widgets.specs.declared.kept.StreamRec.{StreamRec}
 use Rattle.host_widgets.specs.declared.trigger.Trigger.{Trigger}
-use Rattle.host_widgets.specs.declared.trigger.Trigger.TheVariants.{Start, Stop, Pause, Release}
+use Rattle.host_widgets.specs.declared.trigger.Trigger.TheVariants.{Start}
 use Rattle.host_widgets.specs.HostRecord.{are_in_range}
 use Rattle.host_widgets.specs.declared.kept.Record.{Record}
 use Rattle.host_widgets.specs.HostActs.{Prepare, Trig, Free}
@@ -35,9 +35,7 @@ module _ (plan : Plan) (sound : IsSound plan) (kept : Record) (is : IsRecordOf p
 
   bare : (what : Trigger) (f : FwState) → fw.body f (act_message plan (Trig host what)) ≡ Nothing
   bare Start f = refl
-  bare Stop f = refl
-  bare Pause f = refl
-  bare Release f = refl
+  bare what f = refl
 
   pub trig-is : (what : Trigger) → Stand (λ r. takes_trigger what r.found ≡ true) → IsStreamAct plan kept (Trig host what)
   trig-is what all =

@@ -1,12 +1,13 @@
 -- Lists of which some records are left, and records that are put back into their places.
-use Rattle.std.proofs.Common.{◌≡◌, refl, sym, ap, ◌∙◌, subst, ℕ, zero, suc, ◌+◌, ◌<◌, ◌≤◌, List, [], ◌∷◌, ◌++◌, map, filter, Bool, true, false, cond, inl, inr, ◌⊎◌, ◌==◌, ◌||◌, ◌&&◌, Some, arith}
+use Rattle.std.proofs.Common.{◌≡◌, refl, sym, ap, ◌∙◌, subst, ℕ, zero, suc, ◌+◌, ◌<◌, ◌≤◌, List, [], ◌∷◌, ◌++◌, map, filter, Bool, true, false, cond, inl, inr, ◌⊎◌, ◌==◌, ◌||◌, ◌&&◌, Some, length, arith}
 use Rattle.std.specs.Prelude.{find, nat_lt}
 use Rattle.std.specs.List.{flat_map, range_with_len, AllByRecursion, IsDistinct}
 use Rattle.std.proofs.lemmas.Bool.{true≢false, eqb-true, eq-eqb, le-ltb, lt-ltb, false_from_ne_true}
 use Rattle.stream_law.specs.Placed.{placed, AreAbove, Ascends, HasDistinct}
 use Rattle.stream_law.proofs.Members.{IsIn, find-in, kept-in}
 use Rattle.stream_law.proofs.Placing.{AreAbove-filter}
-use Rattle.host_widgets.proofs.Needs.{in-right, in-either, flat-in}
+use Rattle.host_widgets.proofs.Needs.{in-left, in-right, in-either, flat-in}
+use Rattle.std.proofs.lemmas.List.{length-append}
 
 -- ---- what is left
 
@@ -47,14 +48,6 @@ filter-all {X} p (x ∷ xs) all = ap (λ (b : Bool). cond b (x ∷ filter p xs) 
 pub filter-none : {X : Type 0} (p : X → Bool) (xs : List X) → AllByRecursion (λ x. p x ≡ false) xs → filter p xs ≡ []
 filter-none p [] all = refl
 filter-none {X} p (x ∷ xs) all = ap (λ (b : Bool). cond b (x ∷ filter p xs) (filter p xs)) all.0 ∙ filter-none p xs all.1
-
-pub flat-append : {X Y : Type 0} (f : X → List Y) (xs ys : List X) → flat_map f (xs ++ ys) ≡ flat_map f xs ++ flat_map f ys
-flat-append f [] ys = refl
-flat-append {X} {Y} f (x ∷ xs) ys = ap (λ (zs : List Y). f x ++ zs) (flat-append f xs ys) ∙ sym (append-assoc (f x) (flat_map f xs) (flat_map f ys))
-  where
-    append-assoc : (us vs ws : List Y) → (us ++ vs) ++ ws ≡ us ++ (vs ++ ws)
-    append-assoc [] vs ws = refl
-    append-assoc (u ∷ us) vs ws = ap (λ (zs : List Y). u ∷ zs) (append-assoc us vs ws)
 
 pub all-filter : {X : Type 0} (P : X → Type 0) (p : X → Bool) (xs : List X) → AllByRecursion P xs → AllByRecursion P (filter p xs)
 all-filter P p [] all = tt
@@ -280,3 +273,18 @@ pub once-distinct : (ks : List ℕ) → AreOnce ks → IsDistinct (λ m n. m == 
 unfolding IsDistinct
 once-distinct [] once = tt
 once-distinct (k ∷ ks) once = (out-apart k ks once.0, once-distinct ks once.1)
+
+-- distinct members of a list are no more than it has
+pub few-once : {X : Type 0} (xs ys : List X) → AreOnce xs → ((x : X) → IsIn x xs → IsIn x ys) → length xs ≤ length ys
+few-once [] ys once within = omega arith
+few-once {X} (x ∷ xs) ys once within = by (in-split ys x (within x (inl refl))) (λ zs left. few-once xs zs once.1 left)
+  where
+    by : (before : List X) × (after : List X) × (ys ≡ before ++ x ∷ after) → ((zs : List X) → ((y : X) → IsIn y xs → IsIn y zs) → length xs ≤ length zs) → suc (length xs) ≤ length ys
+    by (before, after, cut) rest =
+        let few = rest (before ++ after) (λ y there. left y there (in-either before (x ∷ after) y (subst (IsIn y) cut (within y (inr there))))) in
+        omega (arith, few, ap length cut, length-append before (x ∷ after), length-append before after)
+      where
+        left : (y : X) → IsIn y xs → IsIn y before ⊎ IsIn y (x ∷ after) → IsIn y (before ++ after)
+        left y there (inl a) = in-left before after y a
+        left y there (inr (inl same)) = absurd (once.0 (subst (λ z. IsIn z xs) same there))
+        left y there (inr (inr b)) = in-right before after y b

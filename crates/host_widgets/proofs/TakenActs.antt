@@ -74,11 +74,7 @@ trigger-may Pause Paused params is may = absurd (false≢true is)
 trigger-may Pause Found_On params is may = absurd (false≢true is)
 trigger-may Release Paused (Some p) is may = may
 trigger-may Release Paused None is may = may
-trigger-may Release Closed params is may = absurd (false≢true is)
-trigger-may Release Open params is may = absurd (false≢true is)
-trigger-may Release Prepared params is may = absurd (false≢true is)
-trigger-may Release Running params is may = absurd (false≢true is)
-trigger-may Release Found_On params is may = absurd (false≢true is)
+trigger-may Release found params is may = absurd (false≢true is)
 
 -- what takes parameters is at rest
 params-rest : (found : Found) → takes_params found ≡ true → is_live_phase (phase_of found) ≡ true → ⊥

@@ -55,19 +55,21 @@ use Rattle.host_widgets.proofs.StageBetween.{comp-index, stage-between}
 use Rattle.host_widgets.proofs.RowsTold.{told, left-told}
 use Rattle.host_widgets.proofs.StageFinishes.{finish-told}
 use Rattle.host_widgets.proofs.StageJoins.{with_joined, graph-joined, join-told}
-use Rattle.host_widgets.proofs.StageMakes.{none-passes, with_id, piece-more, make-is, make-told, make-refused}
+use Rattle.host_widgets.proofs.StageMakes.{none-passes, with_id, piece-more, make-told, make-refused}
 use Rattle.host_widgets.proofs.StageMessages.{make-fits, make-whole, join-fits, finish-fits}
-use Rattle.host_widgets.proofs.StagePuts.{with_todo, put-runs, put-asked}
+use Rattle.host_widgets.proofs.StagePuts.{with_todo, put-leads}
 use Rattle.host_widgets.proofs.StageSame.{heap-same, at-same}
 use Rattle.host_widgets.proofs.StageStays.{ways-stay}
-use Rattle.host_widgets.proofs.Sublists.{filter-append, filter-all, filter-none, flat-append, AreOnce, once-filter, once-flat, once-split, range-low, low-range, range-once}
+use Rattle.host_widgets.proofs.Sublists.{filter-append, filter-all, filter-none, AreOnce, once-filter, once-flat, once-split, range-low, low-range, range-once}
 use Rattle.host_widgets.proofs.UpContext.{IsServing, AreApart, among-both, own-index, comp-up-by, join-at, ends-up, join-low, whole-once}
 use Rattle.host_widgets.proofs.UpStages.{Stage, StreamPair, stage_graph, IsHeapAt, at_stage, IsStage, index_of_id, is_join_of, up_stage, IsAmid}
 use Rattle.host_widgets.proofs.UpExchanges.{IsOwn, own-told, own-refused}
 use Rattle.host_widgets.proofs.UpSending.{StagedFirst, AreAnswered}
-use Rattle.host_widgets.proofs.UpWalks.{Runs, runs-on, with_there}
-use Rattle.host_widgets.specs.Groups.{is_control_of, finish_ids}
+use Rattle.host_widgets.proofs.LeadingOn.{LeadsTo, leads-answered, leads-on, leads-runs}
+use Rattle.host_widgets.proofs.UpWalks.{Runs, with_there}
+use Rattle.host_widgets.specs.Groups.{is_control_of, finish_ids, making_lists}
 use Rattle.host_widgets.specs.Indices.{index_at, is_up, join_index}
+use Rattle.std.proofs.lemmas.Grind.{flat_map-append}
 
 -- the firmware itself refuses no widget that some hole holds
 hole-of : (b : Bool) (e : Errno) → ◌≡◌ {A = Option Errno} (cond b None (Some e)) None → b ≡ true
@@ -90,16 +92,36 @@ puts-loose behind loose (p ∷ ps) f =
     by (Masks min max channels) rest = tt
     by (Blob most initial) rest = parts-first (parts p.1.blob) rest
 
-module _ (plan : Plan) (sound : IsSound plan) (s : UpState) (up n : List ℕ) (serving : IsServing plan s.kept up) (apart : AreApart up n) (more : HasBrought plan.graph (is_among (up ++ n))) (once : AreOnce n) where
+-- ---- lists of all that is of these indices
+
+-- a join of the graph, at a buffer of one of these
+pub record IsJoinAt (plan : Plan) (n : List ℕ) (j : Join) : Type 0 where
+  pub whole : IsIn j plan.graph.joins
+  pub index : ℕ
+  pub at : join_index plan.graph j ≡ Some index
+  pub among : is_among n index ≡ true
+
+-- each widget and each join of these is in its list once, and no other
+pub record AreTheirs (plan : Plan) (n ids : List ℕ) (joins : List Join) : Type 0 where
+  pub low : (id : ℕ) → IsIn id ids → (id < length plan.widgets) × (is_among n (index_of_id plan id) ≡ true)
+  pub all : (id : ℕ) → id < length plan.widgets → is_among n (index_of_id plan id) ≡ true → IsIn id ids
+  pub once : AreOnce ids
+  pub join : (j : Join) → IsIn j joins → IsJoinAt plan n j
+  pub joins_once : AreOnce joins
+
+-- at some stage between what is up and what is up with these
+abbrev pub IsMidway : Plan → Record → List ℕ → List ℕ → There → Type 0
+IsMidway plan kept up n t = (st : Stage) × IsAmid plan up n st × IsStage plan kept st t
+
+module _ (plan : Plan) (sound : IsSound plan) (s : UpState) (up n : List ℕ) (serving : IsServing plan s.kept up) (apart : AreApart up n) (more : HasBrought plan.graph (is_among (up ++ n))) (ids_of : List ℕ) (joins_of : List Join) (theirs : AreTheirs plan n ids_of joins_of) where
   abbrev g : Graph
   g = plan.graph
 
   abbrev kept : Record
   kept = s.kept
 
-  -- at some stage between what is up and what is up with these
-  abbrev pub IsMaking : There → Type 0
-  IsMaking t = (st : Stage) × IsAmid plan up n st × IsStage plan kept st t
+  abbrev Midway : There → Type 0
+  Midway t = IsMidway plan kept up n t
 
   abbrev todo_of : List Pair
   todo_of = filter (is_control_of plan n) (controls_of plan kept)
@@ -226,26 +248,6 @@ module _ (plan : Plan) (sound : IsSound plan) (s : UpState) (up n : List ℕ) (s
       let r = new x (inr there) in
       (r.0, r.1, or_from (x == id) (st.has x) (false_from_ne_true (x == id) (λ e. single.0 (subst (λ (y : ℕ). IsIn y ids) (eqb-true x id e) there))) r.2)
 
-  makes-run : (ids : List ℕ) (st : Stage) (t : There) → AreOnce ids → AreNew ids st → TakesWidget st → IsStage plan kept st t → Runs plan IsMaking (with_there plan s t) (map Make ids) (λ t. IsStage plan kept (after_ids ids st) t)
-  makes-run [] st t single new takes is = is
-  makes-run (id ∷ ids) st t single new takes is =
-      ((st, takes.amid, is), refl, λ free. makes-run ids (with_id id st) (there_after plan (Make id) t) single.1 (new-rest id ids st single new) (with-id st id takes (new id (inl refl)).1) (now (hole-of (fits (rounded (stated_bytes plan id)) t.heap.holes) _ free)))
-    where
-      r : (id < length plan.widgets) × (is_among n (index_of_id plan id) ≡ true) × (st.has id ≡ false)
-      r = new id (inl refl)
-
-      now : fits (rounded (stated_bytes plan id)) t.heap.holes ≡ true → IsStage plan kept (with_id id st) (there_after plan (Make id) t)
-      now hole =
-          let made : there_after plan (Make id) t ≡ at_stage plan kept (with_id id st) (heap_with_piece id (stated_bytes plan id) t.heap) =
-          ap (there_after plan (Make id)) is.is
-          ∙ make-is plan sound kept st t.heap id r.0 r.2 hole
-          (λ p there same here. none-done st takes (index_of_id plan id) r.1 p there same)
-          (λ c found. let own = (component-found plan sound id c found).same in new-setting st takes c (ap (comp_of g) own ∙ found) (ap (λ (x : ℕ). is_among n (index_of_id plan x)) own ∙ r.1))
-          (λ j there. let ends = takes.amid.joins j there in (ends.1, ends.2))
-          (rest-idle id r.1) serving.long (takes.done_is id ∙ apart (index_of_id plan id) r.1) in
-          let piece = piece-more plan sound kept st t.heap id r.0 r.2 is.heap in
-          subst (IsStage plan kept (with_id id st)) (sym made) (record { is = refl; heap = piece })
-
   -- what the firmware says to one that some hole holds, and to one that none holds
   widget-told : (id : ℕ) (st : Stage) (t : There) → (id < length plan.widgets) × (is_among n (index_of_id plan id) ≡ true) × (st.has id ≡ false) → TakesWidget st → IsStage plan kept st t → fits (rounded (stated_bytes plan id)) t.heap.holes ≡ true →
       told (row (silent_state t) (act_message plan (Make id))) ≡ Ok (at_stage plan kept (with_id id st) (heap_with_piece id (stated_bytes plan id) t.heap))
@@ -271,23 +273,23 @@ module _ (plan : Plan) (sound : IsSound plan) (s : UpState) (up n : List ℕ) (s
           (at_stage plan kept (with_id id st) (heap_with_piece id (stated_bytes plan id) t.heap)) (widget-told id st t r takes is e)
       by false e = own-refused plan (with_there plan s t) (Make id) (make-whole plan sound id r.0) refl f same no_memory (ap (λ (b : Bool). cond b None (Some (errno no_memory))) e) (widget-refused id st t r takes is e)
 
-  -- the firmware answers each of these as the rules say, and so those after them
-  makes-asked : (ids : List ℕ) (st : Stage) (t : There) (behind : List Act) → AreOnce ids → AreNew ids st → TakesWidget st → IsStage plan kept st t → ((f : FwState) → StagedFirst behind f) →
-      ((x : There) → IsStage plan kept (after_ids ids st) x → AreAnswered plan (with_there plan s x) behind) → AreAnswered plan (with_there plan s t) (map Make ids ++ behind)
-  makes-asked [] st t behind single new takes is loose then = then t is
-  makes-asked (id ∷ ids) st t behind single new takes is loose then = (
+  -- each of these is made, one after another
+  makes-lead : (ids : List ℕ) (st : Stage) (t : There) → AreOnce ids → AreNew ids st → TakesWidget st → IsStage plan kept st t → LeadsTo plan Midway (with_there plan s t) (map Make ids) (λ t. IsStage plan kept (after_ids ids st) t)
+  makes-lead [] st t single new takes is = is
+  makes-lead (id ∷ ids) st t single new takes is = (
+    (st, takes.amid, is),
+    refl,
     make-fits plan sound id r.0,
     λ f same staged. own-widget id st t r takes is f same,
     λ f after staged done. first ids after,
-    λ free.
-        makes-asked ids (with_id id st) (there_after plan (Make id) t) behind single.1 (new-rest id ids st single new) (with-id st id takes r.1) (next (hole-of (fits (rounded (stated_bytes plan id)) t.heap.holes) _ free)) loose then,
+    λ free. makes-lead ids (with_id id st) (there_after plan (Make id) t) single.1 (new-rest id ids st single new) (with-id st id takes r.1) (next (hole-of (fits (rounded (stated_bytes plan id)) t.heap.holes) _ free)),
   )
     where
       r : (id < length plan.widgets) × (is_among n (index_of_id plan id) ≡ true) × (st.has id ≡ false)
       r = new id (inl refl)
 
-      first : (ids : List ℕ) (f : FwState) → StagedFirst (map Make ids ++ behind) f
-      first [] f = loose f
+      first : (ids : List ℕ) (f : FwState) → StagedFirst (map Make ids) f
+      first [] f = tt
       first (x ∷ xs) f = tt
 
       next : fits (rounded (stated_bytes plan id)) t.heap.holes ≡ true → IsStage plan kept (with_id id st) (there_after plan (Make id) t)
@@ -298,30 +300,11 @@ module _ (plan : Plan) (sound : IsSound plan) (s : UpState) (up n : List ℕ) (s
 
   -- ---- all widgets of these
 
-  abbrev ids_of : List ℕ
-  ids_of = widgets_of plan n
-
   abbrev made_stage : Stage
   made_stage = after_ids ids_of first_stage
 
-  id-in : (id : ℕ) → IsIn id ids_of → (id < length plan.widgets) × (is_among n (index_of_id plan id) ≡ true)
-  id-in id there =
-      let r = flat-in (widgets_at plan) n id there in
-      let k = kept-in (λ (x : ℕ). index_of_id plan x == r.0) (widget_ids plan) id r.2 in
-      ((let low : id < 0 + length plan.widgets = range-low 0 (length plan.widgets) id k.0 in omega (arith, low)), ap (is_among n) (eqb-true (index_of_id plan id) r.0 k.1) ∙ in-among n r.0 r.1)
-
-  in-id : (id : ℕ) → id < length plan.widgets → is_among n (index_of_id plan id) ≡ true → IsIn id ids_of
-  in-id id low is =
-      in-flat (widgets_at plan) n (index_of_id plan id) id (among-in n (index_of_id plan id) is)
-      (in-kept (λ (x : ℕ). index_of_id plan x == index_of_id plan id) (widget_ids plan) id (low-range 0 (length plan.widgets) id (omega arith) (omega (arith, low))) (eq-eqb (index_of_id plan id) (index_of_id plan id) refl))
-
-  ids-once : AreOnce ids_of
-  ids-once = once-flat (widgets_at plan) n once
-      (λ i. once-filter (λ (x : ℕ). index_of_id plan x == i) (widget_ids plan) (range-once 0 (length plan.widgets)))
-      (λ i k id a b. sym (eqb-true (index_of_id plan id) i (kept-in (λ (x : ℕ). index_of_id plan x == i) (widget_ids plan) id a).1) ∙ eqb-true (index_of_id plan id) k (kept-in (λ (x : ℕ). index_of_id plan x == k) (widget_ids plan) id b).1)
-
   first-new : AreNew ids_of first_stage
-  first-new id there = let r = id-in id there in (r.0, r.1, apart (index_of_id plan id) r.1)
+  first-new id there = let r = theirs.low id there in (r.0, r.1, apart (index_of_id plan id) r.1)
 
   first-takes : TakesWidget first_stage
   first-takes = record { amid = first-amid; todo_is = refl; done_is = λ id. refl; joins_are = refl }
@@ -331,7 +314,7 @@ module _ (plan : Plan) (sound : IsSound plan) (s : UpState) (up n : List ℕ) (s
   made-takes (id ∷ ids) st of takes = made-takes ids (with_id id st) (λ x there. of x (inr there)) (with-id st id takes (of id (inl refl)))
 
   takes : TakesWidget made_stage
-  takes = made-takes ids_of first_stage (λ id there. (id-in id there).1) first-takes
+  takes = made-takes ids_of first_stage (λ id there. (theirs.low id there).1) first-takes
 
   made-has : (ids : List ℕ) (st : Stage) (x : ℕ) → IsIn x ids ⊎ (st.has x ≡ true) → (after_ids ids st).has x ≡ true
   made-has [] st x (inl none) = absurd none
@@ -346,41 +329,21 @@ module _ (plan : Plan) (sound : IsSound plan) (s : UpState) (up n : List ℕ) (s
     where
       by : (is_among up (index_of_id plan id) ≡ true) ⊎ (is_among n (index_of_id plan id) ≡ true) → made_stage.has id ≡ true
       by (inl a) = made-has ids_of first_stage id (inr a)
-      by (inr b) = made-has ids_of first_stage id (inl (in-id id low b))
+      by (inr b) = made-has ids_of first_stage id (inl (theirs.all id low b))
 
   -- ---- joins
-
-  abbrev joins_of : List Join
-  joins_of = flat_map (buffer_joins g) n
-
-  record IsOf (j : Join) : Type 0 where
-    whole : IsIn j g.joins
-    index : ℕ
-    at : join_index g j ≡ Some index
-    among : is_among n index ≡ true
-
-  join-of : (j : Join) → IsIn j joins_of → IsOf j
-  join-of j there =
-      let r = flat-in (buffer_joins g) n j there in
-      let k = kept-in (is_join_at g r.0) g.joins j r.2 in
-      record { whole = k.0; index = r.0; at = join-at plan sound r.0 j k.1; among = in-among n r.0 r.1 }
 
   -- its ends are there
   join-has : (j : Join) → IsIn j joins_of → (made_stage.has j.source ≡ true) × (made_stage.has j.sink ≡ true)
   join-has j there =
-      let o = join-of j there in
+      let o = theirs.join j there in
       let e = ends-up plan sound (up ++ n) more j o.whole o.index o.at (among-both up n o.index ∙ or_right (is_among up o.index) (is_among n o.index) o.among) in
       let low = join-low plan sound j o.whole in
       (has-all j.source low.0 e.0, has-all j.sink low.1 e.1)
 
   -- it is at no buffer that is up
   join-apart : (j : Join) → IsIn j joins_of → is_join_of g up j ≡ false
-  join-apart j there = let o = join-of j there in ap (λ (x : Option ℕ). option_map_or (is_among up) x false) o.at ∙ apart o.index o.among
-
-  joins-once : AreOnce joins_of
-  joins-once = once-flat (buffer_joins g) n once
-      (λ i. once-filter (is_join_at g i) g.joins (whole-once plan sound))
-      (λ i k j a b. let p = join-at plan sound i j (kept-in (is_join_at g i) g.joins j a).1 in let q = join-at plan sound k j (kept-in (is_join_at g k) g.joins j b).1 in cc (sym p ∙ q))
+  join-apart j there = let o = theirs.join j there in ap (λ (x : Option ℕ). option_map_or (is_among up) x false) o.at ∙ apart o.index o.among
 
   abbrev joined_stage : List Join → Stage
   joined_stage done = record { has = made_stage.has; joins = flat_map (buffer_joins g) up ++ done; todo = todo_of; done = λ id. is_among up (index_of_id plan id) }
@@ -400,7 +363,7 @@ module _ (plan : Plan) (sound : IsSound plan) (s : UpState) (up n : List ℕ) (s
     where
       by : (j : Join) → IsIn j (flat_map (buffer_joins g) up) ⊎ IsIn j done → IsIn j g.joins × (made_stage.has j.source ≡ true) × (made_stage.has j.sink ≡ true)
       by j (inl a) = let r = up-joins-in j a in (r.0, takes.amid.there j.source r.1, takes.amid.there j.sink r.2)
-      by j (inr b) = let h = join-has j (within j b) in ((join-of j (within j b)).whole, h.0, h.1)
+      by j (inr b) = let h = join-has j (within j b) in ((theirs.join j (within j b)).whole, h.0, h.1)
 
       none : (js : List Join) → ((j : Join) → IsIn j js → IsIn j joins_of) → AllByRecursion (λ (j : Join). is_join_of g up j ≡ false) js
       none [] w = tt
@@ -440,14 +403,14 @@ module _ (plan : Plan) (sound : IsSound plan) (s : UpState) (up n : List ℕ) (s
     abbrev Arrives : Stage → There → Type 0
     Arrives st t = t ≡ at_stage plan kept st h
 
-    arrived : (st : Stage) (t : There) → IsAmid plan up n st → (st.has ≡ made_stage.has) → Arrives st t → IsMaking t
+    arrived : (st : Stage) (t : There) → IsAmid plan up n st → (st.has ≡ made_stage.has) → Arrives st t → Midway t
     arrived st t amid same is = (st, amid, subst (IsStage plan kept st) (sym is) (record { is = refl; heap = record { pieces = heap.pieces ∙ ap (λ (p : ℕ → Bool). filter p (widget_ids plan)) (sym same); sizes = heap.sizes } }))
 
     -- what the firmware says to a join
     join-said : (done rest : List Join) (j : Join) (t : There) → joins_of ≡ done ++ j ∷ rest → Arrives (joined_stage done) t → told (row (silent_state t) (Connect j.source j.sink)) ≡ Ok (at_stage plan kept (joined_stage (done ++ j ∷ [])) h)
     join-said done rest j t cut is =
         ap (λ (x : There). told (row (silent_state x) (Connect j.source j.sink))) is
-        ∙ join-told plan sound kept now (λ i there. (amid-now.joins i there).0) j (join-of j here).whole not-yet (join-has j here).0 (join-has j here).1 h stay
+        ∙ join-told plan sound kept now (λ i there. (amid-now.joins i there).0) j (theirs.join j here).whole not-yet (join-has j here).0 (join-has j here).1 h stay
         ∙ (λ i. Ok (at_stage plan kept (record { has = now.has; joins = append_assoc (flat_map (buffer_joins g) up) done (j ∷ []) i; todo = now.todo; done = now.done }) h))
       where
         in-done : (i : Join) → IsIn i done → IsIn i joins_of
@@ -477,46 +440,37 @@ module _ (plan : Plan) (sound : IsSound plan) (s : UpState) (up n : List ℕ) (s
             by (inl a) =
                 let r = flat-in (buffer_joins g) up j a in
                 let p = join-at plan sound r.0 j (kept-in (is_join_at g r.0) g.joins j r.2).1 in
-                let o = join-of j here in
+                let o = theirs.join j here in
                 let same : r.0 ≡ o.index = cc (sym p ∙ o.at) in
                 true≢false (sym (in-among up r.0 r.1) ∙ ap (is_among up) same ∙ apart o.index o.among)
-            by (inr b) = once-split done j rest (subst AreOnce cut joins-once) b
+            by (inr b) = once-split done j rest (subst AreOnce cut theirs.joins_once) b
 
         stay : would_stay (view_of (silent_state (at_stage plan kept now h))) j.source j.sink ≡ true
-        stay = ap (stays (view_of (silent_state (at_stage plan kept now h)))) (graph-joined plan sound kept now (λ i there. (amid-now.joins i there).0) j (join-of j here).whole not-yet)
+        stay = ap (stays (view_of (silent_state (at_stage plan kept now h)))) (graph-joined plan sound kept now (λ i there. (amid-now.joins i there).0) j (theirs.join j here).whole not-yet)
             ∙ ways-stay plan sound kept up serving.held serving.shapes (λ (p : StreamPair). now.has p.0.host) (stage_graph plan kept now) (stage_graph plan kept (with_joined j now))
             (stage-between plan sound kept up n now amid-now) (stage-between plan sound kept up n (with_joined j now) amid-next)
           where
             amid-next : IsAmid plan up n (with_joined j now)
             amid-next = subst (IsAmid plan up n) (λ i. record { has = now.has; joins = sym (append_assoc (flat_map (buffer_joins g) up) done (j ∷ [])) i; todo = now.todo; done = now.done }) (joined-amid (done ++ j ∷ []) in-next)
 
-    joins-run : (done rest : List Join) (t : There) → joins_of ≡ done ++ rest → Arrives (joined_stage done) t → Runs plan IsMaking (with_there plan s t) (join_acts rest) (Arrives (joined_stage joins_of))
-    joins-run done [] t cut is = is ∙ (λ i. at_stage plan kept (joined_stage ((sym (append-nil done) ∙ sym cut) i)) h)
-    joins-run done (j ∷ rest) t cut is = (
+    joins-lead : (done rest : List Join) (t : There) → joins_of ≡ done ++ rest → Arrives (joined_stage done) t → LeadsTo plan Midway (with_there plan s t) (join_acts rest) (Arrives (joined_stage joins_of))
+    joins-lead done [] t cut is = is ∙ (λ i. at_stage plan kept (joined_stage ((sym (append-nil done) ∙ sym cut) i)) h)
+    joins-lead done (j ∷ rest) t cut is = (
       arrived (joined_stage done) t (joined-amid done (λ i there. subst (IsIn i) (sym cut) (in-left done (j ∷ rest) i there))) refl is,
       refl,
-      λ free.
-          joins-run (done ++ j ∷ []) rest (there_after plan (acts.Join j.source j.sink) t) (cut ∙ sym (append_assoc done (j ∷ []) rest))
-          (left-told t (row (silent_state t) (Connect j.source j.sink)) (at_stage plan kept (joined_stage (done ++ j ∷ [])) h) (join-said done rest j t cut is)),
-    )
-
-    joins-asked : (done rest : List Join) (t : There) (behind : List Act) → joins_of ≡ done ++ rest → Arrives (joined_stage done) t → ((f : FwState) → StagedFirst behind f) →
-        ((x : There) → Arrives (joined_stage joins_of) x → AreAnswered plan (with_there plan s x) behind) → AreAnswered plan (with_there plan s t) (join_acts rest ++ behind)
-    joins-asked done [] t behind cut is loose then = then t (is ∙ (λ i. at_stage plan kept (joined_stage ((sym (append-nil done) ∙ sym cut) i)) h))
-    joins-asked done (j ∷ rest) t behind cut is loose then = (
       join-fits plan sound j.source j.sink low.0 low.1,
       λ f same staged. own-told plan (with_there plan s t) (acts.Join j.source j.sink) tt refl f same refl (at_stage plan kept (joined_stage (done ++ j ∷ [])) h) (join-said done rest j t cut is),
       λ f after staged passed. first rest after,
       λ free.
-          joins-asked (done ++ j ∷ []) rest (there_after plan (acts.Join j.source j.sink) t) behind (cut ∙ sym (append_assoc done (j ∷ []) rest))
-          (left-told t (row (silent_state t) (Connect j.source j.sink)) (at_stage plan kept (joined_stage (done ++ j ∷ [])) h) (join-said done rest j t cut is)) loose then,
+          joins-lead (done ++ j ∷ []) rest (there_after plan (acts.Join j.source j.sink) t) (cut ∙ sym (append_assoc done (j ∷ []) rest))
+          (left-told t (row (silent_state t) (Connect j.source j.sink)) (at_stage plan kept (joined_stage (done ++ j ∷ [])) h) (join-said done rest j t cut is)),
     )
       where
         low : (j.source < length plan.widgets) × (j.sink < length plan.widgets)
-        low = join-low plan sound j (join-of j (subst (IsIn j) (sym cut) (in-right done (j ∷ rest) j (inl refl)))).whole
+        low = join-low plan sound j (theirs.join j (subst (IsIn j) (sym cut) (in-right done (j ∷ rest) j (inl refl)))).whole
 
-        first : (js : List Join) (f : FwState) → StagedFirst (join_acts js ++ behind) f
-        first [] f = loose f
+        first : (js : List Join) (f : FwState) → StagedFirst (join_acts js) f
+        first [] f = tt
         first (x ∷ xs) f = tt
 
     -- ---- controls
@@ -529,45 +483,16 @@ module _ (plan : Plan) (sound : IsSound plan) (s : UpState) (up n : List ℕ) (s
     control-facts : AllByRecursion (λ (p : Pair). control_at plan kept p.0.comp ≡ Some p) (controls_of plan kept)
     control-facts = each-found comp_at (controls_of plan kept) (zip-ascends plan.controls kept.controls sound.controls_ascend)
 
-    puts-run : (todo : List Pair) (t : There) → ((p : Pair) → IsIn p todo → IsIn p todo_of) → Ascends comp_at todo → Arrives (put_stage todo) t → Runs plan IsMaking (with_there plan s t) (flat_map control_acts todo) (Arrives (put_stage []))
-    puts-run [] t within rising is = is
-    puts-run (p ∷ todo) t within rising is =
-        runs-on plan IsMaking (Arrives (put_stage todo)) (Arrives (put_stage [])) (with_there plan s t) (control_acts p) (flat_map control_acts todo)
-        (subst (λ (x : There). Runs plan IsMaking (with_there plan s x) (control_acts p) (Arrives (put_stage todo))) (sym is)
-        (put-runs plan sound s IsMaking (joined_stage joins_of) (λ j there. ((joined-amid joins_of (λ i here. here)).joins j there).0) h p.0.comp p.1 todo (first-apart comp_at p todo rising) has p.0.kind live found set takes-it
+    puts-lead : (todo : List Pair) (t : There) → ((p : Pair) → IsIn p todo → IsIn p todo_of) → Ascends comp_at todo → Arrives (put_stage todo) t → LeadsTo plan Midway (with_there plan s t) (flat_map control_acts todo) (Arrives (put_stage []))
+    puts-lead [] t within rising is = is
+    puts-lead (p ∷ todo) t within rising is =
+        leads-on plan Midway (Arrives (put_stage todo)) (Arrives (put_stage [])) (with_there plan s t) (control_acts p) (flat_map control_acts todo)
+        (subst (λ (x : There). LeadsTo plan Midway (with_there plan s x) (control_acts p) (Arrives (put_stage todo))) (sym is)
+        (put-leads plan sound s Midway (joined_stage joins_of) (λ j there. ((joined-amid joins_of (λ i here. here)).joins j there).0) h p.0.comp p.1 todo (first-apart comp_at p todo rising) has p.0.kind live found set takes-it
         (arrived (put_stage (p ∷ todo)) (at_stage plan kept (put_stage (p ∷ todo)) h) (put-amid (p ∷ todo) within) refl refl)
         (put-leaves plan kept control-facts p set) (part-leaves plan kept control-facts p set)))
-        (λ x arrives. puts-run todo x (λ q there. within q (inr there)) (rest-ascends comp_at p todo rising) arrives)
-      where
-        mine : IsIn p (controls_of plan kept) × (is_control_of plan n p ≡ true)
-        mine = kept-in (is_control_of plan n) (controls_of plan kept) p (within p (inl refl))
-
-        live : IsLive g p.0
-        live = in-all (λ (x : Pair). IsLive g x.0) (controls_of plan kept) p (all-first (IsLive g) plan.controls kept.controls sound.live) mine.0
-
-        found : control_of plan p.0.comp ≡ Some p.0
-        found = in-all (λ (x : Pair). control_of plan x.0.comp ≡ Some x.0) (controls_of plan kept) p (all-first (λ (k : ControlPlan). control_of plan k.comp ≡ Some k) plan.controls kept.controls (each-found (λ (k : ControlPlan). k.comp) plan.controls sound.controls_ascend)) mine.0
-
-        set : control_at plan kept p.0.comp ≡ Some p
-        set = in-all (λ (x : Pair). control_at plan kept x.0.comp ≡ Some x) (controls_of plan kept) p control-facts mine.0
-
-        takes-it : Takes p.0.kind p.1
-        takes-it = in-all (λ (x : Pair). Takes x.0.kind x.1) (controls_of plan kept) p (all-take g plan.controls kept.controls sound.live serving.controls) mine.0
-
-        has : made_stage.has p.0.comp ≡ true
-        has = has-all p.0.comp (component-found plan sound p.0.comp live.comp live.there).low
-            (among-both up n (index_of_id plan p.0.comp) ∙ or_right (is_among up (index_of_id plan p.0.comp)) (is_among n (index_of_id plan p.0.comp)) (sym (comp-up-by plan sound n p.0.comp live.comp live.there) ∙ mine.1))
-
-    puts-asked : (todo : List Pair) (t : There) (behind : List Act) → ((p : Pair) → IsIn p todo → IsIn p todo_of) → Ascends comp_at todo → Arrives (put_stage todo) t → ((f : FwState) → StagedFirst behind f) →
-        ((x : There) → Arrives (put_stage []) x → AreAnswered plan (with_there plan s x) behind) → AreAnswered plan (with_there plan s t) (flat_map control_acts todo ++ behind)
-    puts-asked [] t behind within rising is loose then = then t is
-    puts-asked (p ∷ todo) t behind within rising is loose then =
-        subst (λ (acts_now : List Act). AreAnswered plan (with_there plan s t) acts_now) (sym (append_assoc (control_acts p) (flat_map control_acts todo) behind))
-        (subst (λ (x : There). AreAnswered plan (with_there plan s x) (control_acts p ++ (flat_map control_acts todo ++ behind))) (sym is)
-        (put-asked plan sound s IsMaking (joined_stage joins_of) (λ j there. ((joined-amid joins_of (λ i here. here)).joins j there).0) h p.0.comp p.1 todo (first-apart comp_at p todo rising) has p.0.kind live found set takes-it
-        (put-leaves plan kept control-facts p set) (part-leaves plan kept control-facts p set)
-        (flat_map control_acts todo ++ behind) (puts-loose behind loose todo)
-        (puts-asked todo (at_stage plan kept (put_stage todo) h) behind (λ q there. within q (inr there)) (rest-ascends comp_at p todo rising) refl loose then)))
+        (λ f. subst (λ (xs : List Act). StagedFirst xs f) (append-nil (flat_map control_acts todo)) (puts-loose [] (λ g. tt) todo f))
+        (λ x arrives. puts-lead todo x (λ q there. within q (inr there)) (rest-ascends comp_at p todo rising) arrives)
       where
         mine : IsIn p (controls_of plan kept) × (is_control_of plan n p ≡ true)
         mine = kept-in (is_control_of plan n) (controls_of plan kept) p (within p (inl refl))
@@ -622,30 +547,18 @@ module _ (plan : Plan) (sound : IsSound plan) (s : UpState) (up n : List ℕ) (s
             ∙ has-at (is_among (up ++ n)) (index_at g p.sched) named.sched.pipe (comp-named plan sound up p.sched named.sched named.scheduled)
             (in-all (λ (x : Pipe). is_among (up ++ n) x.index ≡ true → HasAt (is_among (up ++ n)) (index_at g x.sched)) g.pipes p more.schedulers mine.0 (both p.index mine.1))
 
-    finishes-run : (ps : List Pipe) (done : ℕ → Bool) (t : There) → ((p : Pipe) → IsIn p ps → IsIn p pipes_of) → Ascends (λ (p : Pipe). p.id) ps → ((id : ℕ) → is_among up (index_of_id plan id) ≡ true → done id ≡ true) →
-        ((p : Pipe) → IsIn p ps → done p.id ≡ false) → Arrives (finish_stage done) t → Runs plan IsMaking (with_there plan s t) (map Finish (map (λ (p : Pipe). p.id) ps)) (Arrives (finish_stage (done_with (map (λ (p : Pipe). p.id) ps) done)))
-    finishes-run [] done t within rising keeps undone is = is
-    finishes-run (p ∷ ps) done t within rising keeps undone is = (
+    finishes-lead : (ps : List Pipe) (done : ℕ → Bool) (t : There) → ((p : Pipe) → IsIn p ps → IsIn p pipes_of) → Ascends (λ (p : Pipe). p.id) ps → ((id : ℕ) → is_among up (index_of_id plan id) ≡ true → done id ≡ true) →
+        ((p : Pipe) → IsIn p ps → done p.id ≡ false) → (End : There → Type 0) → ((x : There) → Arrives (finish_stage (done_with (map (λ (p : Pipe). p.id) ps) done)) x → End x) → Arrives (finish_stage done) t →
+        LeadsTo plan Midway (with_there plan s t) (map Finish (map (λ (p : Pipe). p.id) ps)) End
+    finishes-lead [] done t within rising keeps undone End ends is = ends t is
+    finishes-lead (p ∷ ps) done t within rising keeps undone End ends is = (
       arrived (finish_stage done) t (finish-amid done keeps) refl is,
       refl,
-      λ free.
-          finishes-run ps (λ x. (x == p.id) || done x) (there_after plan (Finish p.id) t) (λ q there. within q (inr there)) (rest-ascends (λ (q : Pipe). q.id) p ps rising) (λ id in_up. or_right (id == p.id) (done id) (keeps id in_up)) still-open
-          (left-told t (row (silent_state t) (PipeComplete p.id)) (at_stage plan kept (finish_stage (λ x. (x == p.id) || done x)) h) (finish-said p done t (within p (inl refl)) keeps (undone p (inl refl)) is)),
-    )
-      where
-        still-open : (q : Pipe) → IsIn q ps → ((q.id == p.id) || done q.id) ≡ false
-        still-open q there =
-            or_from (q.id == p.id) (done q.id) (false_from_ne_true (q.id == p.id) (λ e. true≢false (sym (in-any (λ (x : Pipe). x.id == p.id) ps q there e) ∙ first-apart (λ (x : Pipe). x.id) p ps rising))) (undone q (inr there))
-
-    finishes-asked : (ps : List Pipe) (done : ℕ → Bool) (t : There) → ((p : Pipe) → IsIn p ps → IsIn p pipes_of) → Ascends (λ (p : Pipe). p.id) ps → ((id : ℕ) → is_among up (index_of_id plan id) ≡ true → done id ≡ true) →
-        ((p : Pipe) → IsIn p ps → done p.id ≡ false) → Arrives (finish_stage done) t → AreAnswered plan (with_there plan s t) (map Finish (map (λ (p : Pipe). p.id) ps))
-    finishes-asked [] done t within rising keeps undone is = tt
-    finishes-asked (p ∷ ps) done t within rising keeps undone is = (
       finish-fits plan sound p.id (pipeline-found plan sound p.id p found).low,
       λ f same staged. own-told plan (with_there plan s t) (Finish p.id) tt refl f same refl (at_stage plan kept (finish_stage (λ x. (x == p.id) || done x)) h) said,
       λ f after staged passed. first ps after,
       λ free.
-          finishes-asked ps (λ x. (x == p.id) || done x) (there_after plan (Finish p.id) t) (λ q there. within q (inr there)) (rest-ascends (λ (q : Pipe). q.id) p ps rising) (λ id in_up. or_right (id == p.id) (done id) (keeps id in_up)) still-open
+          finishes-lead ps (λ x. (x == p.id) || done x) (there_after plan (Finish p.id) t) (λ q there. within q (inr there)) (rest-ascends (λ (q : Pipe). q.id) p ps rising) (λ id in_up. or_right (id == p.id) (done id) (keeps id in_up)) still-open End ends
           (left-told t (row (silent_state t) (PipeComplete p.id)) (at_stage plan kept (finish_stage (λ x. (x == p.id) || done x)) h) said),
     )
       where
@@ -703,19 +616,43 @@ module _ (plan : Plan) (sound : IsSound plan) (s : UpState) (up n : List ℕ) (s
       by (inl a) = inr a
       by (inr b) = inl (in-map (λ (q : Pipe). q.id) pipes_of p (in-kept (λ (q : Pipe). is_among n q.index) g.pipes p there (ap (is_among n) (sym (own-index plan sound p there)) ∙ b)))
 
-  end-same : (h : HeapView) → at_stage plan kept last_stage h ≡ at_stage plan kept (up_stage plan (up ++ n)) h
-  end-same h = at-same plan sound kept last_stage (up_stage plan (up ++ n)) end-has (λ c there has. refl) (sym (flat-append (buffer_joins g) up n)) (λ p there has. end-done p there has) h
+  -- all is there that is up or of these, with these joins last
+  abbrev pub with_these : Stage
+  with_these = record { has = λ id. is_among (up ++ n) (index_of_id plan id); joins = flat_map (buffer_joins g) up ++ joins_of; todo = []; done = λ id. true }
+
+  end-same : (h : HeapView) → at_stage plan kept last_stage h ≡ at_stage plan kept with_these h
+  end-same h = at-same plan sound kept last_stage with_these end-has (λ c there has. refl) refl (λ p there has. end-done p there has) h
 
   -- ---- all of it
 
-  making-ends : (t : There) → IsStage plan kept made_stage t → Runs plan IsMaking (with_there plan s t)
-      (join_acts joins_of ++ (flat_map control_acts todo_of ++ map Finish (finish_ids g n))) (λ x. IsStage plan kept (up_stage plan (up ++ n)) x)
+  abbrev puts_then : List Act
+  puts_then = flat_map control_acts todo_of ++ map Finish (finish_ids g n)
+
+  finishes-loose : (ps : List Pipe) (f : FwState) → StagedFirst (map Finish (map (λ (p : Pipe). p.id) ps)) f
+  finishes-loose [] f = tt
+  finishes-loose (p ∷ ps) f = tt
+
+  puts-then-loose : (f : FwState) → StagedFirst puts_then f
+  puts-then-loose f = puts-loose (map Finish (finish_ids g n)) (finishes-loose pipes_of) todo_of f
+
+  joins-loose : (js : List Join) (f : FwState) → StagedFirst (join_acts js ++ puts_then) f
+  joins-loose [] f = puts-then-loose f
+  joins-loose (j ∷ js) f = tt
+
+  -- the first of them asks for nothing that is staged
+  pub lists-loose : (f : FwState) → StagedFirst (making_lists plan kept ids_of joins_of n) f
+  lists-loose f = by ids_of
+    where
+      by : (ids : List ℕ) → StagedFirst (map Make ids ++ (join_acts joins_of ++ puts_then)) f
+      by [] = joins-loose joins_of f
+      by (id ∷ ids) = tt
+
+  making-ends : (t : There) → IsStage plan kept made_stage t → LeadsTo plan Midway (with_there plan s t) (join_acts joins_of ++ puts_then) (λ x. IsStage plan kept with_these x)
   making-ends t is =
-      runs-on plan IsMaking (Arrives h heap (joined_stage joins_of)) Last (with_there plan s t) (join_acts joins_of) (flat_map control_acts todo_of ++ map Finish (finish_ids g n))
-      (joins-run h heap [] joins_of t refl (joins-begin t is))
-      (λ x arrives. runs-on plan IsMaking (Arrives h heap (put_stage [])) Last (with_there plan s x) (flat_map control_acts todo_of) (map Finish (finish_ids g n))
-      (puts-run h heap todo_of x (λ p there. there) todo-ascends arrives)
-      (λ y put. weaken (map Finish (finish_ids g n)) (with_there plan s y) (finishes-run h heap pipes_of up_done y (λ p there. there) (Ascends-filter (λ (p : Pipe). is_among n p.index) (λ (p : Pipe). p.id) g.pipes sound.pipes_ascend) (λ id in_up. in_up) none-open put)))
+      leads-on plan Midway (Arrives h heap (joined_stage joins_of)) Last (with_there plan s t) (join_acts joins_of) puts_then (joins-lead h heap [] joins_of t refl (joins-begin t is)) puts-then-loose
+      (λ x arrives. leads-on plan Midway (Arrives h heap (put_stage [])) Last (with_there plan s x) (flat_map control_acts todo_of) (map Finish (finish_ids g n))
+      (puts-lead h heap todo_of x (λ p there. there) todo-ascends arrives) (finishes-loose pipes_of)
+      (λ y put. finishes-lead h heap pipes_of up_done y (λ p there. there) (Ascends-filter (λ (p : Pipe). is_among n p.index) (λ (p : Pipe). p.id) g.pipes sound.pipes_ascend) (λ id in_up. in_up) none-open Last arrives-last put))
     where
       h : HeapView
       h = t.heap
@@ -724,7 +661,7 @@ module _ (plan : Plan) (sound : IsSound plan) (s : UpState) (up n : List ℕ) (s
       heap = is.heap
 
       Last : There → Type 0
-      Last x = IsStage plan kept (up_stage plan (up ++ n)) x
+      Last x = IsStage plan kept with_these x
 
       todo-ascends : Ascends comp_at todo_of
       todo-ascends = Ascends-filter (is_control_of plan n) comp_at (controls_of plan kept) (zip-ascends plan.controls kept.controls sound.controls_ascend)
@@ -735,76 +672,54 @@ module _ (plan : Plan) (sound : IsSound plan) (s : UpState) (up n : List ℕ) (s
           ap (is_among up) (own-index plan sound p r.0) ∙ apart p.index r.1
 
       arrives-last : (x : There) → Arrives h heap last_stage x → Last x
-      arrives-last x is = subst Last (sym (is ∙ end-same h)) (record { is = refl; heap = heap-same plan sound kept last_stage (up_stage plan (up ++ n)) end-has h (record { pieces = heap.pieces; sizes = heap.sizes }) })
+      arrives-last x is = subst Last (sym (is ∙ end-same h)) (record { is = refl; heap = heap-same plan sound kept last_stage with_these end-has h (record { pieces = heap.pieces; sizes = heap.sizes }) })
 
-      -- what it ends in is what is up
-      weaken : (xs : List Act) (u : UpState) → Runs plan IsMaking u xs (Arrives h heap last_stage) → Runs plan IsMaking u xs Last
-      weaken [] u runs = arrives-last u.there runs
-      weaken (x ∷ xs) u runs = (runs.0, runs.1, λ free. weaken xs (with_there plan u (there_after plan x u.there)) (runs.2 free))
+  pub lists-lead : IsStage plan kept (up_stage plan up) s.there → LeadsTo plan Midway s (making_lists plan kept ids_of joins_of n) (λ t. IsStage plan kept with_these t)
+  lists-lead is =
+      leads-on plan Midway (λ t. IsStage plan kept made_stage t) (λ t. IsStage plan kept with_these t) s (map Make ids_of) (join_acts joins_of ++ puts_then)
+      (makes-lead ids_of first_stage s.there theirs.once first-new first-takes (record { is = is.is ∙ begin-same s.there.heap; heap = record { pieces = is.heap.pieces; sizes = is.heap.sizes } }))
+      (joins-loose joins_of) making-ends
 
-  pub makes-up : IsStage plan kept (up_stage plan up) s.there → Runs plan IsMaking s (making_acts plan kept n) (λ t. IsStage plan kept (up_stage plan (up ++ n)) t)
-  makes-up is =
-      runs-on plan IsMaking (λ t. IsStage plan kept made_stage t) (λ t. IsStage plan kept (up_stage plan (up ++ n)) t) s (map Make ids_of) (join_acts joins_of ++ (flat_map control_acts todo_of ++ map Finish (finish_ids g n)))
-      (makes-run ids_of first_stage s.there ids-once first-new first-takes (record { is = is.is ∙ begin-same s.there.heap; heap = record { pieces = is.heap.pieces; sizes = is.heap.sizes } }))
-      making-ends
+-- ---- index by index
 
-  -- the firmware answers all of it as the rules say
-  ends-asked : (t : There) → IsStage plan kept made_stage t → AreAnswered plan (with_there plan s t) (join_acts joins_of ++ (flat_map control_acts todo_of ++ map Finish (finish_ids g n)))
-  ends-asked t is =
-      joins-asked h heap [] joins_of t (flat_map control_acts todo_of ++ map Finish (finish_ids g n)) refl (joins-begin t is) (λ f. loose-puts f)
-      (λ x arrives. puts-asked h heap todo_of x (map Finish (finish_ids g n)) (λ p there. there) todo-ascends arrives (loose-finishes pipes_of)
-      (λ y put. finishes-asked h heap pipes_of up_done y (λ p there. there) (Ascends-filter (λ (p : Pipe). is_among n p.index) (λ (p : Pipe). p.id) g.pipes sound.pipes_ascend) (λ id in_up. in_up) none-open put))
-    where
-      h : HeapView
-      h = t.heap
+module _ (plan : Plan) (sound : IsSound plan) (s : UpState) (up n : List ℕ) (serving : IsServing plan s.kept up) (apart : AreApart up n) (more : HasBrought plan.graph (is_among (up ++ n))) (once : AreOnce n) where
+  abbrev pub IsMaking : There → Type 0
+  IsMaking t = IsMidway plan s.kept up n t
 
-      heap : IsHeapAt plan made_stage h
-      heap = is.heap
+  own-lists : AreTheirs plan n (widgets_of plan n) (flat_map (buffer_joins plan.graph) n)
+  own-lists = record {
+    low = λ id there.
+        (let r = flat-in (widgets_at plan) n id there in
+        let k = kept-in (λ (x : ℕ). index_of_id plan x == r.0) (widget_ids plan) id r.2 in
+        ((let low : id < 0 + length plan.widgets = range-low 0 (length plan.widgets) id k.0 in omega (arith, low)), ap (is_among n) (eqb-true (index_of_id plan id) r.0 k.1) ∙ in-among n r.0 r.1));
+    all = λ id low is.
+        in-flat (widgets_at plan) n (index_of_id plan id) id (among-in n (index_of_id plan id) is)
+        (in-kept (λ (x : ℕ). index_of_id plan x == index_of_id plan id) (widget_ids plan) id (low-range 0 (length plan.widgets) id (omega arith) (omega (arith, low))) (eq-eqb (index_of_id plan id) (index_of_id plan id) refl));
+    once = once-flat (widgets_at plan) n once
+        (λ i. once-filter (λ (x : ℕ). index_of_id plan x == i) (widget_ids plan) (range-once 0 (length plan.widgets)))
+        (λ i k id a b. sym (eqb-true (index_of_id plan id) i (kept-in (λ (x : ℕ). index_of_id plan x == i) (widget_ids plan) id a).1) ∙ eqb-true (index_of_id plan id) k (kept-in (λ (x : ℕ). index_of_id plan x == k) (widget_ids plan) id b).1);
+    join = λ j there.
+        (let r = flat-in (buffer_joins plan.graph) n j there in
+        let k = kept-in (is_join_at plan.graph r.0) plan.graph.joins j r.2 in
+        record { whole = k.0; index = r.0; at = join-at plan sound r.0 j k.1; among = in-among n r.0 r.1 });
+    joins_once = once-flat (buffer_joins plan.graph) n once
+        (λ i. once-filter (is_join_at plan.graph i) plan.graph.joins (whole-once plan sound))
+        (λ i k j a b.
+        (let p = join-at plan sound i j (kept-in (is_join_at plan.graph i) plan.graph.joins j a).1 in
+        let q = join-at plan sound k j (kept-in (is_join_at plan.graph k) plan.graph.joins j b).1 in
+        let one : Some i ≡ Some k = sym p ∙ q in cc one));
+  }
 
-      todo-ascends : Ascends comp_at todo_of
-      todo-ascends = Ascends-filter (is_control_of plan n) comp_at (controls_of plan kept) (zip-ascends plan.controls kept.controls sound.controls_ascend)
+  pub making-leads : IsStage plan s.kept (up_stage plan up) s.there → LeadsTo plan IsMaking s (making_acts plan s.kept n) (λ t. IsStage plan s.kept (up_stage plan (up ++ n)) t)
+  making-leads is =
+      subst (λ (js : List Join). LeadsTo plan IsMaking s (making_acts plan s.kept n) (λ t. IsStage plan s.kept (record { has = λ id. is_among (up ++ n) (index_of_id plan id); joins = js; todo = []; done = λ id. true }) t)) (sym (flat_map-append (buffer_joins plan.graph) up n))
+      (lists-lead plan sound s up n serving apart more (widgets_of plan n) (flat_map (buffer_joins plan.graph) n) own-lists is)
 
-      none-open : (p : Pipe) → IsIn p pipes_of → up_done p.id ≡ false
-      none-open p there =
-          let r = kept-in (λ (q : Pipe). is_among n q.index) g.pipes p there in
-          ap (is_among up) (own-index plan sound p r.0) ∙ apart p.index r.1
+  pub makes-up : IsStage plan s.kept (up_stage plan up) s.there → Runs plan IsMaking s (making_acts plan s.kept n) (λ t. IsStage plan s.kept (up_stage plan (up ++ n)) t)
+  makes-up is = leads-runs plan IsMaking IsMaking (λ t. IsStage plan s.kept (up_stage plan (up ++ n)) t) (λ t mid. mid) s (making_acts plan s.kept n) (making-leads is)
 
-      loose-finishes : (ps : List Pipe) (f : FwState) → StagedFirst (map Finish (map (λ (p : Pipe). p.id) ps)) f
-      loose-finishes [] f = tt
-      loose-finishes (p ∷ ps) f = tt
+  pub makes-answered : IsStage plan s.kept (up_stage plan up) s.there → AreAnswered plan s (making_acts plan s.kept n)
+  makes-answered is = leads-answered plan IsMaking (λ t. IsStage plan s.kept (up_stage plan (up ++ n)) t) s (making_acts plan s.kept n) (making-leads is)
 
-      loose-puts : (f : FwState) → StagedFirst (flat_map control_acts todo_of ++ map Finish (finish_ids g n)) f
-      loose-puts f = puts-loose (map Finish (finish_ids g n)) (loose-finishes pipes_of) todo_of f
-
-  pub makes-answered : IsStage plan kept (up_stage plan up) s.there → AreAnswered plan s (making_acts plan kept n)
-  makes-answered is =
-      makes-asked ids_of first_stage s.there (join_acts joins_of ++ (flat_map control_acts todo_of ++ map Finish (finish_ids g n))) ids-once first-new first-takes (record { is = is.is ∙ begin-same s.there.heap; heap = record { pieces = is.heap.pieces; sizes = is.heap.sizes } })
-      loose-joins ends-asked
-    where
-      loose-finishes : (ps : List Pipe) (f : FwState) → StagedFirst (map Finish (map (λ (p : Pipe). p.id) ps)) f
-      loose-finishes [] f = tt
-      loose-finishes (p ∷ ps) f = tt
-
-      loose-joins : (f : FwState) → StagedFirst (join_acts joins_of ++ (flat_map control_acts todo_of ++ map Finish (finish_ids g n))) f
-      loose-joins f = by joins_of (puts-loose (map Finish (finish_ids g n)) (loose-finishes pipes_of) todo_of f)
-        where
-          by : (js : List Join) → StagedFirst (flat_map control_acts todo_of ++ map Finish (finish_ids g n)) f → StagedFirst (join_acts js ++ (flat_map control_acts todo_of ++ map Finish (finish_ids g n))) f
-          by [] rest = rest
-          by (j ∷ js) rest = tt
-
-  -- the first of them asks for nothing that is staged
-  pub making-loose : (f : FwState) → StagedFirst (making_acts plan kept n) f
-  making-loose f = by ids_of (joined joins_of (puts-loose (map Finish (finish_ids g n)) (finished pipes_of) todo_of f))
-    where
-      finished : (ps : List Pipe) (f : FwState) → StagedFirst (map Finish (map (λ (p : Pipe). p.id) ps)) f
-      finished [] f = tt
-      finished (p ∷ ps) f = tt
-
-      joined : (js : List Join) → StagedFirst (flat_map control_acts todo_of ++ map Finish (finish_ids g n)) f → StagedFirst (join_acts js ++ (flat_map control_acts todo_of ++ map Finish (finish_ids g n))) f
-      joined [] rest = rest
-      joined (j ∷ js) rest = tt
-
-      by : (ids : List ℕ) → StagedFirst (join_acts joins_of ++ (flat_map control_acts todo_of ++ map Finish (finish_ids g n))) f →
-          StagedFirst (map Make ids ++ (join_acts joins_of ++ (flat_map control_acts todo_of ++ map Finish (finish_ids g n)))) f
-      by [] rest = rest
-      by (id ∷ ids) rest = tt
+  pub making-loose : (f : FwState) → StagedFirst (making_acts plan s.kept n) f
+  making-loose f = lists-loose plan sound s up n serving apart more (widgets_of plan n) (flat_map (buffer_joins plan.graph) n) own-lists f

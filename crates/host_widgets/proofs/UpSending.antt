@@ -38,7 +38,7 @@ abbrev pub StagedFirst : List Act → FwState → Type 0
 StagedFirst [] f = Unit {0}
 StagedFirst (act ∷ acts) f = Staged act f
 
-staged-still : (act : Act) (f g : FwState) → g.staging ≡ f.staging → Staged act f → Staged act g
+pub staged-still : (act : Act) (f g : FwState) → g.staging ≡ f.staging → Staged act f → Staged act g
 staged-still (Part id blob k) f g same staged = λ some. ap (λ (ss : List Staging). find (λ (s : Staging). s.eq == id) ss) same ∙ staged some
 staged-still act f g same staged = tt
 
@@ -108,14 +108,7 @@ module _ (plan : Plan) where
       -- a fault ends it
       ends-of : (fault : HostFault) → Left plan u act means fits answer w mid f on x (Err fault) → EndsThere (Err fault) u mid
       ends-of faults.LinkDown left = left
-      ends-of (faults.Refused e) left = (before plan u act means fits answer w mid f on x, left, same)
-      ends-of faults.NotLoaded left = (before plan u act means fits answer w mid f on x, left, same)
-      ends-of faults.Loaded left = (before plan u act means fits answer w mid f on x, left, same)
-      ends-of (faults.NoSuch name) left = (before plan u act means fits answer w mid f on x, left, same)
-      ends-of (faults.State found) left = (before plan u act means fits answer w mid f on x, left, same)
-      ends-of faults.Off left = (before plan u act means fits answer w mid f on x, left, same)
-      ends-of (faults.Range k) left = (before plan u act means fits answer w mid f on x, left, same)
-      ends-of (faults.Blob k) left = (before plan u act means fits answer w mid f on x, left, same)
+      ends-of fault left = (before plan u act means fits answer w mid f on x, left, same)
 
       failed-so : (fault : HostFault) → came_so ≡ Err fault → passed ≡ [] → v ≡ mid → result ≡ Err fault → HasSent u (act ∷ acts) passed w v result
       failed-so fault is none stays told_is = whole-list [] (subst (AreFree u) (sym none) tt) (subst (All []) (sym is) (subst (Behind [] (Err fault)) (sym (ends-at fault))

@@ -1,5 +1,5 @@
 -- How far a firmware is while pipelines are made or unmade.
-use Rattle.std.proofs.Common.{◌≡◌, ℕ, List, [], map, filter, Bool, true, false, ◌||◌}
+use Rattle.std.proofs.Common.{Some, ◌≡◌, ℕ, List, [], map, filter, Bool, true, false, ◌||◌}
 use Rattle.std.specs.Option.{option_map_or}
 use Rattle.std.specs.List.{zip, flat_map, AllByRecursion}
 use Rattle.sof_base.specs.Holes.{rounded}
@@ -103,4 +103,12 @@ pub record IsAmid (plan : Plan) (up n : List ℕ) (st : Stage) : Type 0 where
   pub joins : (j : Join) → IsIn j st.joins → IsIn j plan.graph.joins × (st.has j.source ≡ true) × (st.has j.sink ≡ true)
   pub rest : filter (is_join_of plan.graph up) st.joins ≡ flat_map (buffer_joins plan.graph) up
   pub todo : (p : Pair) → IsIn p st.todo → is_among up (index_of_id plan p.0.comp) ≡ false
+  pub done : (id : ℕ) → is_among up (index_of_id plan id) ≡ true → st.done id ≡ true
+
+-- A stage at which all is there of what is up: its widgets, and each join at its buffers; and its pipelines are complete. Each join is
+-- one of the graph.
+pub record HasUp (plan : Plan) (up : List ℕ) (st : Stage) : Type 0 where
+  pub there : (id : ℕ) → is_among up (index_of_id plan id) ≡ true → st.has id ≡ true
+  pub whole : (j : Join) → IsIn j st.joins → IsIn j plan.graph.joins
+  pub joined : (j : Join) (i : ℕ) → IsIn j plan.graph.joins → join_index plan.graph j ≡ Some i → is_among up i ≡ true → IsIn j st.joins
   pub done : (id : ℕ) → is_among up (index_of_id plan id) ≡ true → st.done id ≡ true

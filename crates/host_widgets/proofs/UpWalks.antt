@@ -1,5 +1,5 @@
 -- What acts and routines leave of a host that makes pipelines on use.
-use Rattle.std.proofs.Common.{◌≡◌, refl, sym, subst, ◌∙◌, Bool, false, List, [], ◌∷◌, ◌++◌, Some, None, Ok, Err}
+use Rattle.std.proofs.Common.{◌≡◌, refl, sym, subst, ◌∙◌, Bool, false, List, [], ◌∷◌, Some, None, Ok, Err}
 use Rattle.std.specs.Prelude.{Option}
 use Rattle.sof_base.specs.declared.errno.Errno.{Errno}
 use Rattle.mbox_link.specs.declared.fates.Fate.{Fate}
@@ -32,13 +32,6 @@ module _ (plan : Plan) where
   abbrev pub Runs : (There → Type 0) → UpState → List Act → (There → Type 0) → Type 0
   Runs Mid s [] End = End s.there
   Runs Mid s (act ∷ acts) End = Mid s.there × (after plan act s.kept ≡ s.kept) × (up_own plan s act ≡ None → Runs Mid (with_there s (there_after plan act s.there)) acts End)
-
-  -- acts of the ordinary host after such acts
-  pub runs-on : (Mid End Last : There → Type 0) (s : UpState) (acts more : List Act) → Runs Mid s acts End →
-      ((t : There) → End t → Runs Mid (with_there s t) more Last) → Runs Mid s (acts ++ more) Last
-  runs-on Mid End Last s [] more runs then = then s.there runs
-  runs-on Mid End Last s (act ∷ acts) more runs then =
-      (runs.0, runs.1, λ free. runs-on Mid End Last (with_there s (there_after plan act s.there)) acts more (runs.2 free) (λ t end. then t end))
 
   -- the result of a walk
   abbrev pub Met : (There → Type 0) → (There → Type 0) → Outcome → There → Type 0

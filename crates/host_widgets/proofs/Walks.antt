@@ -24,10 +24,7 @@ use Rattle.host_widgets.specs.Walk.{goes_past}
 use Rattle.host_widgets.specs.declared.kept.Record.{Record}
 use Rattle.mbox_link.specs.Meetings.{Meeting}
 use Rattle.host_widgets.proofs.Exchanges.{state_of, came, Came-on}
-
-pub flat_map-append : {X Y : Type 0} (f : X → List Y) (xs ys : List X) → flat_map f (xs ++ ys) ≡ flat_map f xs ++ flat_map f ys
-flat_map-append f [] ys = refl
-flat_map-append f (x ∷ xs) ys = ap (λ zs. f x ++ zs) (flat_map-append f xs ys) ∙ sym (append_assoc (f x) (flat_map f xs) (flat_map f ys))
+use Rattle.std.proofs.lemmas.Grind.{flat_map-append}
 
 abbrev pub passing : Outcome
 passing = Ok tt

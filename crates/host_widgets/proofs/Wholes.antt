@@ -1,5 +1,5 @@
--- All that a sound plan has is of one of its pipelines: the group of all of them has everything, and so to bring a device up makes it.
-use Rattle.std.proofs.Common.{◌≡◌, sym, ap, subst, ◌∙◌, inl, inr, ◌⊎◌, ℕ, ◌+◌, ◌<◌, List, ◌++◌, map, filter, length, get_or, true, false, ◌==◌, ◌&&◌, Some, arith}
+-- All that a sound plan has is of one of its pipelines, so to bring a device up makes all of them.
+use Rattle.std.proofs.Common.{[], ◌∷◌, ◌≡◌, refl, sym, ap, subst, ◌∙◌, inl, inr, ℕ, ◌+◌, ◌<◌, List, ◌++◌, map, filter, length, get_or, true, false, ◌==◌, ◌&&◌, Some}
 use Rattle.std.specs.Prelude.{Option}
 use Rattle.std.specs.Option.{option_map_or}
 use Rattle.std.specs.List.{flat_map, list_any}
@@ -13,19 +13,24 @@ use Rattle.stream_law.specs.Order.{is_among}
 use Rattle.stream_law.specs.Ways.{comp_of, edge_of, is_complete}
 use Rattle.stream_law.proofs.Members.{IsIn, in-all, in-each, any-in, find-in}
 use Rattle.tplg_plan.specs.declared.plans.Plan.{Plan}
-use Rattle.tplg_plan.specs.Sound.{IsSound, IsLive, Names, IsSideOf, FillsBuffer, DrainsBuffer}
+use Rattle.tplg_plan.specs.Sound.{IsSound, IsLive, Names}
 use Rattle.host_widgets.specs.declared.kept.Record.{Record}
 use Rattle.host_widgets.specs.Acts.{widget_ids, widget_words, no_words}
 use Rattle.host_widgets.specs.ActLists.{bring_up, control_acts}
 use Rattle.host_widgets.specs.HostActs.{Act, Make, Join, Finish}
-use Rattle.host_widgets.specs.Indices.{pipe_indices, named_index, index_at, is_up, buffer_index, join_index}
-use Rattle.host_widgets.specs.Groups.{whole, group_widgets, is_join_in, joins_in, is_control_of, finish_ids, making_lists, group_making}
+use Rattle.host_widgets.specs.Indices.{pipe_indices, named_index, index_at, is_up}
+use Rattle.host_widgets.specs.Groups.{is_control_of, finish_ids, making_lists}
 use Rattle.host_widgets.specs.Kept.{controls_of}
 use Rattle.host_widgets.proofs.ControlLists.{Pair, all-first}
-use Rattle.host_widgets.proofs.GroupLists.{filter-all, in-map, in-among, range-low, flat-together, all-together, map-map}
 use Rattle.host_widgets.proofs.NamedIds.{named-at, component-found}
+use Rattle.host_widgets.proofs.Needs.{in-map, in-among}
+use Rattle.host_widgets.proofs.Sublists.{filter-all}
 
-complete-among : (ps : List Pipe) (i : ℕ) → list_any (λ p. p.index == i && p.complete) ps ≡ true → is_among (map (λ (p : Pipe). p.index) ps) i ≡ true
+map-map : {X Y Z : Type 0} (f : X → Y) (g : Y → Z) (xs : List X) → map g (map f xs) ≡ map (λ x. g (f x)) xs
+map-map f g [] = refl
+map-map {X} {Y} {Z} f g (x ∷ xs) = ap (λ (zs : List Z). g (f x) ∷ zs) (map-map f g xs)
+
+pub complete-among : (ps : List Pipe) (i : ℕ) → list_any (λ p. p.index == i && p.complete) ps ≡ true → is_among (map (λ (p : Pipe). p.index) ps) i ≡ true
 complete-among ps i is =
     let r = any-in (λ p. p.index == i && p.complete) ps is in
     in-among (map (λ (p : Pipe). p.index) ps) i (subst (λ y. IsIn y (map (λ (p : Pipe). p.index) ps)) (eqb-true r.0.index i (and_parts (r.0.index == i) r.0.complete r.2).0) (in-map (λ (p : Pipe). p.index) ps r.0 r.1))
@@ -56,18 +61,6 @@ module _ (plan : Plan) (sound : IsSound plan) where
       by (inr (inl n)) = ap (is_among every) n.is.pipe ∙ edge-in n.edge (find-in (λ (x : Edge). x.buffer == id) g.edges n.edge n.there).0
       by (inr (inr n)) = ap (is_among every) n.is.index ∙ pipe-in n.pipe (find-in (λ (x : Pipe). x.id == id) g.pipes n.pipe n.there).0
 
-  pub join-in : (j : Joined) → IsIn j g.joins → is_join_in g every j ≡ true
-  join-in j here = by (in-all (IsSideOf g) g.joins j sound.joins here).between
-    where
-      at-edge : (e : Edge) → join_index g j ≡ Some e.pipe → IsIn e g.edges → is_join_in g every j ≡ true
-      at-edge e at there = ap (λ (o : Option ℕ). option_map_or (is_among every) o false) at ∙ edge-in e there
-
-      by : FillsBuffer g j ⊎ DrainsBuffer g j → is_join_in g every j ≡ true
-      by (inl (c, e, comp, edge, is)) =
-          at-edge e (λ i. buffer_index ((component-found plan sound j.source c comp).no_edge i) (edge i)) (find-in (λ (x : Edge). x.buffer == j.sink) g.edges e edge).0
-      by (inr (e, c, edge, comp, is)) =
-          at-edge e (ap (λ (o : Option Edge). buffer_index o (edge_of g j.sink)) edge) (find-in (λ (x : Edge). x.buffer == j.source) g.edges e edge).0
-
   -- the index of a component that is there
   comp-named : (id : ℕ) (c : Comp) → comp_of g id ≡ Some c → index_at g id ≡ Some c.pipe
   comp-named id c found = ap (λ (o : Option Comp). named_index o (edge_of g id)) found
@@ -86,25 +79,12 @@ module _ (plan : Plan) (sound : IsSound plan) where
       let live = in-all (λ (x : Pair). IsLive g x.0) (controls_of plan kept) p (all-first (IsLive g) plan.controls kept.controls sound.live) here in
       comp-up p.0.comp live.comp live.there
 
-  -- ---- so the group of all has everything
+  -- ---- so it is of all of them
 
-  pub widgets-whole : group_widgets plan every ≡ widget_ids plan
-  widgets-whole = filter-all (λ (id : ℕ). is_among every (widget_words plan id).pipe) (widget_ids plan)
-      (in-each (λ (id : ℕ). is_among every (widget_words plan id).pipe ≡ true) (widget_ids plan) (λ id here. widget-in id (let low : id < 0 + length plan.widgets = range-low 0 (length plan.widgets) id here in omega (arith, low))))
-
-  pub joins-whole : joins_in g every ≡ g.joins
-  joins-whole = filter-all (is_join_in g every) g.joins (in-each (λ (j : Joined). is_join_in g every j ≡ true) g.joins join-in)
-
-  pub edges-whole : filter (λ (e : Edge). is_among every e.pipe) g.edges ≡ g.edges
-  edges-whole = filter-all (λ (e : Edge). is_among every e.pipe) g.edges (in-each (λ (e : Edge). is_among every e.pipe ≡ true) g.edges edge-in)
-
-  pub comps-whole : filter (λ (c : Comp). is_among every c.pipe) g.comps ≡ g.comps
-  comps-whole = filter-all (λ (c : Comp). is_among every c.pipe) g.comps (in-each (λ (c : Comp). is_among every c.pipe ≡ true) g.comps comp-in)
-
-  pub pipes-whole : filter (λ (p : Pipe). is_among every p.index) g.pipes ≡ g.pipes
+  pipes-whole : filter (λ (p : Pipe). is_among every p.index) g.pipes ≡ g.pipes
   pipes-whole = filter-all (λ (p : Pipe). is_among every p.index) g.pipes (in-each (λ (p : Pipe). is_among every p.index ≡ true) g.pipes pipe-in)
 
-  pub controls-whole : (kept : Record) → filter (is_control_of plan every) (controls_of plan kept) ≡ controls_of plan kept
+  controls-whole : (kept : Record) → filter (is_control_of plan every) (controls_of plan kept) ≡ controls_of plan kept
   controls-whole kept = filter-all (is_control_of plan every) (controls_of plan kept) (in-each (λ (p : Pair). is_control_of plan every p ≡ true) (controls_of plan kept) (control-in kept))
 
   finishes-whole : map Finish (finish_ids g every) ≡ map (λ (p : Pipe). Finish p.id) g.pipes
@@ -122,9 +102,3 @@ module _ (plan : Plan) (sound : IsSound plan) where
   -- all of the plan, by lists
   pub bring-up-lists : (kept : Record) → bring_up plan kept ≡ making_lists plan kept (widget_ids plan) g.joins every
   bring-up-lists kept = sym (λ i. listed (widget_ids plan) g.joins (controls-whole kept i) (finishes-whole i))
-
-  -- and so as one group
-  pub bring-up-whole : (kept : Record) → bring_up plan kept ≡ group_making plan kept (whole plan)
-  bring-up-whole kept =
-      bring-up-lists kept
-      ∙ sym ((λ i. making_lists plan kept (flat-together (group_widgets plan) every i) (flat-together (joins_in g) every i) (all-together every i)) ∙ (λ i. making_lists plan kept (widgets-whole i) (joins-whole i) every))

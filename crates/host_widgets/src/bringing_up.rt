@@ -18,7 +18,7 @@ use mbox_link::Dsp;
 use sof_io::{Inputs, Outputs};
 use tplg_plan::Plan;
 
-// Makes all pipelines as one group, up to the first message that does not pass.
+// Makes all pipelines, up to the first message that does not pass.
 fn make_all<P: Dsp>(
     plan: &Plan,
     kept: &Record,

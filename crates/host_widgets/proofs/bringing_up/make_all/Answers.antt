@@ -5,7 +5,7 @@ use Rattle.stream_law.specs.declared.graph.Pipe.{Pipe}
 use Rattle.stream_law.proofs.Members.{in-each}
 use Rattle.mbox_link.specs.Calls.{world}
 use Rattle.host_widgets.specs.Acts.{widget_ids}
-use Rattle.host_widgets.proofs.GroupLists.{range-low}
+use Rattle.host_widgets.proofs.Sublists.{range-low}
 use Rattle.host_widgets.proofs.GroupsMade.{brought-sent}
 use Rattle.host_widgets.proofs.NamedIds.{few-widgets}
 use Rattle.host_widgets.proofs.bringing_up.make_all.Goals as goal

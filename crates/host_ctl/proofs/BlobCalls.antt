@@ -1,6 +1,5 @@
 -- A blob at the equaliser of a place: what its parts come to over any device, and the record with it.
-use Rattle.std.proofs.Common.{◌≡◌, refl, sym, ap, subst, ◌∙◌, ℕ, ◌<◌, Bool, true, false, List, [], ◌∷◌, length, Some, option_map, Ok, Err, ◌==◌, inl, inr}
-use Rattle.std.specs.Prelude.{if◌then◌else◌, is_some}
+use Rattle.std.proofs.Common.{◌≡◌, refl, sym, ap, subst, ◌∙◌, ℕ, ◌<◌, true, false, List, [], ◌∷◌, length, Some, option_map, Ok, Err, inl, inr}
 use Rattle.std.specs.List.{AllByRecursion}
 use Rattle.sof_base.specs.BlobFaults.{is_blob}
 use Rattle.stream_law.specs.declared.graph.Kind.{Kind}
@@ -18,7 +17,7 @@ use Rattle.tplg_plan.specs.declared.plans.ControlKind.TheVariants.{Volume, Choic
 use Rattle.tplg_plan.specs.Sound.{IsControlOf, IsLive, IsSound}
 use Rattle.host_widgets.specs.declared.answers.HostFault.{HostFault}
 use Rattle.host_widgets.specs.declared.answers.HostFault.TheVariants as faults
-use Rattle.host_widgets.specs.declared.answers.HostFault.TheVariants.{NotLoaded, Loaded, NoSuch, State, Off, Range, Refused, LinkDown}
+use Rattle.host_widgets.specs.declared.answers.HostFault.TheVariants.{Off, LinkDown}
 use Rattle.host_widgets.specs.declared.answers.Answer.TheVariants.{Done}
 use Rattle.host_widgets.specs.declared.kept.ControlRec.{ControlRec}
 use Rattle.host_widgets.specs.declared.kept.Power.{Power}
@@ -31,7 +30,7 @@ use Rattle.host_widgets.specs.ActLists.{part_acts}
 use Rattle.host_widgets.specs.Controls.{control_of}
 use Rattle.host_widgets.specs.Host.{Outcome, Agrees, AreControls, IsRecordOf, IsControlSet, Sides}
 use Rattle.host_widgets.specs.HostActs.{with_blob}
-use Rattle.host_widgets.specs.Kept.{changed, control_at, with_control}
+use Rattle.host_widgets.specs.Kept.{control_at, with_control}
 use Rattle.host_widgets.specs.Orders.{Carried, plain_end, sends}
 use Rattle.host_widgets.specs.ViewOf.{graph_by, set_comp, record_setting, record_view}
 use Rattle.host_widgets.specs.Walk.{walk}
@@ -46,7 +45,7 @@ use Rattle.host_ctl.specs.ControlOrders.{bytes_order_at}
 use Rattle.host_ctl.specs.ControlAnswers.{MayInstall, PartsPass}
 use Rattle.host_ctl.specs.ControlPlaces.{control_here, record_here, with_blob_here}
 use Rattle.host_ctl.proofs.ControlsTaken.{id-low}
-use Rattle.host_ctl.proofs.ControlsThere.{Was, at-here, blob-changed, controls-with, kinds-here, live, of-comp}
+use Rattle.host_ctl.proofs.ControlsThere.{Was, at-here, blob-changed, controls-with, kinds-here, live, of-comp, set-twice}
 use Rattle.host_ctl.proofs.PutShows.{all-set, found-set, there-at}
 use Rattle.host_ctl.proofs.PutStands.{record-with}
 
@@ -70,23 +69,6 @@ set-of id (Choice items) blob may c was = absurd may
 set-of id (Masks min max channels) blob may c was = absurd may
 set-of id (Blob most initial) blob may c (inl first) = (ap (λ (x : ControlRec). x.values) first, may.0, may.1)
 set-of id (Blob most initial) blob may c (inr set) = (set.0, may.0, may.1)
-
--- a device that agrees with a record whose power is on is on
-pub is-powered : {D : Type 0} (means : Meaning D) (plan : Plan) (kept : Record) (device : D) → Agrees means plan kept device → kept.power ≡ powers.On → is_some (means.on device) ≡ true
-is-powered means plan kept device agrees power =
-    let s = state-with (means.on device) (record_view plan kept) (subst (λ (p : Power). Sides means plan kept device p) power agrees.sides) in
-    ap is_some s.1
-
--- a blob that is there twice is there
-pub twice : (comp : ℕ) (blob : List ℕ) (ks : List ControlPlan) (rs : List ControlRec) →
-    changed (λ (k : ControlPlan). k.comp) comp (with_blob blob) ks (changed (λ (k : ControlPlan). k.comp) comp (with_blob blob) ks rs) ≡ changed (λ (k : ControlPlan). k.comp) comp (with_blob blob) ks rs
-twice comp blob [] rs = refl
-twice comp blob (k ∷ ks) [] = refl
-twice comp blob (k ∷ ks) (r ∷ rs) = λ i. by (k.comp == comp) i ∷ twice comp blob ks rs i
-  where
-    by : (b : Bool) → (if b then with_blob blob (if b then with_blob blob r else r) else (if b then with_blob blob r else r)) ≡ (if b then with_blob blob r else r)
-    by true = refl
-    by false = refl
 
 module _ (plan : Plan) (sound : IsSound plan) (kept : Record) (is : IsRecordOf plan kept) (i : ℕ) (low : i < length plan.controls) (blob : List ℕ) (may : MayInstall (control_here plan i).kind blob) where
   abbrev k : ControlPlan
@@ -139,7 +121,7 @@ module _ (plan : Plan) (sound : IsSound plan) (kept : Record) (is : IsRecordOf p
   }
 
   now-twice : now ≡ with_control plan k.comp (with_blob blob) now
-  now-twice = ap (λ (rs : List ControlRec). record { power = kept.power; streams = kept.streams; controls = rs }) (sym (twice k.comp blob plan.controls kept.controls))
+  now-twice = ap (λ (rs : List ControlRec). record { power = kept.power; streams = kept.streams; controls = rs }) (sym (set-twice k.comp (with_blob blob) (λ r. refl) plan.controls kept.controls))
 
   -- ---- over any device
 
@@ -173,9 +155,6 @@ module _ (plan : Plan) (sound : IsSound plan) (kept : Record) (is : IsRecordOf p
             came = came.came_so;
             ends = subst (λ (p : Record × Outcome). EndsSo kept' v p.0 p.1) (λ j. (sym is_walked j, (sym is_o ∙ came.came_so) j)) ends;
           })
-
-      pub parts-still : result ≡ Ok tt → mid ≡ kept
-      parts-still ok = (subst (λ (o : Outcome). PlainEnd means heap o kept mid x.sent v) ok x.ends).0
 
       -- all parts passed
       pub parts-done : result ≡ Ok tt → (kept' : Record) → kept' ≡ with_blob_here i blob mid → Both kept' v (Ok tt)
@@ -225,14 +204,7 @@ module _ (plan : Plan) (sound : IsSound plan) (kept : Record) (is : IsRecordOf p
             record_is = down-record plan kept is;
             sides = (down-rests kept.streams, ap (λ (y : World D). means.on y.device) end.1.2 ∙ end.1.1.0.on);
           }
-          by NotLoaded end shown = stays end shown
-          by Loaded end shown = stays end shown
-          by (NoSuch name) end shown = stays end shown
-          by (State found) end shown = stays end shown
-          by Off end shown = stays end shown
-          by (Range n) end shown = stays end shown
-          by (Refused e) end shown = stays end shown
-          by (faults.Blob n) end shown = stays end shown
+          by fault end shown = stays end shown
 
     -- where it is off, the record alone changes
     module _ (off : kept.power ≡ powers.Off) where

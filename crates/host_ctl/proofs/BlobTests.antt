@@ -6,7 +6,7 @@ use Rattle.sof_base.specs.BlobFaults.{BlobFault, blob_fault, fault_number}
 use Rattle.tplg_plan.specs.declared.plans.Plan.{Plan}
 use Rattle.tplg_plan.specs.declared.plans.ControlPlan.{ControlPlan}
 use Rattle.tplg_plan.specs.declared.plans.ControlKind.{ControlKind}
-use Rattle.tplg_plan.specs.declared.plans.ControlKind.TheVariants.{Volume, Choice, Blob, Masks}
+use Rattle.tplg_plan.specs.declared.plans.ControlKind.TheVariants.{Blob}
 use Rattle.host_widgets.specs.declared.answers.HostFault.TheVariants as faults
 use Rattle.host_widgets.specs.declared.kept.Power.{Power}
 use Rattle.host_widgets.specs.declared.kept.Power.TheVariants.{Unloaded, On, Off}
@@ -20,9 +20,6 @@ use Rattle.host_ctl.proofs.ControlsThere.{found-here}
 
 -- bytes without a fault may be installed
 pub installable : (name : List ℕ) (q : ControlKind) (blob : List ℕ) → bytes_fault_by name blob q ≡ None → MayInstall q blob
-installable name (Volume min max channels lowest step mute) blob none = absurd (cc none)
-installable name (Choice items) blob none = absurd (cc none)
-installable name (Masks min max channels) blob none = absurd (cc none)
 installable name (Blob most initial) blob none = by (nat_lt most (length blob)) refl none
   where
     no-fault : (o : Option BlobFault) → option_map (λ (fault : BlobFault). faults.Blob (fault_number fault)) o ≡ None → is_none o ≡ true
@@ -32,6 +29,7 @@ installable name (Blob most initial) blob none = by (nat_lt most (length blob)) 
     by : (b : Bool) → nat_lt most (length blob) ≡ b → cond b (Some (faults.Range (length blob))) (option_map (λ (fault : BlobFault). faults.Blob (fault_number fault)) (blob_fault blob)) ≡ None → MayInstall (Blob most initial) blob
     by true more is = absurd (cc is)
     by false few is = (ltb-false most (length blob) few, no-fault (blob_fault blob) is)
+installable name q blob none = absurd (cc none)
 
 pub bytes-pass : (plan : Plan) (kept : Record) (name blob : List ℕ) (k : ControlPlan) → named_control plan name ≡ Some k → bytes_fault plan kept name blob ≡ None → bytes_fault_by name blob k.kind ≡ None
 bytes-pass plan kept name blob k named none = ap (installing_fault name blob) (sym named) ∙ (loaded kept.power (installing_fault name blob (named_control plan name)) none).1

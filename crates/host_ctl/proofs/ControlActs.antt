@@ -9,14 +9,12 @@ use Rattle.stream_law.specs.Past.{Now, Leads}
 use Rattle.stream_law.specs.Stands.{Stands}
 use Rattle.stream_law.proofs.SeenLaws.{seen-sees}
 use Rattle.ipc3_model.specs.declared.message.Message.{Message}
-use Rattle.ipc3_model.specs.declared.reply.Body.TheVariants.{Nothing}
 use Rattle.ipc3_model.specs.Messages.{message_spelling, decoded}
 use Rattle.ipc3_model.specs.Meanings.{IsMessage}
 use Rattle.mbox_link.specs.Step.{row, body, body_of}
 use Rattle.tplg_plan.specs.declared.plans.Plan.{Plan}
 use Rattle.tplg_plan.specs.declared.plans.ControlPlan.{ControlPlan}
 use Rattle.tplg_plan.specs.declared.plans.ControlKind.{ControlKind}
-use Rattle.tplg_plan.specs.declared.plans.ControlKind.TheVariants.{Volume, Choice, Blob, Masks}
 use Rattle.tplg_plan.specs.Sound.{IsControlOf}
 use Rattle.host_widgets.specs.Controls.{control_of}
 use Rattle.host_widgets.specs.Host.{IsRecordOf, AreControls, verdict}
@@ -25,11 +23,12 @@ use Rattle.host_widgets.specs.declared.kept.Record.{Record}
 use Rattle.host_widgets.specs.declared.kept.ControlRec.{ControlRec}
 use Rattle.host_widgets.specs.Kept.{changed, control_at, with_control}
 use Rattle.host_widgets.specs.HostActs.{Act, Put, after, fresh_by, fresh_in, with_values}
-use Rattle.host_widgets.specs.ActMessages.{act_message, set_message, put_message}
+use Rattle.host_widgets.specs.ActMessages.{act_message, put_message}
 use Rattle.host_widgets.specs.ViewOf.{record_view}
 use Rattle.host_widgets.specs.ActCalls.{came_to}
 use Rattle.host_ctl.proofs.PutShows.{AreKind, put_state, put-made}
 use Rattle.host_ctl.proofs.PutStands.{put-stands, stands-seen, put-record}
+use Rattle.host_widgets.proofs.Effects.{set-bare}
 use Rattle.host_widgets.proofs.OneActLaws.{IsTaken, LeavesSo, bare-passes}
 
 -- its message fits, and is read as it was written
@@ -68,12 +67,6 @@ module _ (plan : Plan) (kept : Record) (is : IsRecordOf plan kept) (comp : ℕ) 
     stands = λ whole inputs before stood. subst (λ (fresh : Option ℕ). (after_it : Stands (Some (record f { graph = v.graph; streams = v.streams })) whole inputs (before ++ Now v fresh ∷ [])) × Leads whole stood.past (Now v fresh ∷ []) after_it.past) (sym (ap (fresh_by comp) kind))
         (put-stands plan kept comp (with_values values) (λ c. refl) is f (record f { graph = v.graph; streams = v.streams }) shows refl refl refl refl whole inputs before stood);
   }
-
-set-bare : (f : FwState) (comp : ℕ) (values : List ℕ) (k : ControlKind) → body f (set_message comp values k) ≡ Nothing
-set-bare f comp values (Volume min max channels lowest step mute) = refl
-set-bare f comp values (Choice items) = refl
-set-bare f comp values (Blob most initial) = refl
-set-bare f comp values (Masks min max channels) = refl
 
 -- values that are put at a live control of a component of its kind
 pub put-taken : (plan : Plan) (kept : Record) → IsRecordOf plan kept → (comp : ℕ) (values : List ℕ) (x : Comp) → comp_of plan.graph comp ≡ Some x →

@@ -1,5 +1,5 @@
 -- What is done with the control at a place, by the answers of its messages alone.
-use Rattle.std.proofs.Common.{◌≡◌, refl, sym, ap, subst, ◌∙◌, ℕ, zero, suc, ◌+◌, ◌-◌, ◌<◌, ◌≤◌, Bool, true, false, cond, List, [], ◌∷◌, map, length, Option, Some, None, Result, Ok, Err, arith}
+use Rattle.std.proofs.Common.{◌≡◌, refl, sym, ap, subst, ◌∙◌, ℕ, zero, suc, ◌+◌, ◌-◌, ◌<◌, ◌≤◌, Bool, true, false, cond, List, [], ◌∷◌, map, length, Some, Result, Ok, Err, arith}
 use Rattle.std.specs.Prelude.{MatchResult}
 use Rattle.std.specs.List.{range_with_len}
 use Rattle.ipc3_model.specs.declared.message.Message.{Message}
@@ -12,12 +12,11 @@ use Rattle.mbox_link.specs.Calls.{World, Meaning}
 use Rattle.tplg_plan.specs.declared.plans.Plan.{Plan}
 use Rattle.tplg_plan.specs.declared.plans.ControlPlan.{ControlPlan}
 use Rattle.tplg_plan.specs.declared.plans.ControlKind.{ControlKind}
-use Rattle.tplg_plan.specs.declared.plans.ControlKind.TheVariants.{Volume, Choice, Blob, Masks}
+use Rattle.tplg_plan.specs.declared.plans.ControlKind.TheVariants.{Blob}
 use Rattle.tplg_plan.specs.Sound.{IsSound}
 use Rattle.host_widgets.specs.declared.answers.Answer.{Answer}
 use Rattle.host_widgets.specs.declared.answers.Answer.TheVariants.{Done}
 use Rattle.host_widgets.specs.declared.answers.HostFault.{HostFault}
-use Rattle.host_widgets.specs.declared.kept.Power.{Power}
 use Rattle.host_widgets.specs.declared.kept.Power.TheVariants.{On}
 use Rattle.host_widgets.specs.declared.kept.ControlRec.{ControlRec}
 use Rattle.host_widgets.specs.declared.kept.Record.{Record}
@@ -36,11 +35,10 @@ use Rattle.host_widgets.proofs.PartFacts.{few-parts, more-behind, none-behind}
 use Rattle.host_ctl.specs.ControlAnswers.{MaySet, MayInstall, PartsPass, value_command}
 use Rattle.host_ctl.specs.ControlOrders.{ask_acts, bytes_order_at, control_answer, put_order, reading_order}
 use Rattle.host_ctl.specs.ControlPlaces.{control_here, record_here, with_values_at, with_blob_here}
-use Rattle.host_ctl.proofs.BlobCalls.{a-blob, twice}
-use Rattle.host_ctl.proofs.ControlOrdered.{put-twice}
+use Rattle.host_ctl.proofs.BlobCalls.{a-blob}
 use Rattle.host_ctl.proofs.ControlParts.{asks_from, part-asks}
 use Rattle.host_ctl.proofs.ControlsTaken.{puts, asks}
-use Rattle.host_ctl.proofs.ControlsThere.{blob-changed, place-changed}
+use Rattle.host_ctl.proofs.ControlsThere.{blob-changed, place-changed, set-twice}
 
 -- ---- parts that are asked for, one after another
 
@@ -99,7 +97,7 @@ module _ (plan : Plan) (sound : IsSound plan) (kept : Record) (is : IsRecordOf p
       pub put-passed : result ≡ Ok tt → (kept'' : Record) → kept'' ≡ with_values_at i values kept' → ActsAnswered means plan heap (puts_all values) (Put k.comp values ∷ []) kept kept'' w v (Ok tt)
       put-passed ok kept'' now = one-passed means plan heap (Put k.comp values) (puts_all values) kept kept' w v result put' ok kept''
           (now ∙ ap (with_values_at i values) (put-stays ok) ∙ place-changed plan sound kept is i low values
-          ∙ ap (λ (rs : List ControlRec). record { power = kept.power; streams = kept.streams; controls = rs }) (sym (put-twice k.comp values plan.controls kept.controls)))
+          ∙ ap (λ (rs : List ControlRec). record { power = kept.power; streams = kept.streams; controls = rs }) (sym (set-twice k.comp (with_values values) (λ r. refl) plan.controls kept.controls)))
 
       pub put-failed : (fault : HostFault) → result ≡ Err fault → ActsAnswered means plan heap (puts_all values) (Put k.comp values ∷ []) kept kept' w v (Err fault)
       put-failed fault failed = one-failed means plan heap (Put k.comp values) (puts_all values) kept kept' w v result put' fault failed
@@ -129,10 +127,8 @@ module _ (plan : Plan) (sound : IsSound plan) (kept : Record) (is : IsRecordOf p
 
     pub ask-answered : (q : ControlKind) (command : ℕ) → value_command q ≡ Some command → (answer : Answer) (kept' : Record) (v : World D) (result : Outcome) → kept.power ≡ On → Passing means plan heap (Ask k.comp 0 ∷ []) kept kept' w v result →
         OrderAnswered means plan heap (sends kept.power (ask_acts k.comp q r) (λ now. now) answer) kept kept' w v result
-    ask-answered (Volume min max channels lowest step mute) command at answer kept' v result on x = sends-on means plan heap kept.power (Ask k.comp 0 ∷ []) (λ now. now) answer kept kept' w v result on x
-    ask-answered (Choice items) command at answer kept' v result on x = sends-on means plan heap kept.power (Ask k.comp 0 ∷ []) (λ now. now) answer kept kept' w v result on x
-    ask-answered (Masks min max channels) command at answer kept' v result on x = sends-on means plan heap kept.power (Ask k.comp 0 ∷ []) (λ now. now) answer kept kept' w v result on x
     ask-answered (Blob most initial) command at answer kept' v result on x = absurd (cc at)
+    ask-answered q command at answer kept' v result on x = sends-on means plan heap kept.power (Ask k.comp 0 ∷ []) (λ now. now) answer kept kept' w v result on x
 
     -- ---- a blob
 
@@ -147,7 +143,7 @@ module _ (plan : Plan) (sound : IsSound plan) (kept : Record) (is : IsRecordOf p
       whole-blob = a-blob plan sound kept is i low blob may
 
       installs-twice : installs kept ≡ installs (installs kept)
-      installs-twice = ap (λ (rs : List ControlRec). record { power = kept.power; streams = kept.streams; controls = rs }) (sym (twice k.comp blob plan.controls kept.controls))
+      installs-twice = ap (λ (rs : List ControlRec). record { power = kept.power; streams = kept.streams; controls = rs }) (sym (set-twice k.comp (with_blob blob) (λ r. refl) plan.controls kept.controls))
 
       module _ (kept' : Record) (sent v : World D) where
         -- what is left, by the result of all

@@ -18,7 +18,7 @@ use Rattle.mbox_link.specs.Calls.{World, Meaning}
 use Rattle.tplg_plan.specs.declared.plans.Plan.{Plan}
 use Rattle.tplg_plan.specs.declared.plans.ControlPlan.{ControlPlan}
 use Rattle.tplg_plan.specs.declared.plans.ControlKind.{ControlKind}
-use Rattle.tplg_plan.specs.declared.plans.ControlKind.TheVariants.{Volume, Choice, Blob, Masks}
+use Rattle.tplg_plan.specs.declared.plans.ControlKind.TheVariants.{Blob}
 use Rattle.tplg_plan.specs.Sound.{IsSound}
 use Rattle.host_widgets.specs.declared.answers.Answer.TheVariants as answers
 use Rattle.host_widgets.specs.declared.answers.HostFault.{HostFault}
@@ -70,10 +70,8 @@ values-read vs are some few =
     ap judged (decoded_reply-exactly (record { error = pos 0; body = Values vs }) (zero-fits, (value-slots 0 vs (omega (arith, few)) are, rw (le-leb 1 (length vs) some, le-leb (length vs) 8 few) refl)))
 
 said-values : (c : ControlRec) (q : ControlKind) (command : ℕ) (vs : List ℕ) → value_command q ≡ Some command → vs ≡ values_by c q → carried_by (Values vs) ≡ control_answer q c
-said-values c (Volume min max channels lowest step mute) command vs at is = ap answers.Values is
-said-values c (Choice items) command vs at is = ap answers.Values is
 said-values c (Blob most initial) command vs at is = absurd (cc at)
-said-values c (Masks min max channels) command vs at is = ap answers.Values is
+said-values c q command vs at is = ap answers.Values is
 
 module _ {D : Type 0} (means : Meaning D) (plan : Plan) (sound : IsSound plan) (heap i : ℕ) (low : i < length plan.controls) (kept : Record) (w : World D) (agrees : Agrees means plan kept w.device) (power : kept.power ≡ On) where
   abbrev k : ControlPlan

@@ -1,19 +1,19 @@
 -- The orders of calls on the control at a place, as they are carried out.
-use Rattle.std.proofs.Common.{◌≡◌, true, refl, sym, ap, subst, ◌∙◌, ℕ, ◌<◌, Bool, false, List, [], ◌∷◌, length, Some, Ok, ◌==◌, if◌then◌else◌}
+use Rattle.std.proofs.Common.{◌≡◌, refl, sym, ap, subst, ◌∙◌, ℕ, ◌<◌, List, [], ◌∷◌, length, Some, Ok}
 use Rattle.std.specs.Option.{option_and_then}
 use Rattle.mbox_link.specs.Calls.{World, Meaning}
 use Rattle.tplg_plan.specs.declared.plans.Plan.{Plan}
 use Rattle.tplg_plan.specs.declared.plans.ControlPlan.{ControlPlan}
 use Rattle.tplg_plan.specs.declared.plans.ControlKind.{ControlKind}
-use Rattle.tplg_plan.specs.declared.plans.ControlKind.TheVariants.{Volume, Choice, Blob, Masks}
+use Rattle.tplg_plan.specs.declared.plans.ControlKind.TheVariants.{Blob}
 use Rattle.tplg_plan.specs.Sound.{IsSound}
 use Rattle.host_widgets.specs.declared.answers.Answer.{Answer}
 use Rattle.host_widgets.specs.declared.answers.Answer.TheVariants.{Done}
 use Rattle.host_widgets.specs.declared.kept.Power.{Power}
-use Rattle.host_widgets.specs.declared.kept.Power.TheVariants.{Unloaded, On, Off}
+use Rattle.host_widgets.specs.declared.kept.Power.TheVariants.{On, Off}
 use Rattle.host_widgets.specs.declared.kept.Record.{Record}
 use Rattle.host_widgets.specs.declared.kept.ControlRec.{ControlRec}
-use Rattle.host_widgets.specs.Kept.{changed, control_at, with_control}
+use Rattle.host_widgets.specs.Kept.{control_at, with_control}
 use Rattle.host_widgets.specs.HostActs.{Act, Put, Ask, with_values}
 use Rattle.host_widgets.specs.Host.{Outcome, Agrees, IsRecordOf, Sides}
 use Rattle.host_widgets.specs.Orders.{Carried, quiet, sends}
@@ -26,29 +26,16 @@ use Rattle.host_ctl.specs.ControlOrders.{put_order, setting_order, set_order, in
 use Rattle.host_ctl.specs.ControlAnswers.{MaySet, value_command}
 use Rattle.host_ctl.specs.ControlPlaces.{control_here, record_here, with_values_at}
 use Rattle.host_ctl.proofs.PutStands.{put-record}
-use Rattle.host_ctl.proofs.ControlsThere.{at-here, place-changed}
+use Rattle.host_ctl.proofs.ControlsThere.{at-here, place-changed, set-twice}
 use Rattle.host_ctl.proofs.ControlsTaken.{set-all}
-
--- values that are put twice are put
-pub put-twice : (comp : ℕ) (values : List ℕ) (ks : List ControlPlan) (rs : List ControlRec) →
-    changed (λ (k : ControlPlan). k.comp) comp (with_values values) ks (changed (λ (k : ControlPlan). k.comp) comp (with_values values) ks rs) ≡ changed (λ (k : ControlPlan). k.comp) comp (with_values values) ks rs
-put-twice comp values [] rs = refl
-put-twice comp values (k ∷ ks) [] = refl
-put-twice comp values (k ∷ ks) (r ∷ rs) = λ i. twice (k.comp == comp) i ∷ put-twice comp values ks rs i
-  where
-    twice : (b : Bool) → (if b then with_values values (if b then with_values values r else r) else (if b then with_values values r else r)) ≡ (if b then with_values values r else r)
-    twice true = refl
-    twice false = refl
 
 pub sends-answer : (power : Power) (acts : List Act) (done : Record → Record) (answer : Answer) → (sends power acts done answer).answer ≡ answer
 sends-answer On acts done answer = refl
-sends-answer Off acts done answer = refl
-sends-answer Unloaded acts done answer = refl
+sends-answer power acts done answer = refl
 
 pub sends-done : (power : Power) (acts : List Act) (done : Record → Record) (answer : Answer) → (sends power acts done answer).done ≡ done
 sends-done On acts done answer = refl
-sends-done Off acts done answer = refl
-sends-done Unloaded acts done answer = refl
+sends-done power acts done answer = refl
 
 -- an order without acts, by its answer
 pub quiet-carried : {D : Type 0} (means : Meaning D) (plan : Plan) (heap : ℕ) (answer : Answer) (kept : Record) (w : World D) → Carried means plan heap (quiet answer) kept kept w w (Ok tt)
@@ -74,7 +61,7 @@ module _ {D : Type 0} (means : Meaning D) (plan : Plan) (sound : IsSound plan) (
         twice : result ≡ Ok tt → kept' ≡ puts_all kept'
         twice passed =
             let now : kept' ≡ puts_all kept = (subst (λ (o : Outcome). PlainEnd means heap o (performed (act_rules plan heap) (Put k.comp values) kept [] o).kept kept' x.sent v) passed x.ends).0 in
-            now ∙ ap (λ (rs : List ControlRec). record { power = kept.power; streams = kept.streams; controls = rs }) (sym (put-twice k.comp values plan.controls kept.controls)) ∙ ap puts_all (sym now)
+            now ∙ ap (λ (rs : List ControlRec). record { power = kept.power; streams = kept.streams; controls = rs }) (sym (set-twice k.comp (with_values values) (λ r. refl) plan.controls kept.controls)) ∙ ap puts_all (sym now)
 
     -- where it is off, the record alone changes
     module _ (off : kept.power ≡ Off) where
@@ -94,10 +81,8 @@ module _ {D : Type 0} (means : Meaning D) (plan : Plan) (sound : IsSound plan) (
 
   pub ask-carried : (q : ControlKind) (command : ℕ) → value_command q ≡ Some command → (answer : Answer) (kept' : Record) (v : World D) (result : Outcome) → kept.power ≡ On → ActCarried means plan heap (Ask k.comp 0) kept kept' w v result →
       Carried means plan heap (sends kept.power (ask_acts k.comp q r) (λ now. now) answer) kept kept' w v result
-  ask-carried (Volume min max channels lowest step mute) command at answer kept' v result on x = one-order means plan heap (Ask k.comp 0) (λ now. now) answer kept kept' w v result on x (λ passed. refl)
-  ask-carried (Choice items) command at answer kept' v result on x = one-order means plan heap (Ask k.comp 0) (λ now. now) answer kept kept' w v result on x (λ passed. refl)
-  ask-carried (Masks min max channels) command at answer kept' v result on x = one-order means plan heap (Ask k.comp 0) (λ now. now) answer kept kept' w v result on x (λ passed. refl)
   ask-carried (Blob most initial) command at answer kept' v result on x = absurd (cc at)
+  ask-carried q command at answer kept' v result on x = one-order means plan heap (Ask k.comp 0) (λ now. now) answer kept kept' w v result on x (λ passed. refl)
 
   -- ---- the control of a name
 

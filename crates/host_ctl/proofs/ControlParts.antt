@@ -1,10 +1,9 @@
 -- The acts that ask for the parts of an equaliser's blob: both laws of one act hold of each, and a device that shows the record takes
 -- them one after another.
-use Rattle.std.proofs.Common.{◌≡◌, ⊎_elim, pos, refl, sym, ap, subst, ◌∙◌, ℕ, suc, ◌+◌, ◌-◌, ◌*◌, ◌<◌, ◌≤◌, ◌^◌, Bool, true, false, not, cond, List, [], ◌∷◌, map, length, Option, Some, None, Result, Ok, Err, arith}
+use Rattle.std.proofs.Common.{◌≡◌, ⊎_elim, pos, refl, sym, ap, subst, ◌∙◌, ℕ, suc, ◌+◌, ◌-◌, ◌<◌, ◌≤◌, ◌^◌, Bool, true, false, not, cond, List, [], ◌∷◌, map, length, Option, Some, None, Result, Ok, Err, arith}
 use Rattle.std.specs.Prelude.{is_some, nat_lt, option_and_then}
 use Rattle.std.specs.List.{range_with_len}
 use Rattle.std.proofs.lemmas.Bool.{lt-ltb, le-leb}
-use Rattle.sof_base.specs.Ports.{HasRoom}
 use Rattle.sof_base.specs.Slots.{AreSlots, IsSlot}
 use Rattle.sof_base.specs.declared.part.Part.{Part}
 use Rattle.stream_law.specs.declared.graph.Comp.{Comp}
@@ -24,7 +23,6 @@ use Rattle.mbox_link.specs.BlobParts.{parts, blob_part}
 use Rattle.mbox_link.specs.Step as fw
 use Rattle.mbox_link.specs.Step.{row, body_of, part_body, no_device, invalid}
 use Rattle.mbox_link.specs.Calls.{World, Meaning}
-use Rattle.mbox_link.proofs.Rooms.{HasRoom-now}
 use Rattle.tplg_plan.specs.declared.plans.Plan.{Plan}
 use Rattle.tplg_plan.specs.declared.plans.ControlPlan.{ControlPlan}
 use Rattle.tplg_plan.specs.declared.plans.ControlKind.{ControlKind}
@@ -122,12 +120,6 @@ module _ {D : Type 0} (means : Meaning D) (plan : Plan) (heap comp n : ℕ) (kep
   pub ahead-all : (w m : World D) (j : ℕ) → n ≤ j → Ahead means plan heap comp n kept w m j → CarriedBy means plan heap (asks_from comp 0 n) (λ now. now) kept kept w m (Ok tt)
   ahead-all w m j all so = so.whole kept m (Ok tt)
       (subst (λ (rest : ℕ). CarriedBy means plan heap (asks_from comp j rest) (λ now. now) kept kept m m (Ok tt)) (let none : 0 ≡ n - j = omega (arith, all) in none) (no-acts means plan heap (λ now. now) kept kept m refl))
-
--- the outputs keep room for what is pending
-pub heard-room : {D : Type 0} (means : Meaning D) (heap : ℕ) (request : List ℕ) (kept kept' : Record) (m v : World D) (result : Result Reply HostFault) (h : Replied means heap request kept kept' m v result) (reply : Reply) → result ≡ Ok reply → HasRoom (61440 * means.pending m.device) m.io.outputs → HasRoom (61440 * means.pending v.device) v.io.outputs
-heard-room {D} means heap request kept kept' m v result h reply ok room =
-    let end : v ≡ h.sent = (subst (λ (y : Result Reply HostFault). PlainEnd means heap (came_to y) kept kept' h.sent v) ok h.ends).1 in
-    subst (λ (x : World D). HasRoom (61440 * means.pending x.device) x.io.outputs) (sym end) (HasRoom-now (61440 * means.pending m.device) (61440 * means.pending h.sent.device) m.io.outputs h.sent.io.outputs h.exchanged.room room)
 
 -- ---- at a place
 
@@ -260,9 +252,6 @@ module _ (plan : Plan) (sound : IsSound plan) (kept : Record) (is : IsRecordOf p
 
       next-is : asks_from k.comp j (parts r.blob - j) ≡ Ask k.comp j ∷ behind
       next-is = ap (asks_from k.comp j) (let more : parts r.blob - j ≡ suc (parts r.blob - (j + 1)) = omega (arith, few) in more)
-
-      pub part-still : (reply : Reply) → result ≡ Ok reply → kept' ≡ kept
-      part-still reply ok = (subst (λ (y : Result Reply HostFault). PlainEnd means heap (came_to y) kept kept' h.sent v) ok h.ends).0
 
       -- one part more was asked for
       pub ahead-more : (reply : Reply) → result ≡ Ok reply → IsAhead w v (j + 1)

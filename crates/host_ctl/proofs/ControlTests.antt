@@ -1,6 +1,6 @@
 -- What the tests before any message tell.
 use Rattle.std.proofs.Common.{◌≡◌, ◌⊎◌, ⊎_elim, refl, sym, ap, subst, ◌∙◌, ℕ, ◌<◌, ◌≤◌, zero, suc, Bool, true, false, not, cond, List, [], ◌∷◌, length, replicate, find, Option, Some, None, Result, Ok, Err, unwrap_or, ◌==◌, ◌||◌, ◌&&◌, arith}
-use Rattle.std.specs.Prelude.{IfOk, IfErr}
+use Rattle.std.specs.Prelude.{IfOk}
 use Rattle.std.specs.Option.{option_map}
 use Rattle.std.specs.Result.{IsErr, IsErrAnd}
 use Rattle.std.specs.List.{list_all}
@@ -19,10 +19,10 @@ use Rattle.host_widgets.specs.declared.kept.Power.{Power}
 use Rattle.host_widgets.specs.declared.kept.Power.TheVariants.{Unloaded, On, Off}
 use Rattle.host_widgets.specs.declared.kept.Record.{Record}
 use Rattle.host_widgets.specs.Host.{Outcome}
-use Rattle.host_widgets.specs.Named.{is_named, loaded_fault, off_fault}
+use Rattle.host_widgets.specs.Named.{is_named, loaded_fault}
 use Rattle.host_widgets.specs.Orders.{Procedure, Carried}
 use Rattle.host_widgets.specs.TestedOrders.{Tested}
-use Rattle.host_ctl.specs.ControlAsks.{named_control, channels_of, takes_value, spread, kind_fault, setting_fault, set_fault, name_fault, get_fault, read_fault}
+use Rattle.host_ctl.specs.ControlAsks.{named_control, channels_of, takes_value, spread, kind_fault, setting_fault, set_fault, name_fault, get_fault}
 use Rattle.host_ctl.specs.ControlAnswers.{MaySet}
 use Rattle.host_ctl.specs.ControlPlaces.{no_control, control_place, control_here}
 use Rattle.host_ctl.proofs.ControlsThere.{found-here, lost-here}
@@ -30,20 +30,8 @@ use Rattle.host_ctl.proofs.ControlsThere.{found-here, lost-here}
 -- ---- a call by its test
 
 module _ {D : Type 0} (means : Meaning D) (plan : Plan) (heap : ℕ) (test : Option HostFault) (o : Procedure) (kept : Record) (w : World D) where
-  pub tested-early : (r : Result ℕ HostFault) (fault : HostFault) (result : Outcome) → IfErr r (λ f. test ≡ Some f) → r ≡ Err fault → result ≡ Err fault → Tested means plan heap test o kept kept w w result
-  tested-early r fault result early is this =
-      let some : test ≡ Some fault = subst (λ (x : Result ℕ HostFault). IfErr x (λ f. test ≡ Some f)) is early in
-      record {
-        early = λ f e. (let same : fault ≡ f = cc (sym some ∙ e) in (this ∙ ap (λ (x : HostFault). Err x) same, refl, refl));
-        late = λ none. absurd (cc (sym some ∙ none));
-      }
-
   pub tested-late : (kept' : Record) (v : World D) (result : Outcome) → test ≡ None → Carried means plan heap o kept kept' w v result → Tested means plan heap test o kept kept' w v result
   tested-late kept' v result none carried = record { early = λ f e. absurd (cc (sym none ∙ e)); late = λ none. carried }
-
--- what holds where a test found a place
-pub at-ok : (r : Result ℕ HostFault) (k : ℕ) (P : ℕ → Type 0) → IfOk r P → r ≡ Ok k → P k
-at-ok r k P holds is = subst (λ (x : Result ℕ HostFault). IfOk x P) is holds
 
 pub place-low : (plan : Plan) (name : List ℕ) (i : ℕ) → control_place plan name ≡ Some i → i < length plan.controls
 place-low plan name i at = (position-Some (λ k. is_named plan name k.comp) plan.controls i no_control at).0
@@ -53,12 +41,6 @@ pub loaded : (power : Power) (rest : Option HostFault) → loaded_fault power re
 loaded Unloaded rest is = absurd (cc is)
 loaded On rest is = (λ e. cc e, is)
 loaded Off rest is = (λ e. cc e, is)
-
--- a read asks for the power
-pub powered : (power : Power) → (power ≡ Unloaded → ⊥) → off_fault power ≡ None → power ≡ On
-powered Unloaded up none = absurd (up refl)
-powered On up none = refl
-powered Off up none = absurd (cc none)
 
 -- what a name and no other test say
 pub named-none : (plan : Plan) (kept : Record) (name : List ℕ) (i : ℕ) → (kept.power ≡ Unloaded → ⊥) → control_place plan name ≡ Some i → get_fault plan kept name ≡ None
@@ -92,12 +74,6 @@ set-passes plan kept name values k named none = ap (setting_fault name values) (
 -- what is loaded and not on is off
 pub is-off : (power : Power) → (power ≡ Unloaded → ⊥) → (power ≡ Unloaded) ⊎ (power ≡ Off) → power ≡ Off
 is-off power up is = ⊎_elim (λ e. absurd (up e)) (λ off. off) is
-
--- a read of a control that there is
-pub read-powered : (plan : Plan) (kept : Record) (name : List ℕ) (k : ControlPlan) → named_control plan name ≡ Some k → read_fault plan kept name ≡ None → kept.power ≡ On
-read-powered plan kept name k named none =
-    let l = loaded kept.power (name_fault name (named_control plan name) (off_fault kept.power)) none in
-    powered kept.power l.0 (ap (λ (o : Option ControlPlan). name_fault name o (off_fault kept.power)) (sym named) ∙ l.1)
 
 -- what an answer says, with what else is so then
 pub told-alone : {X : Type 0} (r : Result X HostFault) (x : X) (Has : Type 0) → IfOk r (λ a. (a ≡ x) × Has) → IfOk r (λ a. a ≡ x)

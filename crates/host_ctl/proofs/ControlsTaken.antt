@@ -1,6 +1,6 @@
 -- The acts on the control at a place of a sound plan: both laws of one act hold of values that are put there, and of one that asks
 -- for them.
-use Rattle.std.proofs.Common.{◌≡◌, refl, sym, ap, subst, ◌∙◌, ℕ, ◌<◌, ◌≤◌, ◌^◌, zero, suc, Bool, true, false, not, cond, List, [], ◌∷◌, length, map, Some, Ok, Err, ◌==◌, ◌||◌, arith}
+use Rattle.std.proofs.Common.{◌≡◌, refl, sym, ap, subst, ◌∙◌, ℕ, ◌<◌, ◌≤◌, ◌^◌, Bool, true, false, not, cond, List, [], ◌∷◌, length, map, Some, Ok, Err, arith}
 use Rattle.std.specs.Prelude.{is_some}
 use Rattle.std.specs.List.{AllByRecursion}
 use Rattle.std.proofs.lemmas.List.{length-map}
@@ -32,7 +32,7 @@ use Rattle.host_widgets.proofs.ActsCome.{IsAnswered}
 use Rattle.host_widgets.proofs.ControlLists.{bare-one}
 use Rattle.host_widgets.proofs.PartFacts.{none-empty}
 use Rattle.host_widgets.proofs.Effects.{decoded-message}
-use Rattle.host_widgets.proofs.GreatestGains.{AreGains, gains-are, set-message}
+use Rattle.host_widgets.proofs.GreatestGains.{AreGains, gains-are, set-message, of-values}
 use Rattle.host_widgets.proofs.EightMasks.{eight, few-masks, masks-few, ranged-masks}
 use Rattle.host_widgets.specs.Controls.{eight_masks}
 use Rattle.host_widgets.proofs.LookedUp.{found-is, each-found}
@@ -49,16 +49,10 @@ use Rattle.host_ctl.proofs.PutAnswers.{control, put-answers, values-at, asked-an
 
 -- ---- messages
 
-of-asked : (command : ℕ) → command ≤ 2 → (command == 0 || command == 1 || command == 2) ≡ true
-of-asked zero low = refl
-of-asked (suc zero) low = refl
-of-asked (suc (suc zero)) low = refl
-of-asked (suc (suc (suc n))) low = absurd (omega (arith, low))
-
 get-fits : (id command : ℕ) → id < 2 ^ 32 → command ≤ 2 → IsMessage (GetValue id command)
 unfolding AreSlots IsSlot
 get-fits id command fits low =
-    ((tt, (omega arith, (tt, (fits, (omega arith, (omega (arith, low), (tt, (tt, (tt, (tt, (tt, (tt, (tt, (tt, (tt, (tt, (tt, (tt, (tt, (tt, (tt, (tt, (tt, tt))))))))))))))))))))))), of-asked command low)
+    ((tt, (omega arith, (tt, (fits, (omega arith, (omega (arith, low), (tt, (tt, (tt, (tt, (tt, (tt, (tt, (tt, (tt, (tt, (tt, (tt, (tt, (tt, (tt, (tt, (tt, tt))))))))))))))))))))))), of-values command low)
 
 few-commands : (q : ControlKind) (command : ℕ) → value_command q ≡ Some command → command ≤ 2
 few-commands (Volume min max channels lowest step mute) command is = let same : 0 ≡ command = cc is in omega (arith, same)
@@ -137,10 +131,8 @@ module _ (plan : Plan) (sound : IsSound plan) (kept : Record) (is : IsRecordOf p
 
   module _ (values : List ℕ) (may : MaySet k.kind values) where
     no-blob : (q : ControlKind) → MaySet q values → (c : ControlRec) → Was (control k.comp q) c → c.blob ≡ []
-    no-blob (Volume min max channels lowest step mute) may c was = bare-one (Volume min max channels lowest step mute) c (λ m n e. cc e) was
-    no-blob (Choice items) may c was = bare-one (Choice items) c (λ m n e. cc e) was
     no-blob (Blob most initial) may c was = absurd (none-empty (may [] refl).2)
-    no-blob (Masks min max channels) may c was = bare-one (Masks min max channels) c (λ m n e. cc e) was
+    no-blob q may c was = bare-one q c (λ m n e. cc e) was
 
     pub set-all : AreControls plan.controls (with_control plan k.comp (with_values values) kept).controls
     set-all = controls-with k.comp (with_values values) plan.controls kept.controls (all plan.controls (each-found (λ (x : ControlPlan). x.comp) plan.controls sound.controls_ascend)) is.controls

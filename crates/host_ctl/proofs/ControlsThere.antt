@@ -132,3 +132,14 @@ module _ (plan : Plan) (sound : IsSound plan) (kept : Record) (is : IsRecordOf p
   place-changed values =
       ap (λ (rs : List ControlRec). record { power = kept.power; streams = kept.streams; controls = rs })
       (changed-at (λ (x : ControlPlan). x.comp) (with_values values) no_control no_values plan.controls sound.controls_ascend kept.controls i low within)
+
+-- what is set twice to the same is set
+pub set-twice : (comp : ℕ) (f : ControlRec → ControlRec) → ((r : ControlRec) → f (f r) ≡ f r) → (ks : List ControlPlan) (rs : List ControlRec) →
+    changed (λ (k : ControlPlan). k.comp) comp f ks (changed (λ (k : ControlPlan). k.comp) comp f ks rs) ≡ changed (λ (k : ControlPlan). k.comp) comp f ks rs
+set-twice comp f same [] rs = refl
+set-twice comp f same (k ∷ ks) [] = refl
+set-twice comp f same (k ∷ ks) (r ∷ rs) = λ i. by (k.comp == comp) i ∷ set-twice comp f same ks rs i
+  where
+    by : (b : Bool) → (if b then f (if b then f r else r) else (if b then f r else r)) ≡ (if b then f r else r)
+    by true = same r
+    by false = refl

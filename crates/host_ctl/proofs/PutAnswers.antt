@@ -160,9 +160,7 @@ module _ (f : FwState) (id : ℕ) (x : Comp) (there : comp_of f.graph id ≡ Som
 
   -- what is set there is what is said of it
   pub set-said : (q : ControlKind) → Shown q → setting_answer x.setting ≡ control_answer q c
-  set-said (Volume min max channels lowest step mute) (of, is, was) = ap setting_answer (is ∙ ap (λ (kind : Kind). record_setting kind (Some (control id (Volume min max channels lowest step mute), c))) of.0)
   set-said (Choice items) (of, is, was) =
       ap setting_answer (is ∙ ap (λ (kind : Kind). record_setting kind (Some (control id (Choice items), c))) of.0)
       ∙ ap answers.Values (one-value c.values (takes-by (Choice items) x.kind c of was))
-  set-said (Masks min max channels) (of, is, was) = ap setting_answer (is ∙ ap (λ (kind : Kind). record_setting kind (Some (control id (Masks min max channels), c))) of.0)
-  set-said (Blob most initial) (of, is, was) = ap setting_answer (is ∙ ap (λ (kind : Kind). record_setting kind (Some (control id (Blob most initial), c))) of.0)
+  set-said q (of, is, was) = ap setting_answer (is ∙ ap (λ (kind : Kind). record_setting kind (Some (control id q, c))) of.0)

@@ -98,9 +98,7 @@ volume-setting (settings.Gains gs) vs setting is = by (length vs == length gs &&
     by true is = let same : settings.Gains vs ≡ setting = cc is in sym same
     by false is = absurd (cc is)
 volume-setting settings.Nothing vs setting is = absurd (cc is)
-volume-setting (settings.Choice k) vs setting is = absurd (cc is)
-volume-setting (settings.Blob b) vs setting is = absurd (cc is)
-volume-setting (settings.Masks ms) vs setting is = absurd (cc is)
+volume-setting other vs setting is = absurd (cc is)
 
 mux-setting : (s : Setting) (vs : List ℕ) (setting : Setting) → fw.new_setting kinds.Mux s 1 vs ≡ Some setting → setting ≡ settings.Choice (get_or vs 0 0)
 mux-setting s [] setting is = absurd (cc is)

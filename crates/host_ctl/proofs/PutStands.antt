@@ -11,7 +11,7 @@ use Rattle.stream_law.specs.declared.graph.Comp.{Comp}
 use Rattle.stream_law.specs.declared.stream.StreamView.{StreamView}
 use Rattle.stream_law.specs.State.{FwState, View, view_of}
 use Rattle.stream_law.specs.Table.{number_of, list_of}
-use Rattle.stream_law.specs.Ways.{comp_of, components, buffers, source_of, sink_of, is_of, on_way, live, is_live_phase, same_shape, agree}
+use Rattle.stream_law.specs.Ways.{comp_of, buffers, source_of, sink_of, is_of, on_way, live, is_live_phase, same_shape, agree}
 use Rattle.stream_law.specs.Made.{blob}
 use Rattle.stream_law.specs.Seen.{flows, remembers, keeps_numbers, goes_on, numbers_in, marked, blob_in}
 use Rattle.stream_law.specs.Past.{Moment, Now, Past, part_of, Leads, after_now}

@@ -28,12 +28,12 @@ use Rattle.host_widgets.specs.Kept.{changed, with_stream}
 use Rattle.host_widgets.specs.Orders.{Procedure, sends}
 use Rattle.host_widgets.specs.StreamStands.{takes_trigger}
 use Rattle.host_widgets.proofs.AnsweredActs.{Answering, one-passed, one-failed, sends-rest}
-use Rattle.host_widgets.proofs.PlainOrders.{plain}
 use Rattle.host_widgets.proofs.RecordsStay.{may, Less, record-less}
+use Rattle.host_widgets.proofs.StreamAnswers.{anywhere}
 use Rattle.host_pcm.specs.declared.asking.Ask.TheVariants.{Closing}
 use Rattle.host_pcm.specs.Asks.{stream_at}
 use Rattle.host_pcm.specs.StreamCalls.{with_stream_at, host_at, place_order, shut}
-use Rattle.host_pcm.proofs.AtRest.{anywhere, is_idle, close-none}
+use Rattle.host_pcm.proofs.AtRest.{is_idle, close-none}
 use Rattle.host_pcm.proofs.OneOrders.{by-found, order-is}
 use Rattle.host_pcm.proofs.Places.{place-changed}
 

@@ -1,7 +1,7 @@
 -- A stream that is opened or closed by no message: its order is carried out, and the two sides go on agreeing.
 use Rattle.std.proofs.Common.{◌≡◌, ◌⊎◌, inl, inr, ⊎_elim, ℕ, zero, suc, ◌<◌, Bool, true, false, ◌||◌, ◌==◌, List, [], ◌∷◌, length, map, zip, get_or, Option, Some, None, Ok, refl, sym, ap, subst, ◌∙◌, if◌then◌else◌}
 use Rattle.std.specs.List.{list_any, list_all}
-use Rattle.std.proofs.lemmas.Bool.{and_parts}
+use Rattle.std.proofs.lemmas.Bool.{and_parts, or_parts}
 use Rattle.sof_base.specs.declared.format.Params.{Params}
 use Rattle.stream_law.specs.declared.stream.Phase.TheVariants.{Idle}
 use Rattle.stream_law.specs.declared.stream.StreamView.{StreamView}
@@ -33,6 +33,7 @@ use Rattle.host_pcm.specs.Asks.{stream_at, is_closed}
 use Rattle.host_pcm.specs.StreamCalls.{with_stream_at}
 use Rattle.host_pcm.specs.StreamCalls.{host_at, place_order, opened_stream, shut}
 use Rattle.host_widgets.proofs.PlainOrders.{plain, no-acts}
+use Rattle.host_widgets.proofs.StreamAnswers.{anywhere}
 use Rattle.host_pcm.proofs.Places.{place-changed}
 
 -- ---- streams that show nothing
@@ -63,10 +64,6 @@ may-at [] k all = refl
 may-at (r ∷ rs) zero all = (and_parts (may r) (list_all may rs) all).0
 may-at (r ∷ rs) (suc k) all = may-at rs k (and_parts (may r) (list_all may rs) all).1
 
-neither : (a b : Bool) → (a || b) ≡ false → (a ≡ false) × (b ≡ false)
-neither false b is = (refl, is)
-neither true b is = absurd (cc is)
-
 abbrev is_live : StreamRec → Bool
 is_live r = is_live_phase (phase_of r.found)
 
@@ -88,17 +85,12 @@ module _ (host : ℕ) (c : StreamRec) (idle : IsIdle c) where
   none-live [] rs none = none
   none-live (s ∷ ss) [] none = refl
   none-live (s ∷ ss) (r ∷ rs) none =
-      let parts = neither (is_live r) (list_any is_live rs) none in
+      let parts = or_parts (is_live r) (list_any is_live rs) none in
       λ i. by (s.host == host) parts.0 i || none-live ss rs parts.1 i
     where
       by : (b : Bool) → is_live r ≡ false → is_live (if b then c else r) ≡ false
       by true was = ap is_live_phase idle.0
       by false was = was
-
-pub anywhere : (So : StreamRec → Type 0) → ((r : StreamRec) → So r) → (host : ℕ) (ss : List StreamPlan) (rs : List StreamRec) → AllAt So host ss rs
-anywhere So so host [] rs = tt
-anywhere So so host (s ∷ ss) [] = tt
-anywhere So so host (s ∷ ss) (r ∷ rs) = (λ here. so r, anywhere So so host ss rs)
 
 -- ---- both sides
 
@@ -181,8 +173,4 @@ idle-while-off power up is on = ⊎_elim (λ e. absurd (up e)) (λ off. absurd (
 
 pub closed-idle : (found : Found) → is_closed found ≡ true → is_idle found ≡ true
 closed-idle Closed is = refl
-closed-idle Open is = absurd (cc is)
-closed-idle Prepared is = absurd (cc is)
-closed-idle Running is = absurd (cc is)
-closed-idle Paused is = absurd (cc is)
-closed-idle Found_On is = absurd (cc is)
+closed-idle found is = absurd (cc is)

@@ -1,6 +1,6 @@
 -- What the tests before any message tell.
-use Rattle.std.proofs.Common.{◌≡◌, ℕ, ◌<◌, Bool, true, false, not, cond, List, length, Option, Some, None, unwrap_or, Result, Ok, Err, refl, sym, ap, subst, ◌∙◌}
-use Rattle.std.specs.Prelude.{IfOk, IfErr}
+use Rattle.std.proofs.Common.{◌≡◌, ℕ, ◌<◌, Bool, true, false, not, cond, List, length, Option, Some, None, unwrap_or, Result, Ok, refl, sym, ap, subst, ◌∙◌}
+use Rattle.std.specs.Prelude.{IfOk}
 use Rattle.std.proofs.lemmas.List.Quantifiers.{position-Some}
 use Rattle.mbox_link.specs.Calls.{World, Meaning}
 use Rattle.tplg_model.specs.declared.pcm.Caps.{Caps}
@@ -65,14 +65,6 @@ module _ (plan : Plan) (kept : Record) (name : List ℕ) (ask : Ask) where
       }
 
   module _ {D : Type 0} (means : Meaning D) (heap : ℕ) (w : World D) where
-    pub asked-early : (r : Result ℕ HostFault) (fault : HostFault) (result : Outcome) → IfErr r (λ f. early_fault plan kept name ask ≡ Some f) → r ≡ Err fault → result ≡ Err fault → Asked means plan heap name ask kept kept w w result
-    asked-early r fault result early is this =
-        let some : early_fault plan kept name ask ≡ Some fault = subst (λ (x : Result ℕ HostFault). IfErr x (λ f. early_fault plan kept name ask ≡ Some f)) is early in
-        record {
-          early = λ f e. (let same : fault ≡ f = cc (sym some ∙ e) in (this ∙ ap (λ (x : HostFault). Err x) same, refl, refl));
-          late = λ none. absurd (cc (sym some ∙ none));
-        }
-
     pub asked-late : (k : ℕ) (kept' : Record) (v : World D) (result : Outcome) → Found_place k → Carried means plan heap (place_order plan kept k ask) kept kept' w v result → Asked means plan heap name ask kept kept' w v result
     asked-late k kept' v result at carried = record {
       early = λ f e. absurd (cc (sym at.none ∙ e));

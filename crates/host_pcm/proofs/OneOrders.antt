@@ -6,7 +6,7 @@ use Rattle.tplg_plan.specs.Sound.{IsSound}
 use Rattle.host_widgets.specs.declared.answers.Answer.TheVariants.{Done}
 use Rattle.host_widgets.specs.declared.answers.HostFault.{HostFault}
 use Rattle.host_widgets.specs.declared.kept.Found.{Found}
-use Rattle.host_widgets.specs.declared.kept.Found.TheVariants.{Closed, Open, Prepared, Running, Paused, On as Found_On}
+use Rattle.host_widgets.specs.declared.kept.Found.TheVariants.{Prepared, Running, Paused}
 use Rattle.host_widgets.specs.declared.kept.Power.{Power}
 use Rattle.host_widgets.specs.declared.kept.Power.TheVariants.{On}
 use Rattle.host_widgets.specs.declared.kept.StreamRec.{StreamRec}
@@ -60,12 +60,9 @@ module _ {D : Type 0} (means : Meaning D) (plan : Plan) (heap : ℕ) where
       both = Trig (host_at plan k) Stop ∷ Free (host_at plan k) ∷ []
 
       stops : (found : Found) → takes_trigger Stop found ≡ true → close_by (host_at plan k) found ≡ both
-      stops Closed is = absurd (cc is)
-      stops Open is = absurd (cc is)
-      stops Prepared is = absurd (cc is)
       stops Running is = refl
       stops Paused is = refl
-      stops Found_On is = absurd (cc is)
+      stops found is = absurd (cc is)
 
       pub order-is : plain both shuts ≡ place_order plan kept k Closing
       order-is = by-found (stream_at kept k).found both refl (stops (stream_at kept k).found moves)

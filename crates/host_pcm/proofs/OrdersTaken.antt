@@ -7,7 +7,7 @@ use Rattle.tplg_plan.specs.Sound.{IsSound}
 use Rattle.host_widgets.specs.Named.{loaded_fault}
 use Rattle.host_widgets.specs.declared.answers.HostFault.TheVariants.{NoSuch}
 use Rattle.host_widgets.specs.declared.kept.Found.{Found}
-use Rattle.host_widgets.specs.declared.kept.Found.TheVariants.{Closed, Open, Prepared, Running, Paused, On as Found_On}
+use Rattle.host_widgets.specs.declared.kept.Found.TheVariants.{Prepared, Running, Paused}
 use Rattle.host_widgets.specs.declared.kept.Power.{Power}
 use Rattle.host_widgets.specs.declared.kept.Power.TheVariants as powers
 use Rattle.host_widgets.specs.declared.kept.StreamRec.{StreamRec}
@@ -69,12 +69,10 @@ module _ (plan : Plan) (sound : IsSound plan) (kept : Record) (is : IsRecordOf p
     )
 
     close-taken : (found : Found) → (stream_at kept k).found ≡ found → AreTaken plan false kept (close_by host found)
-    close-taken Closed found = none-taken plan false kept
-    close-taken Open found = none-taken plan false kept
-    close-taken Found_On found = none-taken plan false kept
     close-taken Prepared found = alone (Free host) tt (free-is plan sound kept is host some (at-host (λ r. r.found ≡ Prepared) found))
     close-taken Running found = both-taken (ap (takes_trigger Stop) found)
     close-taken Paused found = both-taken (ap (takes_trigger Stop) found)
+    close-taken other found = none-taken plan false kept
 
     -- by what is asked, and the power
     ask-taken : (ask : Ask) (power : Power) → Stood (stream_caps plan k) ask (stream_at kept k).found kept.power → AreTaken plan false kept (asking_order plan (record { power = power; streams = kept.streams; controls = kept.controls }) host (stream_at kept k).found ask).acts
@@ -82,20 +80,17 @@ module _ (plan : Plan) (sound : IsSound plan) (kept : Record) (is : IsRecordOf p
     ask-taken Opening powers.Off stood = none-taken plan false kept
     ask-taken Opening powers.Unloaded stood = none-taken plan false kept
     ask-taken (Preparing p) powers.On stood = alone (Prepare host p) tt (prepare-is plan sound kept is host some p (ranges (stream_caps plan k) p stood.range) (at-host (λ r. takes_params r.found ≡ true) stood.takes_it))
-    ask-taken (Preparing p) powers.Off stood = none-taken plan false kept
     ask-taken (Preparing p) powers.Unloaded stood = none-taken plan false kept
     ask-taken (Triggering what) powers.On stood = alone (Trig host what) tt (trig-is plan sound kept is host some what (at-host (λ r. takes_trigger what r.found ≡ true) stood.takes_it))
-    ask-taken (Triggering what) powers.Off stood = none-taken plan false kept
     ask-taken (Triggering what) powers.Unloaded stood = none-taken plan false kept
     ask-taken Closing powers.On stood = close-taken (stream_at kept k).found refl
-    ask-taken Closing powers.Off stood = none-taken plan false kept
     ask-taken Closing powers.Unloaded stood = none-taken plan false kept
+    ask-taken ask powers.Off stood = none-taken plan false kept
 
   module _ (name : List ℕ) (ask : Ask) (none : early_fault plan kept name ask ≡ None) where
     no-place : (power : Power) → loaded_fault power (Some (NoSuch name)) ≡ None → ⊥
     no-place powers.Unloaded is_none = cc is_none
-    no-place powers.On is_none = cc is_none
-    no-place powers.Off is_none = cc is_none
+    no-place power is_none = cc is_none
 
     -- the acts of the stream's order
     pub asked-taken : AreTaken plan false kept (stream_order plan kept name ask).acts

@@ -47,8 +47,8 @@ keep-requires c =
     let k = control_here plan i in
     within plan sound kept is i low
 
-pub returns-clause-kept : goal.returns-clause-kept
-returns-clause-kept c =
+pub returns : goal.returns
+returns c =
     let plan = c.args.plan.now in
     let kept = c.args.kept.now in
     let name = c.args.name.now in
@@ -61,31 +61,18 @@ returns-clause-kept c =
     let k = control_here plan i in
     let all : c.all_values-all.result ≡ spread (unwrap_or (channels_of k.kind) 0) c.args.values.now = c.all_values-all.ensures ∙ ap (λ (x : ControlPlan). spread (unwrap_or (channels_of x.kind) 0) c.args.values.now) (place-control plan i low c.items.result.now _ c.items.ensures) in
     let vs = spread (unwrap_or (channels_of k.kind) 0) c.args.values.now in
-    record {
-      early = λ f e. absurd (cc (sym c.in_ok-place.ensures.none ∙ e));
-      late = λ none. (
-        refl,
-        c.keep.ensures ∙ ap (λ (xs : List ℕ). with_values_at i xs kept) all ∙ place-changed plan sound kept is i low vs
-            ∙ ap (λ (f : Record → Record). f kept) (sym (sends-done kept.power (Put k.comp vs ∷ []) (with_control plan k.comp (with_values vs)) Done))
-            ∙ ap (λ (o : Procedure). o.done kept) (ap (setting_order plan kept c.args.values.now) (sym named)),
-      );
-    }
-
-pub returns-clause-record_is : goal.returns-clause-record_is
-returns-clause-record_is c =
-    let plan = c.args.plan.now in
-    let kept = c.args.kept.now in
-    let name = c.args.name.now in
-    let sound = c.requires.plan in
-    let is = c.requires.kept in
-    let i = c.in_ok-place.place in
-    let at = c.in_ok-place.ensures.place in
-    let low = place-low plan name i at in
-    let named = named-here plan sound kept is i low name at in
-    let k = control_here plan i in
     let there = live plan sound kept is i low in
     let fits = settable name k.kind c.args.values.now there.comp.kind there.kind (set-passes plan kept name c.args.values.now k named c.in_ok-place.ensures.none) in
-    let all : c.all_values-all.result ≡ spread (unwrap_or (channels_of k.kind) 0) c.args.values.now = c.all_values-all.ensures ∙ ap (λ (x : ControlPlan). spread (unwrap_or (channels_of x.kind) 0) c.args.values.now) (place-control plan i low c.items.result.now _ c.items.ensures) in
-    let vs = spread (unwrap_or (channels_of k.kind) 0) c.args.values.now in
-    subst (IsRecordOf plan) (sym (c.keep.ensures ∙ ap (λ (xs : List ℕ). with_values_at i xs kept) all ∙ place-changed plan sound kept is i low vs))
-    (put-record plan kept k.comp (with_values vs) (λ c. refl) is (set-all plan sound kept is i low vs fits.may))
+    record {
+      kept = record {
+        early = λ f e. absurd (cc (sym c.in_ok-place.ensures.none ∙ e));
+        late = λ none. (
+          refl,
+          c.keep.ensures ∙ ap (λ (xs : List ℕ). with_values_at i xs kept) all ∙ place-changed plan sound kept is i low vs
+              ∙ ap (λ (f : Record → Record). f kept) (sym (sends-done kept.power (Put k.comp vs ∷ []) (with_control plan k.comp (with_values vs)) Done))
+              ∙ ap (λ (o : Procedure). o.done kept) (ap (setting_order plan kept c.args.values.now) (sym named)),
+        );
+      };
+      record_is = subst (IsRecordOf plan) (sym (c.keep.ensures ∙ ap (λ (xs : List ℕ). with_values_at i xs kept) all ∙ place-changed plan sound kept is i low vs))
+          (put-record plan kept k.comp (with_values vs) (λ c. refl) is (set-all plan sound kept is i low vs fits.may));
+    }

@@ -18,8 +18,8 @@ use Rattle.host_ctl.proofs.ControlOrdered.{read-named, sends-answer}
 use Rattle.host_ctl.proofs.ControlTests.{tested-late, place-low, told-alone, told-shown}
 use Rattle.host_ctl.proofs.commands.read.Goals as goal
 
-pub returns-clause-answered : goal.returns-clause-answered
-returns-clause-answered g c =
+pub returns : goal.returns
+returns g c =
     let means = g.P.Dsp.means in
     let plan = c.args.plan.now in
     let heap = c.args.heap in
@@ -36,72 +36,16 @@ returns-clause-answered g c =
     let now = c.read.new.side.kept.now in
     let v = world_of c.read.new.side in
     let came = outcome_of c.read.result in
-    subst (λ (e : Record × World g.row.P.Denot). TestedAnswered means plan heap (read_fault plan kept name) (read_order plan kept name) kept e.0 w e.1 came) (search rules)
-    (late-answered means plan heap (read_fault plan kept name) (read_order plan kept name) kept now w v came c.in_ok-place.ensures.none (subst (λ (o : Procedure). OrderAnswered means plan heap o kept now w v came) same c.read.ensures.answered))
-
-pub returns-clause-asked : goal.returns-clause-asked
-returns-clause-asked g c agrees =
-    let means = g.P.Dsp.means in
-    let plan = c.args.plan.now in
-    let heap = c.args.heap in
-    let kept = c.args.kept.now in
-    let name = c.args.name.now in
-    let w = world c.args.dsp.now c.args.io.now c.args.out.now in
-    let i = c.in_ok-place.place in
-    let at = c.in_ok-place.ensures.place in
-    let low = place-low plan name i at in
-    let named = named-here plan c.requires.plan kept c.requires.kept i low name at in
-    let k = control_here plan i in
-    let r = record_here kept i in
-    let same = read-named means plan c.requires.plan heap i low kept c.requires.kept w name named in
-    let now = c.read.new.side.kept.now in
-    let v = world_of c.read.new.side in
-    let came = outcome_of c.read.result in
-    subst (λ (e : Record × World g.row.P.Denot). Tested means plan heap (read_fault plan kept name) (read_order plan kept name) kept e.0 w e.1 came) (search rules)
-    (tested-late means plan heap (read_fault plan kept name) (read_order plan kept name) kept w now v came c.in_ok-place.ensures.none (subst (λ (o : Procedure). Carried means plan heap o kept now w v came) same (c.read.ensures.agree agrees).0))
-
-pub returns-clause-told : goal.returns-clause-told
-returns-clause-told g c set =
-    let means = g.P.Dsp.means in
-    let plan = c.args.plan.now in
-    let heap = c.args.heap in
-    let kept = c.args.kept.now in
-    let name = c.args.name.now in
-    let w = world c.args.dsp.now c.args.io.now c.args.out.now in
-    let i = c.in_ok-place.place in
-    let at = c.in_ok-place.ensures.place in
-    let low = place-low plan name i at in
-    let named = named-here plan c.requires.plan kept c.requires.kept i low name at in
-    let k = control_here plan i in
-    let r = record_here kept i in
-    let same = read-named means plan c.requires.plan heap i low kept c.requires.kept w name named in
-    let now = c.read.new.side.kept.now in
-    let v = world_of c.read.new.side in
-    let came = outcome_of c.read.result in
-    subst (λ (x : Answer). IfOk c.read.result (λ a. a ≡ x)) (sym (sends-answer kept.power (ask_acts k.comp k.kind r) (λ now. now) (control_answer k.kind r)) ∙ ap (λ (o : Procedure). o.answer) same)
-    (told-alone c.read.result (control_answer k.kind r) (HasSet means plan kept k.comp c.read.new.side.dsp.now) (c.read.ensures.told (set k named)))
-
-pub returns-clause-shown : goal.returns-clause-shown
-returns-clause-shown g c set =
-    let means = g.P.Dsp.means in
-    let plan = c.args.plan.now in
-    let heap = c.args.heap in
-    let kept = c.args.kept.now in
-    let name = c.args.name.now in
-    let w = world c.args.dsp.now c.args.io.now c.args.out.now in
-    let i = c.in_ok-place.place in
-    let at = c.in_ok-place.ensures.place in
-    let low = place-low plan name i at in
-    let named = named-here plan c.requires.plan kept c.requires.kept i low name at in
-    let k = control_here plan i in
-    let r = record_here kept i in
-    let same = read-named means plan c.requires.plan heap i low kept c.requires.kept w name named in
-    let now = c.read.new.side.kept.now in
-    let v = world_of c.read.new.side in
-    let came = outcome_of c.read.result in
-    subst (λ (d : g.row.P.Denot). IfOk c.read.result (λ a. Shows plan name a (means.on d))) (search rules)
-    (told-shown c.read.result (control_answer k.kind r) (HasSet means plan kept k.comp c.read.new.side.dsp.now) (λ (a : Answer). Shows plan name a (means.on c.read.new.side.dsp.now)) (c.read.ensures.told (set k named))
-    (λ has. said-shown means plan c.requires.plan heap i low kept c.requires.kept c.read.new.side.dsp.now has name named))
-
-pub returns-clause-agree : goal.returns-clause-agree
-returns-clause-agree g c agrees = subst (λ (e : Record × g.row.P.Denot). Agrees g.P.Dsp.means c.args.plan.now e.0 e.1) (search rules) (c.read.ensures.agree agrees).1
+    record {
+      answered = subst (λ (e : Record × World g.row.P.Denot). TestedAnswered means plan heap (read_fault plan kept name) (read_order plan kept name) kept e.0 w e.1 came) (search rules)
+          (late-answered means plan heap (read_fault plan kept name) (read_order plan kept name) kept now w v came c.in_ok-place.ensures.none (subst (λ (o : Procedure). OrderAnswered means plan heap o kept now w v came) same c.read.ensures.answered));
+      asked = λ agrees. (subst (λ (e : Record × World g.row.P.Denot). Tested means plan heap (read_fault plan kept name) (read_order plan kept name) kept e.0 w e.1 came) (search rules)
+          (tested-late means plan heap (read_fault plan kept name) (read_order plan kept name) kept w now v came c.in_ok-place.ensures.none (subst (λ (o : Procedure). Carried means plan heap o kept now w v came) same (c.read.ensures.agree agrees).0)));
+      told = λ set. (subst (λ (x : Answer). IfOk c.read.result (λ a. a ≡ x)) (sym (sends-answer kept.power (ask_acts k.comp k.kind r) (λ now. now) (control_answer k.kind r)) ∙ ap (λ (o : Procedure). o.answer) same)
+          (told-alone c.read.result (control_answer k.kind r) (HasSet means plan kept k.comp c.read.new.side.dsp.now) (c.read.ensures.told (set k named))));
+      shown = λ set. (subst (λ (d : g.row.P.Denot). IfOk c.read.result (λ a. Shows plan name a (means.on d))) (search rules)
+          (told-shown c.read.result (control_answer k.kind r) (HasSet means plan kept k.comp c.read.new.side.dsp.now) (λ (a : Answer). Shows plan name a (means.on c.read.new.side.dsp.now)) (c.read.ensures.told (set k named))
+          (λ has. said-shown means plan c.requires.plan heap i low kept c.requires.kept c.read.new.side.dsp.now has name named)));
+      agree = λ agrees. (subst (λ (e : Record × g.row.P.Denot). Agrees g.P.Dsp.means c.args.plan.now e.0 e.1) (search rules) (c.read.ensures.agree agrees).1
+          );
+    }

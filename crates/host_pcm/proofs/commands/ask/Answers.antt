@@ -12,8 +12,8 @@ use Rattle.host_pcm.proofs.HostTests.{found_place}
 use Rattle.host_pcm.proofs.AsksCarried.{answered-asked, carried-asked, opened-agrees, opened-answered, opened-asked, prepared-answered, prepared-asked, triggered-answered, triggered-asked}
 use Rattle.host_pcm.proofs.commands.ask.Goals as goal
 
-pub returns-in-Opening-clause-answered : goal.returns-in-Opening-clause-answered
-returns-in-Opening-clause-answered g c =
+pub returns-in-Opening : goal.returns-in-Opening
+returns-in-Opening g c =
     let means = g.P.Dsp.means in
     let plan = c.args.plan.now in
     let kept = c.args.kept.now in
@@ -22,10 +22,14 @@ returns-in-Opening-clause-answered g c =
     let w = world c.args.dsp.now c.args.io.now c.args.out.now in
     let k = c.in_ok-place.place in
     let at = found_place plan kept name c.args.ask c.tested.result k c.tested.ensures.place c.tested.ensures.none c.in_ok-place.was in
-    opened-answered plan kept name c.args.ask k at means heap w c.requires.plan c.requires.kept.streams c.in-Opening.is c.open.new.kept c.open.ensures
+    record {
+      answered = opened-answered plan kept name c.args.ask k at means heap w c.requires.plan c.requires.kept.streams c.in-Opening.is c.open.new.kept c.open.ensures;
+      asked = λ agrees. opened-asked plan kept name c.args.ask k at means heap w c.requires.plan c.requires.kept.streams c.open.new.kept c.open.ensures c.in-Opening.is;
+      agree = λ agrees. opened-agrees plan kept name c.args.ask k at means heap w c.requires.plan c.requires.kept.streams c.open.new.kept c.open.ensures c.in-Opening.is agrees;
+    }
 
-pub returns-in-Opening-clause-asked : goal.returns-in-Opening-clause-asked
-returns-in-Opening-clause-asked g c agrees =
+pub returns-in-Preparing : goal.returns-in-Preparing
+returns-in-Preparing g c =
     let means = g.P.Dsp.means in
     let plan = c.args.plan.now in
     let kept = c.args.kept.now in
@@ -34,10 +38,16 @@ returns-in-Opening-clause-asked g c agrees =
     let w = world c.args.dsp.now c.args.io.now c.args.out.now in
     let k = c.in_ok-place.place in
     let at = found_place plan kept name c.args.ask c.tested.result k c.tested.ensures.place c.tested.ensures.none c.in_ok-place.was in
-    opened-asked plan kept name c.args.ask k at means heap w c.requires.plan c.requires.kept.streams c.open.new.kept c.open.ensures c.in-Opening.is
+    record {
+      answered = subst (λ (e : Record × World g.row.P.Denot). TestedAnswered means plan heap (early_fault plan kept name c.args.ask) (stream_order plan kept name c.args.ask) kept e.0 w e.1 c.prepare.result) (search rules)
+          (prepared-answered plan kept name c.args.ask k at means heap w c.in-Preparing.p c.in-Preparing.is c.prepare.new.side.kept.now (world_of c.prepare.new.side) c.prepare.result c.prepare.ensures.answered);
+      asked = λ agrees. (subst (λ (e : Record × World g.row.P.Denot). Asked means plan heap name c.args.ask kept e.0 w e.1 c.prepare.result) (search rules)
+          (prepared-asked plan kept name c.args.ask k at means heap w c.in-Preparing.p c.in-Preparing.is c.prepare.new.side.kept.now (world_of c.prepare.new.side) c.prepare.result (c.prepare.ensures.agree agrees).0));
+      agree = λ agrees. subst (λ (e : Record × g.row.P.Denot). Agrees g.P.Dsp.means c.args.plan.now e.0 e.1) (search rules) (c.prepare.ensures.agree agrees).1;
+    }
 
-pub returns-in-Opening-clause-agree : goal.returns-in-Opening-clause-agree
-returns-in-Opening-clause-agree g c agrees =
+pub returns-in-Triggering : goal.returns-in-Triggering
+returns-in-Triggering g c =
     let means = g.P.Dsp.means in
     let plan = c.args.plan.now in
     let kept = c.args.kept.now in
@@ -46,10 +56,16 @@ returns-in-Opening-clause-agree g c agrees =
     let w = world c.args.dsp.now c.args.io.now c.args.out.now in
     let k = c.in_ok-place.place in
     let at = found_place plan kept name c.args.ask c.tested.result k c.tested.ensures.place c.tested.ensures.none c.in_ok-place.was in
-    opened-agrees plan kept name c.args.ask k at means heap w c.requires.plan c.requires.kept.streams c.open.new.kept c.open.ensures c.in-Opening.is agrees
+    record {
+      answered = subst (λ (e : Record × World g.row.P.Denot). TestedAnswered means plan heap (early_fault plan kept name c.args.ask) (stream_order plan kept name c.args.ask) kept e.0 w e.1 c.trigger.result) (search rules)
+          (triggered-answered plan kept name c.args.ask k at means heap w c.in-Triggering.what c.in-Triggering.is c.trigger.new.side.kept.now (world_of c.trigger.new.side) c.trigger.result c.trigger.ensures.answered);
+      asked = λ agrees. (subst (λ (e : Record × World g.row.P.Denot). Asked means plan heap name c.args.ask kept e.0 w e.1 c.trigger.result) (search rules)
+          (triggered-asked plan kept name c.args.ask k at means heap w c.in-Triggering.what c.in-Triggering.is c.trigger.new.side.kept.now (world_of c.trigger.new.side) c.trigger.result (c.trigger.ensures.agree agrees).0));
+      agree = λ agrees. subst (λ (e : Record × g.row.P.Denot). Agrees g.P.Dsp.means c.args.plan.now e.0 e.1) (search rules) (c.trigger.ensures.agree agrees).1;
+    }
 
-pub returns-in-Preparing-clause-answered : goal.returns-in-Preparing-clause-answered
-returns-in-Preparing-clause-answered g c =
+pub returns-in-Closing : goal.returns-in-Closing
+returns-in-Closing g c =
     let means = g.P.Dsp.means in
     let plan = c.args.plan.now in
     let kept = c.args.kept.now in
@@ -58,82 +74,11 @@ returns-in-Preparing-clause-answered g c =
     let w = world c.args.dsp.now c.args.io.now c.args.out.now in
     let k = c.in_ok-place.place in
     let at = found_place plan kept name c.args.ask c.tested.result k c.tested.ensures.place c.tested.ensures.none c.in_ok-place.was in
-    subst (λ (e : Record × World g.row.P.Denot). TestedAnswered means plan heap (early_fault plan kept name c.args.ask) (stream_order plan kept name c.args.ask) kept e.0 w e.1 c.prepare.result) (search rules)
-    (prepared-answered plan kept name c.args.ask k at means heap w c.in-Preparing.p c.in-Preparing.is c.prepare.new.side.kept.now (world_of c.prepare.new.side) c.prepare.result c.prepare.ensures.answered)
-
-pub returns-in-Preparing-clause-asked : goal.returns-in-Preparing-clause-asked
-returns-in-Preparing-clause-asked g c agrees =
-    let means = g.P.Dsp.means in
-    let plan = c.args.plan.now in
-    let kept = c.args.kept.now in
-    let name = c.args.name.now in
-    let heap = c.args.heap in
-    let w = world c.args.dsp.now c.args.io.now c.args.out.now in
-    let k = c.in_ok-place.place in
-    let at = found_place plan kept name c.args.ask c.tested.result k c.tested.ensures.place c.tested.ensures.none c.in_ok-place.was in
-    subst (λ (e : Record × World g.row.P.Denot). Asked means plan heap name c.args.ask kept e.0 w e.1 c.prepare.result) (search rules)
-    (prepared-asked plan kept name c.args.ask k at means heap w c.in-Preparing.p c.in-Preparing.is c.prepare.new.side.kept.now (world_of c.prepare.new.side) c.prepare.result (c.prepare.ensures.agree agrees).0)
-
-pub returns-in-Preparing-clause-agree : goal.returns-in-Preparing-clause-agree
-returns-in-Preparing-clause-agree g c agrees =
-    subst (λ (e : Record × g.row.P.Denot). Agrees g.P.Dsp.means c.args.plan.now e.0 e.1) (search rules) (c.prepare.ensures.agree agrees).1
-
-pub returns-in-Triggering-clause-answered : goal.returns-in-Triggering-clause-answered
-returns-in-Triggering-clause-answered g c =
-    let means = g.P.Dsp.means in
-    let plan = c.args.plan.now in
-    let kept = c.args.kept.now in
-    let name = c.args.name.now in
-    let heap = c.args.heap in
-    let w = world c.args.dsp.now c.args.io.now c.args.out.now in
-    let k = c.in_ok-place.place in
-    let at = found_place plan kept name c.args.ask c.tested.result k c.tested.ensures.place c.tested.ensures.none c.in_ok-place.was in
-    subst (λ (e : Record × World g.row.P.Denot). TestedAnswered means plan heap (early_fault plan kept name c.args.ask) (stream_order plan kept name c.args.ask) kept e.0 w e.1 c.trigger.result) (search rules)
-    (triggered-answered plan kept name c.args.ask k at means heap w c.in-Triggering.what c.in-Triggering.is c.trigger.new.side.kept.now (world_of c.trigger.new.side) c.trigger.result c.trigger.ensures.answered)
-
-pub returns-in-Triggering-clause-asked : goal.returns-in-Triggering-clause-asked
-returns-in-Triggering-clause-asked g c agrees =
-    let means = g.P.Dsp.means in
-    let plan = c.args.plan.now in
-    let kept = c.args.kept.now in
-    let name = c.args.name.now in
-    let heap = c.args.heap in
-    let w = world c.args.dsp.now c.args.io.now c.args.out.now in
-    let k = c.in_ok-place.place in
-    let at = found_place plan kept name c.args.ask c.tested.result k c.tested.ensures.place c.tested.ensures.none c.in_ok-place.was in
-    subst (λ (e : Record × World g.row.P.Denot). Asked means plan heap name c.args.ask kept e.0 w e.1 c.trigger.result) (search rules)
-    (triggered-asked plan kept name c.args.ask k at means heap w c.in-Triggering.what c.in-Triggering.is c.trigger.new.side.kept.now (world_of c.trigger.new.side) c.trigger.result (c.trigger.ensures.agree agrees).0)
-
-pub returns-in-Triggering-clause-agree : goal.returns-in-Triggering-clause-agree
-returns-in-Triggering-clause-agree g c agrees =
-    subst (λ (e : Record × g.row.P.Denot). Agrees g.P.Dsp.means c.args.plan.now e.0 e.1) (search rules) (c.trigger.ensures.agree agrees).1
-
-pub returns-in-Closing-clause-answered : goal.returns-in-Closing-clause-answered
-returns-in-Closing-clause-answered g c =
-    let means = g.P.Dsp.means in
-    let plan = c.args.plan.now in
-    let kept = c.args.kept.now in
-    let name = c.args.name.now in
-    let heap = c.args.heap in
-    let w = world c.args.dsp.now c.args.io.now c.args.out.now in
-    let k = c.in_ok-place.place in
-    let at = found_place plan kept name c.args.ask c.tested.result k c.tested.ensures.place c.tested.ensures.none c.in_ok-place.was in
-    subst (λ (e : Record × World g.row.P.Denot). TestedAnswered means plan heap (early_fault plan kept name c.args.ask) (stream_order plan kept name c.args.ask) kept e.0 w e.1 c.close.result) (search rules)
-    (answered-asked plan kept name c.args.ask k at means heap w Closing c.in-Closing.is c.close.new.side.kept.now (world_of c.close.new.side) c.close.result c.close.ensures.answered)
-
-pub returns-in-Closing-clause-asked : goal.returns-in-Closing-clause-asked
-returns-in-Closing-clause-asked g c agrees =
-    let means = g.P.Dsp.means in
-    let plan = c.args.plan.now in
-    let kept = c.args.kept.now in
-    let name = c.args.name.now in
-    let heap = c.args.heap in
-    let w = world c.args.dsp.now c.args.io.now c.args.out.now in
-    let k = c.in_ok-place.place in
-    let at = found_place plan kept name c.args.ask c.tested.result k c.tested.ensures.place c.tested.ensures.none c.in_ok-place.was in
-    subst (λ (e : Record × World g.row.P.Denot). Asked means plan heap name c.args.ask kept e.0 w e.1 c.close.result) (search rules)
-    (carried-asked plan kept name c.args.ask k at means heap w Closing c.in-Closing.is c.close.new.side.kept.now (world_of c.close.new.side) c.close.result (c.close.ensures.agree agrees).0)
-
-pub returns-in-Closing-clause-agree : goal.returns-in-Closing-clause-agree
-returns-in-Closing-clause-agree g c agrees =
-    subst (λ (e : Record × g.row.P.Denot). Agrees g.P.Dsp.means c.args.plan.now e.0 e.1) (search rules) (c.close.ensures.agree agrees).1
+    record {
+      answered = subst (λ (e : Record × World g.row.P.Denot). TestedAnswered means plan heap (early_fault plan kept name c.args.ask) (stream_order plan kept name c.args.ask) kept e.0 w e.1 c.close.result) (search rules)
+          (answered-asked plan kept name c.args.ask k at means heap w Closing c.in-Closing.is c.close.new.side.kept.now (world_of c.close.new.side) c.close.result c.close.ensures.answered);
+      asked = λ agrees. (subst (λ (e : Record × World g.row.P.Denot). Asked means plan heap name c.args.ask kept e.0 w e.1 c.close.result) (search rules)
+          (carried-asked plan kept name c.args.ask k at means heap w Closing c.in-Closing.is c.close.new.side.kept.now (world_of c.close.new.side) c.close.result (c.close.ensures.agree agrees).0));
+      agree = λ agrees. (subst (λ (e : Record × g.row.P.Denot). Agrees g.P.Dsp.means c.args.plan.now e.0 e.1) (search rules) (c.close.ensures.agree agrees).1
+          );
+    }

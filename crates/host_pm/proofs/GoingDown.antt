@@ -20,7 +20,7 @@ use Rattle.tplg_plan.specs.declared.plans.StreamPlan.{StreamPlan}
 use Rattle.tplg_plan.specs.Sound.{IsSound}
 use Rattle.host_widgets.specs.declared.answers.HostFault.TheVariants.{Off, Refused}
 use Rattle.host_widgets.specs.declared.kept.Found.{Found}
-use Rattle.host_widgets.specs.declared.kept.Found.TheVariants.{Closed, Open, Prepared, Running, Paused, On as Found_On}
+use Rattle.host_widgets.specs.declared.kept.Found.TheVariants.{Prepared, Running, Paused}
 use Rattle.host_widgets.specs.declared.kept.Power.TheVariants as powers
 use Rattle.host_widgets.specs.declared.kept.StreamRec.{StreamRec}
 use Rattle.host_widgets.specs.declared.kept.Record.{Record}
@@ -62,10 +62,7 @@ elsewhere So f host other apart (s ∷ ss) (r ∷ rs) so = (λ here. by (s.host 
 stops-halted : (found : Found) → takes_trigger Stop found ≡ true → Prepared ≡ halted_found found
 stops-halted Running is = refl
 stops-halted Paused is = refl
-stops-halted Closed is = absurd (cc is)
-stops-halted Open is = absurd (cc is)
-stops-halted Prepared is = absurd (cc is)
-stops-halted Found_On is = absurd (cc is)
+stops-halted found is = absurd (cc is)
 
 -- one that is stopped is as one that went down
 halts-same : (host : ℕ) (ss : List StreamPlan) (rs : List StreamRec) → AllAt (λ r. takes_trigger Stop r.found ≡ true) host ss rs → map halted (changed (λ (s : StreamPlan). s.host) host (triggered_stream Stop) ss rs) ≡ map halted rs
@@ -77,7 +74,7 @@ halts-same host (s ∷ ss) (r ∷ rs) so = λ i. by (s.host == host) refl i ∷ 
     by true is = λ i. record { found = stops-halted r.found (so.0 is) i; params = r.params }
     by false is = refl
 
-save-fits : IsMessage CtxSave
+pub save-fits : IsMessage CtxSave
 unfolding AreSlots IsSlot
 save-fits = ((tt, (omega arith, tt)), tt)
 
@@ -221,10 +218,7 @@ module _ (plan : Plan) (heap : ℕ) where
         by : (found : Found) → r.found ≡ found → AreDown now rest → (IsRecordOf plan (after plan (Trig s.host Stop) now) → AreDown (after plan (Trig s.host Stop) now) rest) → AreDown now ((stop_by s.host found ++ flat_map stop_acts (zip ss rs)) ++ Save ∷ [])
         by Running is_so same behind = stops (takes Running is_so refl) same behind
         by Paused is_so same behind = stops (takes Paused is_so refl) same behind
-        by Closed is_so same behind = same
-        by Open is_so same behind = same
-        by Prepared is_so same behind = same
-        by Found_On is_so same behind = same
+        by found is_so same behind = same
 
     -- ---- by places
 
@@ -246,10 +240,7 @@ module _ (plan : Plan) (heap : ℕ) where
     plain-one : (host : ℕ) (found : Found) (rest : List Act) → AllByRecursion IsPlain rest → AllByRecursion IsPlain (stop_by host found ++ rest)
     plain-one host Running rest all = (tt, all)
     plain-one host Paused rest all = (tt, all)
-    plain-one host Closed rest all = all
-    plain-one host Open rest all = all
-    plain-one host Prepared rest all = all
-    plain-one host Found_On rest all = all
+    plain-one host found rest all = all
 
     plain-down : (ss : List StreamPlan) (rs : List StreamRec) → AllByRecursion IsPlain (flat_map stop_acts (zip ss rs) ++ Save ∷ [])
     plain-down [] rs = (tt, tt)

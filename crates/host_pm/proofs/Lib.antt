@@ -1,8 +1,8 @@
 pub mod Turns
 pub mod TurnsCome
 pub mod GoingDown
-pub mod Unprepared
-pub mod StillTurns
+pub mod ParamsAgain
+pub mod PreparesTaken
 pub mod PowerOrders
 pub mod Loops
 pub mod ScratchTaken

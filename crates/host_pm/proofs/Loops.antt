@@ -26,7 +26,7 @@ zip-at (x ∷ ss) [] same k low s r = absurd (cc same)
 zip-at (x ∷ ss) (y ∷ rs) same zero low s r = refl
 zip-at (x ∷ ss) (y ∷ rs) same (suc k) low s r = zip-at ss rs (let rest : length rs ≡ length ss = omega (arith, same) in rest) k (omega (arith, low)) s r
 
-zip-long : (ss : List StreamPlan) (rs : List StreamRec) → length rs ≡ length ss → length (zip ss rs) ≡ length ss
+pub zip-long : (ss : List StreamPlan) (rs : List StreamRec) → length rs ≡ length ss → length (zip ss rs) ≡ length ss
 zip-long [] rs same = refl
 zip-long (x ∷ ss) [] same = absurd (cc same)
 zip-long (x ∷ ss) (y ∷ rs) same = ap suc (zip-long ss rs (let rest : length rs ≡ length ss = omega (arith, same) in rest))
@@ -40,11 +40,7 @@ drop-past (x ∷ xs) (suc k) low = drop-past xs k (omega (arith, low))
 module _ {D : Type 0} (means : Meaning D) (plan : Plan) (goes_on : Bool) where
   pub few-stops : (host : ℕ) (found : Found) → IsFew means plan goes_on (stop_by host found)
   few-stops host Running = tt
-  few-stops host Paused = tt
-  few-stops host Closed = tt
-  few-stops host Open = tt
-  few-stops host Prepared = tt
-  few-stops host Found_On = tt
+  few-stops host found = tt
 
   pub few-prepares : (host : ℕ) (found : Found) (params : Option Params) → IsFew means plan goes_on (prepare_by host found params)
   few-prepares host Prepared (Some p) = tt

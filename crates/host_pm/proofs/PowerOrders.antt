@@ -1,8 +1,8 @@
 -- A suspend and a resume are orders that are carried out.
-use Rattle.std.proofs.Common.{◌≡◌, map, refl, sym, ap, subst, ◌∙◌, ℕ, ◌+◌, ◌-◌, ◌≤◌, ◌%◌, ◌^◌, List, [], ◌∷◌, ◌++◌, zip, Bool, true, false, Some, None, Ok, Err, arith}
+use Rattle.std.proofs.Common.{◌≡◌, refl, sym, ap, subst, ◌∙◌, ℕ, ◌+◌, ◌-◌, ◌≤◌, List, [], ◌∷◌, ◌++◌, zip, Bool, true, false, Some, None, Ok, Err, arith}
 use Rattle.std.specs.List.{AllByRecursion, flat_map, list_any}
 use Rattle.std.specs.Option.{option_map}
-use Rattle.stream_law.specs.State.{RingView, FwState, view_of}
+use Rattle.stream_law.specs.State.{FwState, view_of}
 use Rattle.stream_law.specs.Ways.{is_live_phase}
 use Rattle.mbox_link.specs.Meetings.{Meeting}
 use Rattle.mbox_link.specs.Calls.{World, Meaning, Boot, Cut, Did, Led}
@@ -28,13 +28,13 @@ use Rattle.host_widgets.specs.TestedOrders.{ActsCame}
 use Rattle.host_widgets.specs.StateOf.{state_by}
 use Rattle.host_widgets.specs.ViewOf.{record_view}
 use Rattle.host_widgets.proofs.BuildingActs.{bring-leaves}
-use Rattle.host_widgets.proofs.SilentTicks.{AreInputs}
+use Rattle.host_widgets.proofs.ManyEffects.{Followed, follow-sent}
+use Rattle.host_widgets.proofs.SilentTicks.{AreInputs, at}
 use Rattle.host_pm.specs.InTurn.{InTurn}
 use Rattle.host_pm.specs.Resumed.{Resumed}
-use Rattle.host_pm.proofs.TurnsCome.{Came, turns-come}
+use Rattle.host_pm.proofs.TurnsCome.{turn-sent, turns-come}
 use Rattle.host_pm.proofs.GoingDown.{are-met, walk-down, going-down}
-use Rattle.host_pm.proofs.Unprepared.{IsFine, bare_from, bare-view, coming-back, empty-buffers, prepares-stay, all-were}
-use Rattle.host_pm.proofs.StillTurns.{IsRested, Rests, rests, all-prepare, brought-rested}
+use Rattle.host_pm.proofs.PreparesTaken.{empty-buffers, prepared_state, prepares-end, prepares-follow, prepares-leave}
 
 -- ---- walks that end at the first failure
 
@@ -147,13 +147,20 @@ module _ {D : Type 0} (means : Meaning D) (plan : Plan) (heap : ℕ) where
 
   -- ---- a resume
 
+  -- what it met, the record that the device shows and what it keeps where all passed, and no audio was moved while parameters were sent
+  pub record BroughtBack (kept : Record) (w m v : World D) (result : Outcome) : Type 0 where
+    pub came : ActsCame means plan heap false (bring_back plan kept) kept kept w v result
+    pub shows : result ≡ Ok tt → option_map view_of (means.on v.device) ≡ Some (record_view plan kept)
+    pub left : result ≡ Ok tt → Resumed means plan heap kept (ticks_put means w.device v.device) v.device
+    pub io : v.io ≡ m.io
+
   module _ (sound : IsSound plan) (kept : Record) (is : IsRecordOf plan kept) (still : list_any (λ r. is_live_phase (phase_of r.found)) kept.streams ≡ false) where
     abbrev prepares : List Act
     prepares = flat_map prepare_acts (zip plan.streams kept.streams)
 
     -- all that bring it back leave the record
     pub back-leaves : AllByRecursion (λ (act : Act). after plan act kept ≡ kept) (bring_back plan kept)
-    back-leaves = all-both (λ (act : Act). after plan act kept ≡ kept) (bring_up plan kept) prepares (bring-leaves plan kept sound) (prepares-stay plan heap sound kept is plan.streams kept.streams (all-were plan heap sound kept is))
+    back-leaves = all-both (λ (act : Act). after plan act kept ≡ kept) (bring_up plan kept) prepares (bring-leaves plan kept sound) (prepares-leave plan sound heap kept is still)
 
     -- a bring-up that failed is the end
     pub back-failed : (mid : Record) (w v : World D) (fault : HostFault) (result : Outcome) → ActsCame means plan heap false (bring_up plan kept) kept mid w v (Err fault) → result ≡ Err fault → ActsCame means plan heap false (bring_back plan kept) kept kept w v result
@@ -161,57 +168,49 @@ module _ {D : Type 0} (means : Meaning D) (plan : Plan) (heap : ℕ) where
         let e = acts-ended (bring_up plan kept) prepares x.meetings kept w v fault x.did (sym x.came) in
         record { meetings = x.meetings; did = e.did; came = so ∙ x.came ∙ sym e.outcome; left = sym (walk-stays kept (bring_back plan kept) x.meetings back-leaves) }
 
-    module _ (mid : Record) (w m v : World D) (result : Outcome) (x : ActsCame means plan heap false (bring_up plan kept) kept mid w m (Ok tt)) (n : ℕ) (on : means.on m.device ≡ Some (state_by plan kept heap n)) (turn : InTurn means plan false prepares m v result) where
-      prepared-so : Came plan heap false (λ v. v ≡ record_view plan kept) (IsFine plan heap) means kept prepares m v result
-      prepared-so = turns-come plan heap false (λ v. v ≡ record_view plan kept) (IsFine plan heap) means prepares kept (record_view plan (bare_from plan plan.streams kept)) m v result
-          (state_by plan kept heap n, on, sym (bare-view plan kept is)) (coming-back plan heap sound kept is still) turn
+    module _ (mid : Record) (w m v : World D) (result : Outcome) (x : ActsCame means plan heap false (bring_up plan kept) kept mid w m (Ok tt)) (on : means.on m.device ≡ Some (state_by plan kept heap (ticks_put means w.device m.device))) (are : AreInputs m.io.inputs)
+        (turn : InTurn means plan false prepares m v result) where
+      abbrev t : ℕ
+      t = means.pending w.device - means.pending m.device
+
+      followed : Followed means plan heap kept prepares m v (state_by plan kept heap 0) t result
+      followed = follow-sent means plan heap kept prepares m v (state_by plan kept heap 0) t result (prepares-leave plan sound heap kept is still) (prepares-follow plan sound heap kept is still) are on (turn-sent means plan prepares m v result turn)
 
       same-mid : (walked kept x.meetings (bring_up plan kept)).kept ≡ kept
       same-mid = walk-stays kept (bring_up plan kept) x.meetings (bring-leaves plan kept sound)
 
-      pub back-came : ActsCame means plan heap false (bring_back plan kept) kept kept w v result
+      back-came : ActsCame means plan heap false (bring_back plan kept) kept kept w v result
       back-came =
-          let c = prepared-so in
+          let c = followed in
           let j = acts-joined (bring_up plan kept) prepares x.meetings c.meetings kept w m v x.did (sym x.came) (subst (λ (k : Record). did_acts k prepares c.meetings m v) (sym same-mid) c.did) in
           record {
             meetings = x.meetings ++ c.meetings;
             did = j.did;
-            came = c.is ∙ ap (λ (k : Record). (walked k c.meetings prepares).outcome) (sym same-mid) ∙ sym j.outcome;
+            came = c.came_so ∙ ap (λ (k : Record). (walked k c.meetings prepares).outcome) (sym same-mid) ∙ sym j.outcome;
             left = sym (walk-stays kept (bring_back plan kept) (x.meetings ++ c.meetings) back-leaves);
           }
 
-      pub back-shows : result ≡ Ok tt → option_map view_of (means.on v.device) ≡ Some (record_view plan kept)
-      back-shows ok = let e = prepared-so.ends ok in ap (option_map view_of) e.1 ∙ ap Some e.2
+      -- the state then, after all ticks
+      last-on : result ≡ Ok tt → means.on v.device ≡ Some (at (prepared_state plan sound heap kept is still) (means.pending w.device - means.pending v.device))
+      last-on ok =
+          let first = acts-fewer (bring_up plan kept) x.meetings kept w m x.did in
+          let all : t + (means.pending m.device - means.pending v.device) ≡ means.pending w.device - means.pending v.device = omega (arith, first, followed.fewer) in
+          followed.on ok ∙ (λ i. Some (at (prepares-end plan sound heap kept is still i) (all i)))
 
-      -- no audio was moved
-      module _ (counted : n ≡ ticks_put means w.device m.device) (are : AreInputs m.io.inputs) where
-        abbrev t : ℕ
-        t = means.pending w.device - means.pending m.device
+      back-shows : result ≡ Ok tt → option_map view_of (means.on v.device) ≡ Some (record_view plan kept)
+      back-shows ok = ap (option_map view_of) (last-on ok)
 
-        rested-so : Rests plan heap sound (λ v. v ≡ record_view plan kept) (IsFine plan heap) means m v t (walked kept prepared-so.meetings prepares).outcome
-        rested-so = rests plan heap sound (λ v. v ≡ record_view plan kept) (IsFine plan heap) means prepares prepared-so.meetings kept (record_view plan (bare_from plan plan.streams kept)) m v
-            (coming-back plan heap sound kept is still) (all-prepare plan.streams kept.streams) prepared-so.did are t (state_by plan kept heap n) on
-            (subst (λ (k : ℕ). IsRested plan heap t (state_by plan kept heap k)) (sym counted) (brought-rested plan heap kept t))
+      back-left : result ≡ Ok tt → Resumed means plan heap kept (ticks_put means w.device v.device) v.device
+      back-left ok = record {
+        state = at (prepared_state plan sound heap kept is still) (means.pending w.device - means.pending v.device);
+        on = last-on ok;
+        keeps = record { view = refl; pieces = refl; rings = empty-buffers plan.graph.edges };
+        clock = refl;
+        rings = refl;
+      }
 
-        pub back-io : v.io ≡ m.io
-        back-io = rested-so.io
-
-        pub back-left : result ≡ Ok tt → Resumed means plan heap kept (ticks_put means w.device v.device) v.device
-        back-left ok =
-            let e = prepared-so.ends ok in
-            let r = rested-so.on (sym prepared-so.is ∙ ok) in
-            let one : Some r.0 ≡ Some e.0 = sym r.1 ∙ e.1 in
-            let same : r.0 ≡ e.0 = cc one in
-            let rested = subst (IsRested plan heap (t + (means.pending m.device - means.pending v.device))) same r.2 in
-            let first = acts-fewer (bring_up plan kept) x.meetings kept w m x.did in
-            let all : t + (means.pending m.device - means.pending v.device) ≡ means.pending w.device - means.pending v.device = omega (arith, first, rested-so.fewer) in
-            record {
-              state = e.0;
-              on = e.1;
-              keeps = record { view = e.2; pieces = rested.pieces; rings = ap (map (λ (x : RingView). x.buffer)) rested.rings ∙ empty-buffers plan.graph.edges };
-              clock = rested.clock ∙ ap (λ (k : ℕ). k % 2 ^ 32) all;
-              rings = rested.rings;
-            }
+      pub brought-back : BroughtBack kept w m v result
+      brought-back = record { came = back-came; shows = back-shows; left = back-left; io = followed.io }
 
   module _ (kept kept' mid : Record) (w b s : World D) (result : Outcome) (boot : Did means (Boot heap) w b) (x : ActsCame means plan heap false (bring_back plan kept) kept mid b s result) where
     abbrev EndsSo : World D → Record → Outcome → Type 0

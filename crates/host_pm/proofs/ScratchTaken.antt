@@ -1,10 +1,10 @@
 -- A fresh firmware takes all acts that lead from nothing to what a record says.
-use Rattle.std.proofs.Common.{◌≡◌, ⊎_elim, refl, sym, ap, subst, ◌∙◌, ℕ, List, [], ◌∷◌, ◌++◌, map, length, zip, Bool, true, false, ◌==◌, Option, Some, None, Ok, arith}
+use Rattle.std.proofs.Common.{◌≡◌, ⊎_elim, refl, sym, ap, subst, ◌∙◌, ℕ, suc, ◌<◌, List, [], ◌∷◌, ◌++◌, map, get_or, length, zip, Bool, true, false, ◌==◌, Option, None, Ok, arith}
 use Rattle.std.specs.Prelude.{if◌then◌else◌}
-use Rattle.std.specs.List.{flat_map, list_all}
-use Rattle.std.proofs.lemmas.Bool.{and_parts, cases_Bool, eq-eqb, eqb-true, false≢true}
-use Rattle.sof_base.specs.declared.format.Params.{Params}
+use Rattle.std.specs.List.{flat_map}
+use Rattle.std.proofs.lemmas.Bool.{cases_Bool, eq-eqb, eqb-true, false≢true}
 use Rattle.stream_law.specs.Placed.{AreAbove, Ascends}
+use Rattle.stream_law.specs.Seen.{ring_seen, seen}
 use Rattle.stream_law.specs.State.{FwState, RingView, View, view_of}
 use Rattle.mbox_link.specs.Step.{fresh, row}
 use Rattle.tplg_plan.specs.declared.plans.Plan.{Plan}
@@ -16,25 +16,27 @@ use Rattle.host_widgets.specs.declared.kept.StreamRec.{StreamRec}
 use Rattle.host_widgets.specs.declared.kept.Record.{Record}
 use Rattle.host_widgets.specs.declared.trigger.Trigger.{Trigger}
 use Rattle.host_widgets.specs.declared.trigger.Trigger.TheVariants.{Start, Pause}
-use Rattle.host_widgets.specs.ActLists.{bring_up, bring_back, prepare_acts, prepare_by}
+use Rattle.host_widgets.specs.ActLists.{bring_up, bring_back, prepare_acts}
 use Rattle.host_widgets.specs.ActMessages.{act_message}
 use Rattle.host_widgets.specs.Host.{IsRecordOf}
 use Rattle.host_widgets.specs.Bringing.{Fits}
+use Rattle.host_widgets.specs.Expected.{loaded_heap}
 use Rattle.host_widgets.specs.HostActs.{Act, Trig, after, triggered_stream}
-use Rattle.host_widgets.specs.HostRecord.{halted, halted_found, are_in_range}
+use Rattle.host_widgets.specs.HostRecord.{closed, halted, halted_found, no_stream}
 use Rattle.host_widgets.specs.Keeps.{KeepsRecord}
 use Rattle.host_widgets.specs.Kept.{changed, went_down}
 use Rattle.host_widgets.specs.OneAct.{own}
-use Rattle.host_widgets.specs.StateOf.{state_by}
+use Rattle.host_widgets.specs.StateOf.{empty_rings, state_by}
 use Rattle.host_widgets.specs.ViewOf.{record_view}
 use Rattle.host_widgets.proofs.ActsCome.{answer_by}
 use Rattle.host_widgets.proofs.Brings.{brings}
 use Rattle.host_widgets.proofs.Effects.{FollowAll, effect, effect-at, effects, own_cases, row-decoded}
+use Rattle.host_widgets.proofs.ManyEffects.{AllFree}
+use Rattle.host_widgets.proofs.QuietStates.{rings-empty}
 use Rattle.host_widgets.proofs.ReadyWays.{has_host}
 use Rattle.host_widgets.proofs.Records.{down-record, down-rests}
-use Rattle.host_widgets.proofs.RecordsStay.{may}
 use Rattle.host_widgets.proofs.SilentTicks.{at}
-use Rattle.host_widgets.proofs.StreamPlaces.{streams-ascend}
+use Rattle.host_widgets.proofs.StreamPlaces.{place-all, place-has, streams-ascend}
 use Rattle.host_widgets.proofs.StreamRows.{AllAt}
 use Rattle.host_widgets.specs.StreamStands.{takes_trigger}
 use Rattle.host_widgets.proofs.StreamAnswers.{all-at}
@@ -42,7 +44,7 @@ use Rattle.host_widgets.proofs.StreamsTaken.{trig-is, trig-comes}
 use Rattle.host_pm.specs.FromScratch.{IsFromScratch, TakesActs, start_acts, start_by}
 use Rattle.host_pm.proofs.GoingDown.{elsewhere}
 use Rattle.host_pm.proofs.TurnsCome.{AreMet}
-use Rattle.host_pm.proofs.Unprepared.{AllWere, IsFine, all-were, bare_from, bare-view, coming-back, empty-buffers, fine-seen, own-none, same-kept, takes-kept}
+use Rattle.host_pm.proofs.PreparesTaken.{empty-buffers, prepared_state, prepares-end, prepares-follow, prepares-free}
 
 -- ---- one list after another
 
@@ -53,12 +55,47 @@ takes-then plan (x ∷ xs) ys f g h (next, took, more) rest = (next, took, takes
 -- ---- what brings the device up
 
 module _ (plan : Plan) (heap : ℕ) (kept : Record) (fits : Fits plan heap) where
-  takes-brought : (acts : List Act) (g : FwState) → FollowAll plan heap kept g acts → TakesActs plan (at g 0) acts (at (effects plan acts g) 0)
-  takes-brought [] g follow = refl
-  takes-brought (act ∷ acts) g follow =
-      let m = act_message plan act in
+  -- none of it is refused
+  all-free : (acts : List Act) (g : FwState) → FollowAll plan heap kept g acts → AllFree plan heap kept acts
+  all-free [] g follow = tt
+  all-free (act ∷ acts) g follow =
       let free : own plan heap kept act ≡ None = ⊎_elim (λ none. none) (λ (e, refused). (let more = (follow.0.number e refused).1 in absurd (omega (arith, fits, more)))) (own_cases (own plan heap kept act)) in
-      (at (effect m g) 0, row-decoded (at g 0) m follow.0.message ∙ follow.0.passes free 0 ∙ ap (λ (s : FwState). Ok s) (effect-at m g 0), takes-brought acts (effect m g) (follow.1 free))
+      (free, all-free acts (effect (act_message plan act) g) (follow.1 free))
+
+  takes-brought : (acts : List Act) (g : FwState) → FollowAll plan heap kept g acts → AllFree plan heap kept acts → TakesActs plan (at g 0) acts (at (effects plan acts g) 0)
+  takes-brought [] g follow free = refl
+  takes-brought (act ∷ acts) g follow free =
+      let m = act_message plan act in
+      (at (effect m g) 0, row-decoded (at g 0) m follow.0.message ∙ follow.0.passes free.0 0 ∙ ap (λ (s : FwState). Ok s) (effect-at m g 0), takes-brought acts (effect m g) (follow.1 free.0) free.1)
+
+-- ---- a state in which no audio was moved
+
+-- its heap is as the graph leaves it, and its rings are empty
+record IsFine (plan : Plan) (heap : ℕ) (f : FwState) : Type 0 where
+  pieces : f.heap ≡ loaded_heap plan heap
+  rings : f.rings ≡ empty_rings plan.graph
+
+-- a change of its streams leaves it so
+fine-seen : (plan : Plan) (heap : ℕ) (v : View) (f : FwState) → IsFine plan heap f → IsFine plan heap (seen v None f)
+fine-seen plan heap v f fine = record { pieces = fine.pieces; rings = ap (map (ring_seen v)) fine.rings ∙ rings-empty v plan.graph.edges }
+
+-- ---- the stream of each host
+
+module _ (plan : Plan) (kept : Record) where
+  abbrev AllWere : List StreamPlan → List StreamRec → Type 0
+  AllWere [] rs = Unit {0}
+  AllWere (s ∷ ss) [] = ⊥
+  AllWere (s ∷ ss) (r ∷ rs) = (has_host plan.streams s.host ≡ true) × AllAt (λ x. x ≡ r) s.host plan.streams kept.streams × AllWere ss rs
+
+  were-by : (ss : List StreamPlan) (rs : List StreamRec) → length rs ≡ length ss → ((k : ℕ) → k < length ss → (has_host plan.streams (get_or ss k no_stream).host ≡ true) × AllAt (λ x. x ≡ get_or rs k closed) (get_or ss k no_stream).host plan.streams kept.streams) → AllWere ss rs
+  were-by [] rs same each = tt
+  were-by (s ∷ ss) [] same each = absurd (cc same)
+  were-by (s ∷ ss) (r ∷ rs) same each =
+      let first = each 0 (omega arith) in
+      (first.0, first.1, were-by ss rs (let rest : length rs ≡ length ss = omega (arith, same) in rest) (λ k low. each (suc k) (omega (arith, low))))
+
+  all-were : IsSound plan → IsRecordOf plan kept → AllWere plan.streams kept.streams
+  all-were sound is = were-by plan.streams kept.streams is.streams (λ k low. (place-has plan sound k low, place-all plan sound k low (λ x. x ≡ get_or kept.streams k closed) kept.streams refl))
 
 -- ---- acts that the firmware takes by the record
 
@@ -80,33 +117,6 @@ module _ (plan : Plan) (heap : ℕ) where
         let done : row f (act_message plan act) ≡ Ok a.0 = a.1 ∙ ap (λ (o : Option _). answer_by o a.0) free.0 in
         let rest = met-taken acts (after plan act now) later a.0 (law.shows f a.0 shows done) behind free.1 (law.stays f a.0 shows done fine) in
         (rest.0, (a.0, row-decoded f (act_message plan act) law.message ∙ done, rest.1), rest.2, rest.3)
-
-  -- ---- parameters
-
-  module _ (sound : IsSound plan) (kept : Record) (is : IsRecordOf plan kept) where
-    prepares-free : (ss : List StreamPlan) (rs : List StreamRec) → Ascends (λ (s : StreamPlan). s.host) ss → AllWere plan kept ss rs → list_all may rs ≡ true → NoneRefused kept (flat_map prepare_acts (zip ss rs))
-    unfolding Ascends
-    prepares-free [] rs up were all = tt
-    prepares-free (s ∷ ss) [] up were all = absurd were
-    prepares-free (s ∷ ss) (r ∷ rs) up were all = let a = and_parts (may r) (list_all may rs) all in by r.found r.params refl refl (prepares-free ss rs up.1 were.2 a.1) a.0
-      where
-        rest : List Act
-        rest = flat_map prepare_acts (zip ss rs)
-
-        by : (found : Found) (params : Option Params) → r.found ≡ found → r.params ≡ params → NoneRefused kept rest → may r ≡ true → NoneRefused kept (prepare_by s.host found params ++ rest)
-        by Prepared (Some p) is_so has more fair =
-            let was = all-at (λ x. x ≡ r) (λ x. x ≡ record { found = Prepared; params = Some p }) (λ x same. same ∙ (λ i. record { found = is_so i; params = has i })) s.host plan.streams kept.streams were.1 in
-            let range : are_in_range p ≡ true = (λ i. may (record { found = sym is_so i; params = sym has i })) ∙ fair in
-            let stays = same-kept plan heap sound s.host were.0 p range kept is ss up.0 was in (
-              own-none plan heap sound s.host were.0 p range kept is (subst (IsRecordOf plan) (sym stays) is) (takes-kept plan heap sound s.host were.0 p range kept is ss up.0 was),
-              subst (λ (k : Record). NoneRefused k rest) (sym stays) more,
-            )
-        by Prepared None is_so has more fair = more
-        by Closed params is_so has more fair = more
-        by Open params is_so has more fair = more
-        by Running params is_so has more fair = more
-        by Paused params is_so has more fair = more
-        by Found_On params is_so has more fair = more
 
 -- ---- lists of streams of which one is changed
 
@@ -312,29 +322,31 @@ module _ (plan : Plan) (heap : ℕ) (kept : Record) (sound : IsSound plan) (is :
   first-taken : TakesActs plan (fresh heap) (bring_up plan down) (state_by plan down heap 0)
   first-taken =
       let b = brings plan heap down sound down-is.controls in
-      subst (λ (s : FwState). TakesActs plan (fresh heap) (bring_up plan down) (at s 0)) b.state (takes-brought plan heap down fits (bring_up plan down) (fresh heap) b.follow)
+      let free = all-free plan heap down fits (bring_up plan down) (fresh heap) b.follow in
+      subst (λ (s : FwState). TakesActs plan (fresh heap) (bring_up plan down) (at s 0)) (b.state free) (takes-brought plan heap down fits (bring_up plan down) (fresh heap) b.follow free)
 
   -- the streams' parameters
   abbrev Taken : FwState → List Act → View → Type 0
   Taken f acts last = (g : FwState) × TakesActs plan f acts g × (view_of g ≡ last) × IsFine plan heap g
 
-  then-taken : Taken (state_by plan down heap 0) prepares (record_view plan down)
-  then-taken = met-taken plan heap (record_view plan down) prepares down (record_view plan (bare_from plan plan.streams down)) (state_by plan down heap 0) (sym (bare-view plan down down-is))
-      (coming-back plan heap sound down down-is (down-rests kept.streams))
-      (prepares-free plan heap sound down down-is plan.streams down.streams (streams-ascend plan sound) (all-were plan heap sound down down-is) down-is.each)
-      (record { pieces = refl; clock = refl; rings = refl })
+  abbrev prepared : FwState
+  prepared = prepared_state plan sound heap down down-is (down-rests kept.streams)
+
+  then-taken : TakesActs plan (state_by plan down heap 0) prepares prepared
+  then-taken = subst (λ (s : FwState). TakesActs plan (state_by plan down heap 0) prepares (at s 0)) (prepares-end plan sound heap down down-is (down-rests kept.streams))
+      (takes-brought plan heap down fits prepares (state_by plan down heap 0) (prepares-follow plan sound heap down down-is (down-rests kept.streams)) (prepares-free plan sound heap down down-is (down-rests kept.streams)))
 
   -- the triggers
   all-halted : halted_from plan heap sound kept plan.streams ≡ record { power = kept.power; streams = down.streams; controls = kept.controls }
   all-halted = λ i. record { power = kept.power; streams = halts-all plan.streams kept.streams is.streams (streams-ascend plan sound) i; controls = kept.controls }
 
   goes : GoesOn plan heap sound kept (halted_from plan heap sound kept plan.streams) starts
-  goes = starting plan heap sound kept plan.streams kept.streams (streams-ascend plan sound) (all-were plan heap sound kept is)
+  goes = starting plan heap sound kept plan.streams kept.streams (streams-ascend plan sound) (all-were plan kept sound is)
       (subst (IsRecordOf plan) (sym all-halted) (record { streams = down-is.streams; controls = down-is.controls; each = down-is.each; shapes = down-is.shapes }))
 
-  last-taken : Taken then-taken.0 starts (record_view plan kept)
-  last-taken = met-taken plan heap (record_view plan kept) starts (halted_from plan heap sound kept plan.streams) (record_view plan (halted_from plan heap sound kept plan.streams)) then-taken.0
-      (then-taken.2 ∙ ap (record_view plan) (sym all-halted)) goes.0 goes.1 then-taken.3
+  last-taken : Taken prepared starts (record_view plan kept)
+  last-taken = met-taken plan heap (record_view plan kept) starts (halted_from plan heap sound kept plan.streams) (record_view plan (halted_from plan heap sound kept plan.streams)) prepared
+      (ap (record_view plan) (sym all-halted)) goes.0 goes.1 (record { pieces = refl; rings = refl })
 
   last-keeps : KeepsRecord plan heap kept last-taken.0
   last-keeps =
@@ -344,8 +356,8 @@ module _ (plan : Plan) (heap : ℕ) (kept : Record) (sound : IsSound plan) (is :
   pub from-scratch : IsFromScratch plan heap kept
   from-scratch = record {
     state = last-taken.0;
-    taken = takes-then plan (bring_back plan down) starts (fresh heap) then-taken.0 last-taken.0
-        (takes-then plan (bring_up plan down) prepares (fresh heap) (state_by plan down heap 0) then-taken.0 first-taken then-taken.1) last-taken.1;
+    taken = takes-then plan (bring_back plan down) starts (fresh heap) prepared last-taken.0
+        (takes-then plan (bring_up plan down) prepares (fresh heap) (state_by plan down heap 0) prepared first-taken then-taken) last-taken.1;
     keeps = last-keeps;
     same = λ g keeps. (keeps.view ∙ sym last-keeps.view, keeps.pieces ∙ sym last-keeps.pieces);
   }

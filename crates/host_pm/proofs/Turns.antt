@@ -6,8 +6,7 @@ use Rattle.ipc3_model.specs.Messages.{message_spelling}
 use Rattle.mbox_link.specs.Calls.{World, Meaning}
 use Rattle.mbox_link.proofs.Rooms.{HasRoom-now}
 use Rattle.tplg_plan.specs.declared.plans.Plan.{Plan}
-use Rattle.host_widgets.specs.declared.answers.HostFault.{HostFault}
-use Rattle.host_widgets.specs.declared.answers.HostFault.TheVariants.{NotLoaded, Loaded, NoSuch, State, Off, Range, Refused, LinkDown, Blob}
+use Rattle.host_widgets.specs.declared.answers.HostFault.TheVariants.{Refused}
 use Rattle.host_widgets.specs.HostActs.{Act}
 use Rattle.host_widgets.specs.ActMessages.{act_message}
 use Rattle.host_widgets.specs.ActCalls.{came_to}
@@ -31,18 +30,6 @@ up-is : (goes_on : Bool) (o : Outcome) → goes_past goes_on o ≡ true → IsUp
 up-is goes_on (Ok done) is = inl refl
 up-is goes_on (Err (Refused e)) is = inr (e, refl)
 up-is goes_on (Err fault) is = absurd (cc is)
-
--- where a failure ends them
-pub none-past : (fault : HostFault) → goes_past false (Err fault) ≡ false
-none-past (Refused e) = refl
-none-past LinkDown = refl
-none-past NotLoaded = refl
-none-past Loaded = refl
-none-past (NoSuch name) = refl
-none-past (State found) = refl
-none-past Off = refl
-none-past (Range n) = refl
-none-past (Blob n) = refl
 
 past-refusals : (e d : Errno) (c : Outcome) → first_of (Err (Refused e)) (first_of (Err (Refused d)) c) ≡ first_of (Err (Refused e)) c
 past-refusals e d (Ok done) = refl

@@ -1,8 +1,9 @@
 -- Acts that were sent one after another to a device that shows what it should: by what their messages met, they are a walk.
-use Rattle.std.proofs.Common.{◌≡◌, ⊎_elim, refl, sym, ap, subst, ◌∙◌, ℕ, ◌-◌, List, [], ◌∷◌, Bool, true, false, Option, Some, Ok, Err}
+use Rattle.std.proofs.Common.{◌≡◌, ⊎_elim, refl, sym, ap, subst, ◌∙◌, ℕ, ◌-◌, List, [], ◌∷◌, Bool, true, false, Option, Some, Ok, Err, MatchResult, Result}
 use Rattle.sof_base.specs.Ports.{Io}
 use Rattle.sof_base.specs.declared.errno.Errno.{Errno}
 use Rattle.stream_law.specs.State.{FwState, View, view_of}
+use Rattle.ipc3_model.specs.declared.reply.Reply.{Reply}
 use Rattle.ipc3_model.specs.Messages.{message_spelling, decoded}
 use Rattle.ipc3_model.specs.Meanings.{IsMessage}
 use Rattle.mbox_link.specs.Step.{row, body_of}
@@ -19,9 +20,11 @@ use Rattle.host_widgets.specs.Host.{Outcome, verdict}
 use Rattle.host_widgets.specs.OneAct.{act_rules, own, outcome_by, lag_of, performed}
 use Rattle.host_widgets.specs.Walk.{goes_past, first_of, followed_by, walk}
 use Rattle.host_widgets.specs.ActCalls.{ActsDid, Onwards, came_to, next_of}
+use Rattle.host_widgets.specs.ActCarried.{ActsSent}
 use Rattle.host_widgets.proofs.ReplyErrors.{done_reply}
 use Rattle.host_widgets.proofs.Exchanges.{came as exchange-came, verdict-number}
 use Rattle.host_widgets.proofs.Effects.{row-decoded}
+use Rattle.host_widgets.proofs.BuildingActs.{ends-at}
 use Rattle.host_widgets.proofs.ActsCome.{Did, answer_by, act-did, still}
 use Rattle.host_pm.specs.InTurn.{Behind, InTurn}
 
@@ -148,3 +151,14 @@ module _ (plan : Plan) (heap : ℕ) (goes_on : Bool) (End : View → Type 0) (So
         by (Err Off) there behind on_passed on_refused = stopped Off behind
         by (Err (Range k)) there behind on_passed on_refused = stopped (Range k) behind
         by (Err (Blob k)) there behind on_passed on_refused = stopped (Blob k) behind
+
+module _ {D : Type 0} (means : Meaning D) (plan : Plan) where
+  -- acts in turn, up to the first that does not pass
+  pub turn-sent : (acts : List Act) (w v : World D) (result : Outcome) → InTurn means plan false acts w v result → ActsSent means plan acts w v result
+  turn-sent [] w v result sent = sent
+  turn-sent (act ∷ acts) w v result (answer, mid, x, on) = (mid, answer, x, by (verdict answer) on (λ rest sent. turn-sent acts mid v rest sent))
+    where
+      by : (r : Result Reply HostFault) → Behind (goes_past false (came_to r)) (came_to r) (λ rest. InTurn means plan false acts mid v rest) (v ≡ mid) result → ((rest : Outcome) → InTurn means plan false acts mid v rest → ActsSent means plan acts mid v rest) →
+          MatchResult r (λ reply. ActsSent means plan acts mid v result) (λ fault. (v ≡ mid) × (result ≡ Err fault))
+      by (Ok reply) (rest, sent, is) go = subst (λ (o : Outcome). ActsSent means plan acts mid v o) (sym is) (go rest sent)
+      by (Err fault) end go = subst (λ (b : Bool). Behind b (Err fault) (λ rest. InTurn means plan false acts mid v rest) (v ≡ mid) result) (ends-at fault) end

@@ -11,8 +11,8 @@ use Rattle.host_widgets.proofs.Walks.{handed_on}
 use Rattle.host_widgets.proofs.PlannedStreams.{place-goes, place-stream}
 use Rattle.host_pm.specs.InTurn.{InTurn}
 use Rattle.host_pm.proofs.Loops.{SoFar, at-first, none-ahead, one-more, one-ends, few-prepares}
-use Rattle.host_pm.proofs.Turns.{none-past}
 use Rattle.host_pm.proofs.resuming.prepare_all.Goals as goal
+use Rattle.host_widgets.proofs.BuildingActs.{ends-at}
 
 pub loop-place-init : goal.loop-place-init
 loop-place-init g c = at-first g.P.Dsp.means c.args.plan.now false prepare_acts [] c.args.kept.now (world c.args.dsp.now c.args.io.now c.args.out.now) (c.requires.on, c.requires.room)
@@ -44,7 +44,7 @@ returns-in_err-prepare g c =
     let fault = c.in_err-prepare.field-0.0 in
     let low : i < length plan.streams = omega (arith, c.loop-place-test.true, ap length c.items-count.ensures) in
     let whole = one-ends means plan false prepare_acts [] kept (λ p. few-prepares means plan false p.0.host p.1.found p.1.params) c.requires.streams i low c.items.result.now c.items.ensures s s c.index-items-place.is
-    c.items-in-loop-place.result.now c.items-in-loop-place.ensures _ _ refl w m v (Ok tt) c.loop-place.invariant c.prepare.result c.prepare.ensures (ap (goes_past false) c.in_err-prepare.was ∙ none-past fault) in
+    c.items-in-loop-place.result.now c.items-in-loop-place.ensures _ _ refl w m v (Ok tt) c.loop-place.invariant c.prepare.result c.prepare.ensures (ap (goes_past false) c.in_err-prepare.was ∙ ends-at fault) in
     subst (λ (p : List Act × Outcome). InTurn means plan false p.0 w v p.1) (λ j. (append-nil (flat_map prepare_acts (zip plan.streams kept.streams)) j, (c.in_err-prepare.was ∙ sym (handed_on c.from_residual.result fault c.from_residual.ensures)) j)) whole
 
 pub loop-place-preserved : goal.loop-place-preserved

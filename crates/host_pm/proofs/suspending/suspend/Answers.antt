@@ -12,55 +12,41 @@ use Rattle.host_pm.specs.InTurn.{WentDown}
 use Rattle.host_pm.specs.PowerTests.{suspend_fault}
 use Rattle.host_pm.proofs.suspending.suspend.Goals as goal
 
-pub returns-in-Unloaded-clause-early : goal.returns-in-Unloaded-clause-early
-returns-in-Unloaded-clause-early g c f e = (let same : NotLoaded ≡ f = cc (sym (ap suspend_fault c.in-Unloaded.is) ∙ e) in ap (λ (x : HostFault). Err x) same, refl, refl)
-
-pub returns-in-Unloaded-clause-down : goal.returns-in-Unloaded-clause-down
-returns-in-Unloaded-clause-down g c none = absurd (cc (sym (ap suspend_fault c.in-Unloaded.is) ∙ none))
-
-pub returns-in-Unloaded-clause-carried : goal.returns-in-Unloaded-clause-carried
-returns-in-Unloaded-clause-carried g c agrees =
+pub returns-in-Unloaded : goal.returns-in-Unloaded
+returns-in-Unloaded g c =
     let plan = c.args.plan.now in
     let kept = c.args.kept.now in
     let w = world c.args.dsp.now c.args.io.now c.args.out.now in
-    told-early g.P.Dsp.means plan c.args.heap (suspend_fault kept.power) (suspending plan kept) kept kept w w (Err NotLoaded) NotLoaded (ap suspend_fault c.in-Unloaded.is) refl refl refl
+    record {
+      early = λ f e. (let same : NotLoaded ≡ f = cc (sym (ap suspend_fault c.in-Unloaded.is) ∙ e) in ap (λ (x : HostFault). Err x) same, refl, refl);
+      down = λ none. absurd (cc (sym (ap suspend_fault c.in-Unloaded.is) ∙ none));
+      carried = λ agrees. told-early g.P.Dsp.means plan c.args.heap (suspend_fault kept.power) (suspending plan kept) kept kept w w (Err NotLoaded) NotLoaded (ap suspend_fault c.in-Unloaded.is) refl refl refl;
+      agree = λ agrees. agrees;
+    }
 
-pub returns-in-Unloaded-clause-agree : goal.returns-in-Unloaded-clause-agree
-returns-in-Unloaded-clause-agree g c agrees = agrees
-
-pub returns-in-Off-clause-early : goal.returns-in-Off-clause-early
-returns-in-Off-clause-early g c f e = (let same : Off ≡ f = cc (sym (ap suspend_fault c.in-Off.is) ∙ e) in ap (λ (x : HostFault). Err x) same, refl, refl)
-
-pub returns-in-Off-clause-down : goal.returns-in-Off-clause-down
-returns-in-Off-clause-down g c none = absurd (cc (sym (ap suspend_fault c.in-Off.is) ∙ none))
-
-pub returns-in-Off-clause-carried : goal.returns-in-Off-clause-carried
-returns-in-Off-clause-carried g c agrees =
+pub returns-in-Off : goal.returns-in-Off
+returns-in-Off g c =
     let plan = c.args.plan.now in
     let kept = c.args.kept.now in
     let w = world c.args.dsp.now c.args.io.now c.args.out.now in
-    told-early g.P.Dsp.means plan c.args.heap (suspend_fault kept.power) (suspending plan kept) kept kept w w (Err Off) Off (ap suspend_fault c.in-Off.is) refl refl refl
+    record {
+      early = λ f e. (let same : Off ≡ f = cc (sym (ap suspend_fault c.in-Off.is) ∙ e) in ap (λ (x : HostFault). Err x) same, refl, refl);
+      down = λ none. absurd (cc (sym (ap suspend_fault c.in-Off.is) ∙ none));
+      carried = λ agrees. told-early g.P.Dsp.means plan c.args.heap (suspend_fault kept.power) (suspending plan kept) kept kept w w (Err Off) Off (ap suspend_fault c.in-Off.is) refl refl refl;
+      agree = λ agrees. agrees;
+    }
 
-pub returns-in-Off-clause-agree : goal.returns-in-Off-clause-agree
-returns-in-Off-clause-agree g c agrees = agrees
-
-pub returns-in-On-clause-early : goal.returns-in-On-clause-early
-returns-in-On-clause-early g c f e = absurd (cc (sym e ∙ ap suspend_fault c.in-On.is))
-
-pub returns-in-On-clause-down : goal.returns-in-On-clause-down
-returns-in-On-clause-down g c none =
+pub returns-in-On : goal.returns-in-On
+returns-in-On g c =
     let w = world c.args.dsp.now c.args.io.now c.args.out.now in
-    subst (λ (e : Record × World g.row.P.Denot). WentDown g.P.Dsp.means c.args.plan.now c.args.heap c.args.kept.now e.0 w e.1 c.go_down.result) (search rules) c.go_down.ensures.down
-
-pub returns-in-On-clause-carried : goal.returns-in-On-clause-carried
-returns-in-On-clause-carried g c agrees =
     let plan = c.args.plan.now in
     let kept = c.args.kept.now in
-    let w = world c.args.dsp.now c.args.io.now c.args.out.now in
     let v = world_of c.go_down.new.side in
-    subst (λ (e : Record × World g.row.P.Denot). Tested g.P.Dsp.means plan c.args.heap (suspend_fault kept.power) (suspending plan kept) kept e.0 w e.1 c.go_down.result) (search rules)
-    (done-late g.P.Dsp.means plan c.args.heap (suspend_fault kept.power) (suspending plan kept) kept c.go_down.new.side.kept.now w v c.go_down.result (ap suspend_fault c.in-On.is) (c.go_down.ensures.carried agrees))
-
-pub returns-in-On-clause-agree : goal.returns-in-On-clause-agree
-returns-in-On-clause-agree g c agrees =
-    subst (λ (e : Record × g.row.P.Denot). Agrees g.P.Dsp.means c.args.plan.now e.0 e.1) (search rules) c.go_down.ensures.agree
+    record {
+      early = λ f e. absurd (cc (sym e ∙ ap suspend_fault c.in-On.is));
+      down = λ none. subst (λ (e : Record × World g.row.P.Denot). WentDown g.P.Dsp.means c.args.plan.now c.args.heap c.args.kept.now e.0 w e.1 c.go_down.result) (search rules) c.go_down.ensures.down;
+      carried = λ agrees. (subst (λ (e : Record × World g.row.P.Denot). Tested g.P.Dsp.means plan c.args.heap (suspend_fault kept.power) (suspending plan kept) kept e.0 w e.1 c.go_down.result) (search rules)
+          (done-late g.P.Dsp.means plan c.args.heap (suspend_fault kept.power) (suspending plan kept) kept c.go_down.new.side.kept.now w v c.go_down.result (ap suspend_fault c.in-On.is) (c.go_down.ensures.carried agrees)));
+      agree = λ agrees. (subst (λ (e : Record × g.row.P.Denot). Agrees g.P.Dsp.means c.args.plan.now e.0 e.1) (search rules) c.go_down.ensures.agree
+          );
+    }

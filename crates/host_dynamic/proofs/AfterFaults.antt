@@ -12,11 +12,4 @@ use Rattle.host_dynamic.specs.UpCalls.{WasCut, AfterMaking}
 pub after-other : {D : Type 0} (means : Meaning D) (plan : Plan) (heap : ℕ) (made : List ℕ) (fault : HostFault) (kept kept' : Record) (w v : World D) (result : Outcome) → ((e : Errno) → fault ≡ faults.Refused e → ⊥) → result ≡ Err fault → WasCut means heap kept kept' w v →
     AfterMaking means plan heap made (Err fault) kept kept' w v result
 after-other means plan heap made (faults.Refused e) kept kept' w v result other is cut = absurd (other e refl)
-after-other means plan heap made faults.LinkDown kept kept' w v result other is cut = (is, cut)
-after-other means plan heap made faults.NotLoaded kept kept' w v result other is cut = (is, cut)
-after-other means plan heap made faults.Loaded kept kept' w v result other is cut = (is, cut)
-after-other means plan heap made (faults.NoSuch name) kept kept' w v result other is cut = (is, cut)
-after-other means plan heap made (faults.State found) kept kept' w v result other is cut = (is, cut)
-after-other means plan heap made faults.Off kept kept' w v result other is cut = (is, cut)
-after-other means plan heap made (faults.Range k) kept kept' w v result other is cut = (is, cut)
-after-other means plan heap made (faults.Blob k) kept kept' w v result other is cut = (is, cut)
+after-other means plan heap made fault kept kept' w v result other is cut = (is, cut)

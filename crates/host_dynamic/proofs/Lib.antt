@@ -37,7 +37,6 @@ pub mod UpCalled
 pub mod UpFew
 pub mod MakesListed
 pub mod NeededNoted
-pub mod JoinsFew
 pub mod UpTold
 pub mod NamedControls
 pub mod AfterFaults

@@ -1,21 +1,12 @@
 -- Messages that make and unmake, sent one after another.
-use Rattle.std.proofs.Common.{◌≡◌, refl, sym, ap, subst, ◌∙◌, ℕ, ◌+◌, ◌<◌, List, [], ◌∷◌, ◌++◌, ◌==◌, map, length, Bool, false, Result, Ok, Err, MatchResult, arith}
+use Rattle.std.proofs.Common.{◌≡◌, refl, sym, ap, ◌∙◌, ℕ, ◌+◌, ◌<◌, List, [], ◌∷◌, ◌++◌, ◌==◌, map, length, arith}
 use Rattle.std.specs.List.{flat_map, AllByRecursion}
 use Rattle.stream_law.specs.declared.graph.Graph.{Graph}
 use Rattle.stream_law.proofs.Members.{in-each, kept-in}
 use Rattle.stream_law.specs.declared.graph.Join.{Join as Joined}
-use Rattle.ipc3_model.specs.declared.reply.Reply.{Reply}
-use Rattle.mbox_link.specs.Calls.{World, Meaning}
 use Rattle.tplg_plan.specs.declared.plans.Plan.{Plan}
-use Rattle.host_widgets.specs.declared.answers.HostFault.{HostFault}
 use Rattle.host_widgets.specs.HostActs.{Act, Join}
 use Rattle.host_widgets.specs.Acts.{widget_ids, widget_words}
-use Rattle.host_widgets.specs.ActCalls.{came_to}
-use Rattle.host_widgets.specs.ActCarried.{ActsSent}
-use Rattle.host_widgets.specs.Host.{Outcome, verdict}
-use Rattle.host_widgets.specs.Walk.{goes_past}
-use Rattle.host_pm.specs.InTurn.{Behind, InTurn}
-use Rattle.host_pm.proofs.Turns.{none-past}
 use Rattle.host_widgets.specs.UpActs.{widgets_at}
 use Rattle.host_dynamic.specs.declared.making.Ends.{Ends}
 use Rattle.host_dynamic.specs.JoinEnds.{ends_joins}
@@ -52,14 +43,3 @@ all-joins g (i ∷ is) = ap (λ (xs : List Act). join_acts_at g i ++ xs) (all-jo
     both : (xs ys : List Joined) → map join_act (xs ++ ys) ≡ map join_act xs ++ map join_act ys
     both [] ys = refl
     both (x ∷ xs) ys = ap (λ (zs : List Act). join_act x ∷ zs) (both xs ys)
-
-module _ {D : Type 0} (means : Meaning D) (plan : Plan) where
-  -- acts in turn, up to the first that does not pass
-  pub turn-sent : (acts : List Act) (w v : World D) (result : Outcome) → InTurn means plan false acts w v result → ActsSent means plan acts w v result
-  turn-sent [] w v result sent = sent
-  turn-sent (act ∷ acts) w v result (answer, mid, x, on) = (mid, answer, x, by (verdict answer) on (λ rest sent. turn-sent acts mid v rest sent))
-    where
-      by : (r : Result Reply HostFault) → Behind (goes_past false (came_to r)) (came_to r) (λ rest. InTurn means plan false acts mid v rest) (v ≡ mid) result → ((rest : Outcome) → InTurn means plan false acts mid v rest → ActsSent means plan acts mid v rest) →
-          MatchResult r (λ reply. ActsSent means plan acts mid v result) (λ fault. (v ≡ mid) × (result ≡ Err fault))
-      by (Ok reply) (rest, sent, is) go = subst (λ (o : Outcome). ActsSent means plan acts mid v o) (sym is) (go rest sent)
-      by (Err fault) end go = subst (λ (b : Bool). Behind b (Err fault) (λ rest. InTurn means plan false acts mid v rest) (v ≡ mid) result) (none-past fault) end

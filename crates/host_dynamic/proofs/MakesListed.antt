@@ -9,10 +9,11 @@ use Rattle.tplg_plan.specs.declared.plans.ControlKind.TheVariants as controls
 use Rattle.host_widgets.specs.declared.answers.HostFault.{HostFault}
 use Rattle.host_widgets.specs.Host.{Outcome}
 use Rattle.host_widgets.specs.HostActs.{Act, Make}
-use Rattle.host_widgets.proofs.Walks.{passing, flat_map-append}
+use Rattle.host_widgets.proofs.Walks.{passing}
 use Rattle.host_widgets.specs.UpActs.{widgets_at, widgets_of}
 use Rattle.host_widgets.specs.MadeLists.{ActsPassed, MadeListed, widget_made}
 use Rattle.host_widgets.proofs.MadeSent.{making-made, listed-then, listed-ended, listed-all}
+use Rattle.std.proofs.lemmas.Grind.{flat_map-append}
 
 -- ---- index by index
 

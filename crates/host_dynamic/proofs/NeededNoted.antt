@@ -16,6 +16,7 @@ use Rattle.tplg_plan.specs.declared.plans.StreamPlan.{StreamPlan}
 use Rattle.tplg_plan.specs.Sound.{IsSound}
 use Rattle.host_widgets.specs.declared.kept.StreamRec.{StreamRec}
 use Rattle.host_widgets.specs.declared.kept.Record.{Record}
+use Rattle.host_pm.proofs.Loops.{zip-long}
 use Rattle.host_pcm.specs.Asks.{is_closed}
 use Rattle.host_dynamic.specs.Dynamic.{needed, need_of_stream}
 use Rattle.host_widgets.specs.Need.{end_index, HasAt, HasBrought, IsEnough, IsPiped, is_joined_to, need_in}
@@ -37,11 +38,6 @@ zip-get [] rs k s r low same = absurd (omega (arith, low))
 zip-get (x ∷ ss) [] k s r low same = absurd (cc same)
 zip-get (x ∷ ss) (y ∷ rs) zero s r low same = refl
 zip-get (x ∷ ss) (y ∷ rs) (suc k) s r low same = zip-get ss rs k s r (omega (arith, low)) (let rest : length rs ≡ length ss = omega (arith, same) in rest)
-
-zip-long : (ss : List StreamPlan) (rs : List StreamRec) → length rs ≡ length ss → length (zip ss rs) ≡ length ss
-zip-long [] rs same = refl
-zip-long (x ∷ ss) [] same = absurd (cc same)
-zip-long (x ∷ ss) (y ∷ rs) same = ap suc (zip-long ss rs (let rest : length rs ≡ length ss = omega (arith, same) in rest))
 
 in-list : (ss : List StreamPlan) (k : ℕ) (s : StreamPlan) → k < length ss → IsIn (get_or ss k s) ss
 in-list [] k s low = absurd (omega (arith, low))

@@ -1,5 +1,5 @@
 -- Indices that are noted each once.
-use Rattle.std.proofs.Common.{◌≡◌, refl, sym, ap, subst, ◌∙◌, ℕ, suc, ◌+◌, ◌<◌, ◌≤◌, List, [], ◌∷◌, ◌++◌, length, Bool, true, false, cond, inl, inr, ◌⊎◌, ◌==◌, arith}
+use Rattle.std.proofs.Common.{◌≡◌, refl, sym, subst, ◌∙◌, ℕ, ◌+◌, ◌<◌, ◌≤◌, List, [], ◌∷◌, ◌++◌, length, Bool, true, false, cond, inl, inr, ◌⊎◌, ◌==◌, arith}
 use Rattle.std.specs.List.{IsDistinct, AllByRecursion}
 use Rattle.std.proofs.lemmas.Bool.{true≢false, eqb-true}
 use Rattle.std.proofs.lemmas.List.{length-append, length-map}
@@ -13,27 +13,10 @@ use Rattle.host_widgets.specs.Acts.{widget_ids}
 use Rattle.host_widgets.specs.UpActs.{widgets_at, widgets_of}
 use Rattle.host_widgets.specs.Need.{need_in, is_needed}
 use Rattle.host_dynamic.specs.Noting.{with_index}
-use Rattle.host_widgets.proofs.Needs.{among-in, in-among, in-left, in-right, in-either, flat-in}
-use Rattle.host_widgets.proofs.Sublists.{AreOnce, in-split, once-append, once-flat, once-filter, once-distinct, distinct-once, range-once}
+use Rattle.host_widgets.proofs.Needs.{among-in, in-among, flat-in}
+use Rattle.host_widgets.proofs.Sublists.{AreOnce, once-append, once-flat, once-filter, once-distinct, distinct-once, range-once, few-once}
 use Rattle.host_widgets.proofs.UpStages.{index_of_id}
 use Rattle.host_widgets.specs.Indices.{pipe_indices}
-
--- ---- as many as there are
-
--- distinct members of a list are no more than it has
-pub few-once : {X : Type 0} (xs ys : List X) → AreOnce xs → ((x : X) → IsIn x xs → IsIn x ys) → length xs ≤ length ys
-few-once [] ys once within = omega arith
-few-once {X} (x ∷ xs) ys once within = by (in-split ys x (within x (inl refl))) (λ zs left. few-once xs zs once.1 left)
-  where
-    by : (before : List X) × (after : List X) × (ys ≡ before ++ x ∷ after) → ((zs : List X) → ((y : X) → IsIn y xs → IsIn y zs) → length xs ≤ length zs) → suc (length xs) ≤ length ys
-    by (before, after, cut) rest =
-        let few = rest (before ++ after) (λ y there. left y there (in-either before (x ∷ after) y (subst (IsIn y) cut (within y (inr there))))) in
-        omega (arith, few, ap length cut, length-append before (x ∷ after), length-append before after)
-      where
-        left : (y : X) → IsIn y xs → IsIn y before ⊎ IsIn y (x ∷ after) → IsIn y (before ++ after)
-        left y there (inl a) = in-left before after y a
-        left y there (inr (inl same)) = absurd (once.0 (subst (λ z. IsIn z xs) same there))
-        left y there (inr (inr b)) = in-right before after y b
 
 -- ---- one more
 

@@ -1,15 +1,14 @@
 -- What is so of every plan lets what a stream needs be found.
-use Rattle.std.proofs.Common.{◌≡◌, subst, ℕ, ◌<◌, List, [], ◌∷◌, map, length, true, inl, inr, ◌⊎◌, ◌==◌, ◌&&◌, Some, None, refl, arith}
-use Rattle.std.specs.List.{AllByRecursion, list_any}
-use Rattle.std.proofs.lemmas.Bool.{eqb-true, and_parts}
+use Rattle.std.proofs.Common.{◌≡◌, subst, ℕ, ◌<◌, List, [], ◌∷◌, map, length, true, inl, inr, ◌⊎◌, ◌==◌, Some, None, refl, arith}
+use Rattle.std.specs.List.{AllByRecursion}
+use Rattle.std.proofs.lemmas.Bool.{eqb-true}
 use Rattle.stream_law.specs.declared.graph.Comp.{Comp}
 use Rattle.stream_law.specs.declared.graph.Edge.{Edge}
-use Rattle.stream_law.specs.declared.graph.Pipe.{Pipe}
 use Rattle.stream_law.specs.declared.graph.Join.{Join}
 use Rattle.stream_law.specs.declared.graph.Graph.{Graph}
 use Rattle.stream_law.specs.Ways.{comp_of, edge_of, components, is_complete}
 use Rattle.stream_law.specs.Order.{is_among}
-use Rattle.stream_law.proofs.Members.{IsIn, in-all, in-each, any-in, find-in}
+use Rattle.stream_law.proofs.Members.{IsIn, in-all, in-each, find-in}
 use Rattle.tplg_plan.specs.declared.plans.Plan.{Plan}
 use Rattle.tplg_plan.specs.Sound.{IsSound, IsSideOf, FillsBuffer, DrainsBuffer}
 use Rattle.host_widgets.proofs.NamedIds.{few-widgets}
@@ -19,11 +18,7 @@ use Rattle.host_widgets.specs.Need.{end_index}
 use Rattle.host_dynamic.specs.Noting.{IsLowJoin, IsSearchable}
 use Rattle.host_widgets.proofs.Needs.{in-map, among-in, in-among}
 use Rattle.host_widgets.specs.Indices.{named_index, index_at, pipe_indices}
-
-complete-among : (ps : List Pipe) (i : ℕ) → list_any (λ p. p.index == i && p.complete) ps ≡ true → is_among (map (λ (p : Pipe). p.index) ps) i ≡ true
-complete-among ps i is =
-    let r = any-in (λ (p : Pipe). p.index == i && p.complete) ps is in
-    in-among (map (λ (p : Pipe). p.index) ps) i (subst (λ y. IsIn y (map (λ (p : Pipe). p.index) ps)) (eqb-true r.0.index i (and_parts (r.0.index == i) r.0.complete r.2).0) (in-map (λ (p : Pipe). p.index) ps r.0 r.1))
+use Rattle.host_widgets.proofs.Wholes.{complete-among}
 
 module _ (plan : Plan) (sound : IsSound plan) where
   abbrev g : Graph

@@ -18,7 +18,7 @@ use Rattle.host_widgets.specs.declared.kept.Record.{Record}
 use Rattle.host_widgets.specs.ActCalls.{calls_of, next_of}
 use Rattle.host_widgets.specs.AnsweredOrders.{ActsAnswered, OrderAnswered}
 use Rattle.host_widgets.specs.Host.{Outcome, verdict}
-use Rattle.host_widgets.specs.HostActs.{Act, Make, Join, Put, Part, Finish, Prepare, Trig, Free, Save, Ask, Unmake, after, with_blob}
+use Rattle.host_widgets.specs.HostActs.{Act, Part, after, with_blob}
 use Rattle.host_widgets.specs.Kept.{with_control}
 use Rattle.host_widgets.specs.Orders.{plain_end, sends}
 use Rattle.host_widgets.specs.Routines.{JobDone}
@@ -36,21 +36,12 @@ use Rattle.host_widgets.specs.MadeLists.{ActsPassed}
 module _ (plan : Plan) where
   -- acts that passed leave the power, and what is up
   after-power : (act : Act) (now : Record) → (after plan act now).power ≡ now.power
-  after-power (Make id) now = refl
-  after-power (Join source sink) now = refl
-  after-power (Put comp values) now = refl
   after-power (Part comp blob k) now = by (is_last blob k)
     where
       by : (b : Bool) → (if b then with_control plan comp (with_blob blob) now else now).power ≡ now.power
       by true = refl
       by false = refl
-  after-power (Finish id) now = refl
-  after-power (Prepare host params) now = refl
-  after-power (Trig host what) now = refl
-  after-power (Free host) now = refl
-  after-power Save now = refl
-  after-power (Ask comp k) now = refl
-  after-power (Unmake id) now = refl
+  after-power act now = refl
 
   pub all-power : (acts : List Act) (u : UpState) → (after_all plan u acts).kept.power ≡ u.kept.power
   all-power [] u = refl
@@ -149,8 +140,7 @@ module _ (plan : Plan) where
 
     by-none : (power : Power) → there_by power nowhere ≡ nowhere
     by-none powers.On = refl
-    by-none powers.Off = refl
-    by-none powers.Unloaded = refl
+    by-none power = refl
 
     module _ (kept : Record) (up : List ℕ) (w : World D) where
       abbrev at_first : UpState

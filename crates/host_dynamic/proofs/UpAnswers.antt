@@ -18,13 +18,13 @@ use Rattle.mbox_link.specs.Step.{row, is_used, part_by, part_at, no_device, inva
 use Rattle.tplg_plan.specs.declared.plans.Plan.{Plan}
 use Rattle.tplg_plan.specs.declared.plans.ControlPlan.{ControlPlan}
 use Rattle.tplg_plan.specs.declared.plans.ControlKind.{ControlKind}
-use Rattle.tplg_plan.specs.declared.plans.ControlKind.TheVariants.{Volume, Choice, Blob, Masks}
+use Rattle.tplg_plan.specs.declared.plans.ControlKind.TheVariants.{Volume, Blob}
 use Rattle.tplg_plan.specs.Sound.{IsControlOf, IsLive, IsSound}
 use Rattle.host_widgets.specs.declared.kept.ControlRec.{ControlRec}
 use Rattle.host_widgets.specs.declared.kept.Found.TheVariants as founds
 use Rattle.host_widgets.specs.declared.kept.Power.TheVariants as powers
 use Rattle.host_widgets.specs.declared.trigger.Trigger.{Trigger}
-use Rattle.host_widgets.specs.declared.trigger.Trigger.TheVariants.{Start, Stop, Pause, Release}
+use Rattle.host_widgets.specs.declared.trigger.Trigger.TheVariants.{Start}
 use Rattle.host_widgets.specs.Acts.{trigger_message}
 use Rattle.host_widgets.specs.ActMessages.{set_message, act_message}
 use Rattle.host_widgets.specs.HostActs.{Put, Part, Trig, Free, Save, Ask, triggered_stream, with_values, Act}
@@ -59,15 +59,11 @@ use Rattle.host_dynamic.proofs.UpTriggers.{takes-open}
 
 no-trigger : (host : ℕ) (what : Trigger) → IsNoPart (trigger_message host what)
 no-trigger host Start = tt
-no-trigger host Stop = tt
-no-trigger host Pause = tt
-no-trigger host Release = tt
+no-trigger host what = tt
 
 no-set : (comp : ℕ) (values : List ℕ) (q : ControlKind) → IsNoPart (set_message comp values q)
 no-set comp values (Volume min max channels lowest step mute) = tt
-no-set comp values (Choice items) = tt
-no-set comp values (Masks min max channels) = tt
-no-set comp values (Blob most initial) = tt
+no-set comp values kind = tt
 
 module _ (plan : Plan) (sound : IsSound plan) (s : UpState) (is : IsUpState plan s) (on : s.kept.power ≡ powers.On) (f : FwState) (same : there_in f ≡ s.there) where
   abbrev st : Stage

@@ -81,9 +81,7 @@ module _ (plan : Plan) (sound : IsSound plan) (s : UpState) (is : IsUpState plan
   close-answered founds.Running e = stopped-answered (ap (takes_trigger Stop) e)
   close-answered founds.Paused e = stopped-answered (ap (takes_trigger Stop) e)
   close-answered founds.Prepared e = freed-answered plan sound s is on host p found e
-  close-answered founds.Open e = tt
-  close-answered founds.Closed e = tt
-  close-answered founds.On e = tt
+  close-answered found e = tt
 
 -- ---- controls
 

@@ -1,8 +1,8 @@
 -- What a call left of what is up, over any device, by its test.
-use Rattle.std.proofs.Common.{◌≡◌, refl, sym, ap, subst, ◌∙◌, ℕ, ◌*◌, List, ◌++◌, filter, length, get_or, Bool, true, false, not, ◌==◌, Some, None, Result, Ok, Err}
+use Rattle.std.proofs.Common.{◌≡◌, refl, sym, ap, subst, ◌∙◌, ℕ, ◌*◌, List, ◌++◌, filter, length, get_or, true, false, not, ◌==◌, Some, None, Result, Ok, Err}
 use Rattle.std.specs.Prelude.{Option, IfErr, is_some, unwrap_or, find}
 use Rattle.std.specs.List.{zip}
-use Rattle.std.proofs.lemmas.Bool.{false≢true}
+use Rattle.std.proofs.lemmas.Bool.{not-true}
 use Rattle.sof_base.specs.Ports.{HasRoom}
 use Rattle.stream_law.specs.declared.graph.Comp.{Comp}
 use Rattle.stream_law.specs.State.{FwState}
@@ -50,10 +50,6 @@ use Rattle.host_dynamic.proofs.UpOpens.{HasOpened, opens-on}
 use Rattle.host_widgets.proofs.UpStages.{StreamPair}
 use Rattle.host_dynamic.proofs.UpTriggers.{in-pairs}
 use Rattle.host_widgets.specs.HostActs.{Act}
-
-is-open : (b : Bool) → not b ≡ true → b ≡ false
-is-open true is = absurd (false≢true is)
-is-open false is = refl
 
 module _ {D : Type 0} (means : Meaning D) (plan : Plan) (sound : IsSound plan) (heap : ℕ) (kept : Record) (up : List ℕ) (w : World D) (name : List ℕ) (is : IsUpState plan (up_state_in means kept up w.device)) (agree : UpAgrees means plan kept up w.device) where
   abbrev s : UpState
@@ -195,7 +191,7 @@ module _ {D : Type 0} (means : Meaning D) (plan : Plan) (sound : IsSound plan) (
     found = found-at plan sound s is k at.within
 
     open_yet : is_closed p.1.found ≡ false
-    open_yet = is-open (is_closed p.1.found) at.stood.takes_it
+    open_yet = not-true (is_closed p.1.found) at.stood.takes_it
 
     module _ (kept1 : Record) (m1 : World D) (result1 : Outcome) (answered : OrderAnswered means plan heap (place_order plan kept k Closing) kept kept1 w m1 result1) where
       module _ (on : kept.power ≡ powers.On) where

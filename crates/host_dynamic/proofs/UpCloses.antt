@@ -90,11 +90,7 @@ plain-walk {S} {A} {Q} rules next (act ∷ acts) kept q = by (outcome_by (next q
 -- a stream's acts ask for nothing that is staged
 close-loose : (host : ℕ) (stands : Found) (f : FwState) → StagedFirst (close_by host stands) f
 close-loose host founds.Running f = tt
-close-loose host founds.Paused f = tt
-close-loose host founds.Prepared f = tt
-close-loose host founds.Open f = tt
-close-loose host founds.Closed f = tt
-close-loose host founds.On f = tt
+close-loose host found f = tt
 
 module _ {D : Type 0} (means : Meaning D) (plan : Plan) (sound : IsSound plan) (heap : ℕ) (s : UpState) (is : IsUpState plan s) (on : s.kept.power ≡ powers.On) (host : ℕ) (p : StreamPair)
     (found : find (λ (q : StreamPair). q.0.host == host) (zip plan.streams s.kept.streams) ≡ Some p) (open_yet : is_closed p.1.found ≡ false) where
@@ -176,13 +172,7 @@ module _ {D : Type 0} (means : Meaning D) (plan : Plan) (sound : IsSound plan) (
           by : (fault : HostFault) → result1 ≡ Err fault → IsPlain (Err fault) → Ends (Err fault) → HasClosed s.up kept1 w m1 (Err fault)
           by (faults.Refused e) is_r ok (left, stays) = was-refused e is_r left stays
           by faults.LinkDown is_r ok (left, cut) = was-down is_r left cut
-          by faults.NotLoaded is_r ok end = absurd ok
-          by faults.Loaded is_r ok end = absurd ok
-          by (faults.NoSuch name) is_r ok end = absurd ok
-          by (faults.State stands) is_r ok end = absurd ok
-          by faults.Off is_r ok end = absurd ok
-          by (faults.Range k) is_r ok end = absurd ok
-          by (faults.Blob k) is_r ok end = absurd ok
+          by fault is_r ok end = absurd ok
 
       -- ---- its messages passed, and what no other stream needs is unmade
 

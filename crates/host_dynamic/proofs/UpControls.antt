@@ -433,10 +433,8 @@ module _ (plan : Plan) (sound : IsSound plan) (s : UpState) (is : IsUpState plan
   )
 
   asked-steps : (comp : ℕ) (kind : ControlKind) (c : ControlRec) → Steps plan (IsUpState plan) s (ask_acts comp kind c) (λ u. IsUpState plan (settled u.kept u))
-  asked-steps comp (Volume min max channels lowest step mute) c = asks-steps comp (0 ∷ [])
-  asked-steps comp (Choice items) c = asks-steps comp (0 ∷ [])
-  asked-steps comp (Masks min max channels) c = asks-steps comp (0 ∷ [])
   asked-steps comp (Blob most initial) c = asks-steps comp (part_numbers c.blob)
+  asked-steps comp kind c = asks-steps comp (0 ∷ [])
 
   pub read-keeps : Keeps plan next (IsUpState plan) s q (plain_job plan s (read_order plan s.kept name)).routine
   read-keeps = by (named_at plan s.kept name)

@@ -10,7 +10,7 @@ use Rattle.mbox_link.specs.Calls.{World, Meaning}
 use Rattle.tplg_plan.specs.declared.plans.Plan.{Plan}
 use Rattle.tplg_plan.specs.declared.plans.ControlPlan.{ControlPlan}
 use Rattle.tplg_plan.specs.declared.plans.ControlKind.{ControlKind}
-use Rattle.tplg_plan.specs.declared.plans.ControlKind.TheVariants.{Volume, Choice, Blob, Masks}
+use Rattle.tplg_plan.specs.declared.plans.ControlKind.TheVariants.{Blob}
 use Rattle.tplg_plan.specs.Sound.{IsSound, IsLive}
 use Rattle.host_widgets.specs.declared.answers.Answer.TheVariants as answers
 use Rattle.host_widgets.specs.declared.answers.HostFault.{HostFault}
@@ -186,8 +186,7 @@ module _ {D : Type 0} (means : Meaning D) (plan : Plan) (sound : IsSound plan) (
             done-of : (power : Power) → (sends power (Put (control_here plan i).comp (spread (unwrap_or (channels_of (control_here plan i).kind) 0) values) ∷ []) (with_control plan (control_here plan i).comp (with_values (spread (unwrap_or (channels_of (control_here plan i).kind) 0) values))) answers.Done).done kept
                 ≡ with_control plan (control_here plan i).comp (with_values (spread (unwrap_or (channels_of (control_here plan i).kind) 0) values)) kept
             done-of powers.On = refl
-            done-of powers.Off = refl
-            done-of powers.Unloaded = refl
+            done-of power = refl
 
     pub set-kept : (values : List ℕ) (kept' : Record) (result : Outcome) → is_control_up plan up name ≡ false → KeptAlone (set_fault plan kept name values) (set_order plan kept name values).done kept kept' result →
         HasTested (set_fault plan kept name values) (control_order plan up name (set_order plan kept name values)) kept' w result
@@ -239,8 +238,7 @@ module _ {D : Type 0} (means : Meaning D) (plan : Plan) (sound : IsSound plan) (
           where
             done-of : (power : Power) → (sends power (part_acts (control_here plan i).comp blob) (with_control plan (control_here plan i).comp (with_blob blob)) answers.Done).done kept ≡ with_control plan (control_here plan i).comp (with_blob blob) kept
             done-of powers.On = refl
-            done-of powers.Off = refl
-            done-of powers.Unloaded = refl
+            done-of power = refl
 
     pub bytes-kept : (blob : List ℕ) (kept' : Record) (result : Outcome) → is_control_up plan up name ≡ false → KeptAlone (bytes_fault plan kept name blob) (bytes_order plan kept name blob).done kept kept' result →
         HasTested (bytes_fault plan kept name blob) (control_order plan up name (bytes_order plan kept name blob)) kept' w result
@@ -259,14 +257,12 @@ module _ {D : Type 0} (means : Meaning D) (plan : Plan) (sound : IsSound plan) (
         by (Some x) = refl
 
     loose-asks : (comp : ℕ) (kind : ControlKind) (c : ControlRec) (f : FwState) → StagedFirst (ask_acts comp kind c) f
-    loose-asks comp (Volume min max channels lowest step mute) c f = tt
-    loose-asks comp (Choice items) c f = tt
-    loose-asks comp (Masks min max channels) c f = tt
     loose-asks comp (Blob most initial) c f = by (parts c.blob)
       where
         by : (n : ℕ) → StagedFirst (map (Ask comp) (range_with_len 0 n)) f
         by zero = tt
         by (suc n) = tt
+    loose-asks comp kind c f = tt
 
     read-so : (kept' : Record) (v : World D) (result : Outcome) → is_control_up plan up name ≡ true → read_fault plan kept name ≡ None → OrderAnswered means plan heap (read_order plan kept name) kept kept' w v result → IsDoneSo means plan heap up (read_order plan kept name) kept kept' w v result
     read-so kept' v result here none all = by (control_place plan name) refl

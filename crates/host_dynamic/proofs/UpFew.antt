@@ -17,8 +17,8 @@ use Rattle.host_widgets.specs.UpState.{UpState}
 use Rattle.host_widgets.specs.Need.{need_in, is_needed}
 use Rattle.host_dynamic.specs.UpStates.{IsUpState}
 use Rattle.host_widgets.proofs.Needs.{among-in, in-among, in-either, flat-in}
-use Rattle.host_dynamic.proofs.NotedOnce.{few-once, need-indices, few-widgets-of}
-use Rattle.host_widgets.proofs.Sublists.{AreOnce, once-append, once-filter, distinct-once}
+use Rattle.host_dynamic.proofs.NotedOnce.{need-indices, few-widgets-of}
+use Rattle.host_widgets.proofs.Sublists.{AreOnce, once-append, once-filter, distinct-once, few-once}
 use Rattle.host_widgets.proofs.UpStages.{StreamPair}
 use Rattle.host_widgets.specs.Indices.{pipe_indices}
 

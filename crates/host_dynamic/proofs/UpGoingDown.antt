@@ -5,10 +5,8 @@ use Rattle.std.specs.Prelude.{find, is_some}
 use Rattle.std.specs.List.{AllByRecursion, flat_map}
 use Rattle.std.proofs.lemmas.Bool.{eqb-true}
 use Rattle.std.proofs.lemmas.List.{append-nil}
-use Rattle.sof_base.specs.Slots.{AreSlots, IsSlot}
 use Rattle.stream_law.specs.State.{FwState}
 use Rattle.stream_law.proofs.Members.{in-any, find-in}
-use Rattle.ipc3_model.specs.declared.message.Message.TheVariants.{CtxSave}
 use Rattle.ipc3_model.specs.declared.reply.Reply.{Reply}
 use Rattle.ipc3_model.specs.Meanings.{IsMessage}
 use Rattle.ipc3_model.specs.Messages.{message_spelling}
@@ -41,7 +39,7 @@ use Rattle.host_widgets.proofs.ReadyWays.{has_host}
 use Rattle.host_widgets.proofs.StreamFits.{trigger-fits}
 use Rattle.host_widgets.proofs.StreamPlaces.{streams-ascend}
 use Rattle.host_pm.specs.InTurn.{Behind, InTurn, WentDown}
-use Rattle.host_pm.proofs.GoingDown.{AreDown, going-down}
+use Rattle.host_pm.proofs.GoingDown.{AreDown, going-down, save-fits}
 use Rattle.host_dynamic.specs.Dynamic.{plain_job}
 use Rattle.host_widgets.specs.UpState.{UpState, up_own, up_act_rules}
 use Rattle.host_widgets.specs.There.{nowhere, there_in}
@@ -137,20 +135,9 @@ module _ (plan : Plan) where
             let is_so : outcome_by m.fate (up_own plan u act) ≡ Err (faults.Refused e) = sym m.came ∙ ap came_to is in
             let l = subst (Left plan u act means answered.0 answer w mid f on x) is_so m.left in
             refused-on u act acts w mid v result answer f on answered.0 x m e is_so end told (refused end now l same_now answered.3 more)
-        by (Err faults.LinkDown) is end passed refused = ends faults.LinkDown refl is end
-        by (Err faults.NotLoaded) is end passed refused = ends faults.NotLoaded refl is end
-        by (Err faults.Loaded) is end passed refused = ends faults.Loaded refl is end
-        by (Err (faults.NoSuch name)) is end passed refused = ends (faults.NoSuch name) refl is end
-        by (Err (faults.State found)) is end passed refused = ends (faults.State found) refl is end
-        by (Err faults.Off) is end passed refused = ends faults.Off refl is end
-        by (Err (faults.Range n)) is end passed refused = ends (faults.Range n) refl is end
-        by (Err (faults.Blob n)) is end passed refused = ends (faults.Blob n) refl is end
+        by (Err fault) is end passed refused = ends fault refl is end
 
 -- ---- the acts before a cut
-
-save-fits : IsMessage CtxSave
-unfolding AreSlots IsSlot
-save-fits = ((tt, (omega arith, tt)), tt)
 
 module _ (plan : Plan) (sound : IsSound plan) where
   -- a stream is found in a record as it stands here
@@ -201,10 +188,7 @@ module _ (plan : Plan) (sound : IsSound plan) where
       by : (found : Found) → r.found ≡ found → AreAnsweredOn plan u rest → (IsUpState plan next → AreAnsweredOn plan next rest) → AreAnsweredOn plan u ((stop_by s.host found ++ flat_map stop_acts ps) ++ Save ∷ [])
       by founds.Running is_so same behind = stops (ap (takes_trigger Stop) is_so) same behind
       by founds.Paused is_so same behind = stops (ap (takes_trigger Stop) is_so) same behind
-      by founds.Closed is_so same behind = same
-      by founds.Open is_so same behind = same
-      by founds.Prepared is_so same behind = same
-      by founds.On is_so same behind = same
+      by found is_so same behind = same
 
   pub down-answered : (u : UpState) → IsUpState plan u → u.kept.power ≡ powers.On → AreAnsweredOn plan u (go_down plan u.kept)
   down-answered u is on =

@@ -35,7 +35,7 @@ use Rattle.host_widgets.specs.ActMessages.{act_message, set_message, put_message
 use Rattle.host_widgets.specs.Acts.{widget_ids, widget_words, pipe_by_id, component_words, comp_message, buffer_message, pipe_message}
 use Rattle.host_widgets.specs.Controls.{control_of}
 use Rattle.host_widgets.specs.Host.{Outcome, verdict}
-use Rattle.host_widgets.specs.HostActs.{Act, Make, Join, Put, Part, Finish, Prepare, Trig, Free, Save, Ask, Unmake}
+use Rattle.host_widgets.specs.HostActs.{Act, Make, Join, Put, Part, Finish, Unmake}
 use Rattle.host_widgets.specs.Kept.{controls_of}
 use Rattle.host_widgets.specs.UpActs.{widgets_at, widgets_of, making_acts, pipe_ids, unmaking_acts}
 use Rattle.host_widgets.specs.There.{There, there_in, silent_state, by_part, there_after, ids_there, ids_there_of, shown_ids}
@@ -46,11 +46,11 @@ use Rattle.host_widgets.proofs.RowsTold.{told}
 use Rattle.host_widgets.proofs.Sublists.{filter-same}
 use Rattle.host_widgets.proofs.UpContext.{AreApart}
 use Rattle.host_widgets.proofs.UpExchanges.{SaysSo, IsOwn}
-use Rattle.host_dynamic.proofs.UpOpening.{mapped-in}
 use Rattle.host_widgets.proofs.UpSending.{Staged, AreAnswered, after_all, AreFree}
 use Rattle.host_widgets.proofs.UpStages.{index_of_id}
 use Rattle.host_widgets.specs.Groups.{is_control_of, finish_ids}
 use Rattle.host_widgets.specs.MadeLists.{ActsPassed, widget_made}
+use Rattle.host_widgets.proofs.StageStays.{from-map}
 
 -- ---- rows that leave the heap
 
@@ -94,9 +94,7 @@ module _ (f : FwState) where
 
   setting-keeps : (comp : ℕ) (values : List ℕ) (q : ControlKind) → KeepsHeap f.heap (row f (set_message comp values q))
   setting-keeps comp values (controls.Volume min max channels lowest step mute) = set-keeps comp _ _
-  setting-keeps comp values (controls.Choice items) = set-keeps comp _ _
-  setting-keeps comp values (controls.Masks min max channels) = set-keeps comp _ _
-  setting-keeps comp values (controls.Blob most initial) = set-keeps comp _ _
+  setting-keeps comp values kind = set-keeps comp _ _
 
   put-keeps : (comp : ℕ) (values : List ℕ) (o : Option ControlPlan) → KeepsHeap f.heap (row f (put_message comp values o))
   put-keeps comp values None = set-keeps comp _ _
@@ -206,12 +204,7 @@ module _ (plan : Plan) where
       by true = refl
       by false = refl
   one-there n u (Finish id) of free own x = one-kept u (Finish id) (there_after plan (Finish id) u.there) (complete-keeps (silent_state u.there) id) (told-of u (Finish id) free (own (silent_state u.there) refl tt)) x
-  one-there n u (Prepare host params) of free own x = absurd of
-  one-there n u (Trig host what) of free own x = absurd of
-  one-there n u (Free host) of free own x = absurd of
-  one-there n u Save of free own x = absurd of
-  one-there n u (Ask comp k) of free own x = absurd of
-  one-there n u (Unmake id) of free own x = absurd of
+  one-there n u act of free own x = absurd of
 
   -- ---- acts one after another
 
@@ -269,12 +262,7 @@ module _ (plan : Plan) where
       by (Put comp values) of rest more = rest more
       by (Part comp blob k) of rest more = rest more
       by (Finish id) of rest more = rest more
-      by (Prepare host params) of rest more = absurd of
-      by (Trig host what) of rest more = absurd of
-      by (Free host) of rest more = absurd of
-      by Save of rest more = absurd of
-      by (Ask comp k) of rest more = absurd of
-      by (Unmake id) of rest more = absurd of
+      by act of rest more = absurd of
 
   -- ---- the acts that make
 
@@ -285,7 +273,7 @@ module _ (plan : Plan) where
   control-makes n comp (controls.Choice items) c a (inr none) = absurd none
   control-makes n comp (controls.Masks min max channels) c a (inl is) = subst (MakesOf n) (sym is) tt
   control-makes n comp (controls.Masks min max channels) c a (inr none) = absurd none
-  control-makes n comp (controls.Blob most initial) c a there = let r = mapped-in (Part comp c.blob) _ a there in subst (MakesOf n) (sym r.2) tt
+  control-makes n comp (controls.Blob most initial) c a there = let r = from-map (Part comp c.blob) _ a there in subst (MakesOf n) (sym r.2) tt
 
   pub making-makes : (kept : Record) (n : List ℕ) (a : Act) → IsIn a (making_acts plan kept n) → MakesOf n a
   making-makes kept n a there = first (in-either (map Make (widgets_of plan n)) (joins ++ (puts ++ finishes)) a there)
@@ -301,15 +289,15 @@ module _ (plan : Plan) where
 
       last : IsIn a puts ⊎ IsIn a finishes → MakesOf n a
       last (inl in_puts) = let r = flat-in control_acts (filter (is_control_of plan n) (controls_of plan kept)) a in_puts in control-makes n r.0.0.comp r.0.0.kind r.0.1 a r.2
-      last (inr in_finishes) = let r = mapped-in Finish (finish_ids plan.graph n) a in_finishes in subst (MakesOf n) (sym r.2) tt
+      last (inr in_finishes) = let r = from-map Finish (finish_ids plan.graph n) a in_finishes in subst (MakesOf n) (sym r.2) tt
 
       second : IsIn a joins ⊎ IsIn a (puts ++ finishes) → MakesOf n a
-      second (inl in_joins) = let r = mapped-in (λ (j : Joined). Join j.source j.sink) (flat_map (buffer_joins plan.graph) n) a in_joins in subst (MakesOf n) (sym r.2) tt
+      second (inl in_joins) = let r = from-map (λ (j : Joined). Join j.source j.sink) (flat_map (buffer_joins plan.graph) n) a in_joins in subst (MakesOf n) (sym r.2) tt
       second (inr more) = last (in-either puts finishes a more)
 
       first : IsIn a (map Make (widgets_of plan n)) ⊎ IsIn a (joins ++ (puts ++ finishes)) → MakesOf n a
       first (inl in_makes) =
-          let r = mapped-in Make (widgets_of plan n) a in_makes in
+          let r = from-map Make (widgets_of plan n) a in_makes in
           let i = flat-in (widgets_at plan) n r.0 r.1 in
           let k = kept-in (λ (x : ℕ). index_of_id plan x == i.0) (widget_ids plan) r.0 i.2 in
           subst (MakesOf n) (sym r.2) (ap (is_among n) (eqb-true (index_of_id plan r.0) i.0 k.1) ∙ in-among n i.0 i.1)

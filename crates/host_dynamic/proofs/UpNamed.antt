@@ -1,8 +1,8 @@
 -- Commands on the stream of a name, where no test fails, leave what is up there.
-use Rattle.std.proofs.Common.{◌≡◌, refl, sym, ap, subst, ◌∙◌, ℕ, zero, suc, ◌<◌, List, [], ◌∷◌, length, get_or, Bool, true, false, not, inl, inr, ◌==◌, Option, Some, None, Ok, unwrap_or, arith}
+use Rattle.std.proofs.Common.{◌≡◌, refl, sym, ap, subst, ◌∙◌, ℕ, zero, suc, ◌<◌, List, [], ◌∷◌, length, get_or, true, false, inl, inr, ◌==◌, Option, Some, None, Ok, unwrap_or, arith}
 use Rattle.std.specs.Prelude.{find}
 use Rattle.std.specs.List.{zip}
-use Rattle.std.proofs.lemmas.Bool.{false≢true, eq-eqb}
+use Rattle.std.proofs.lemmas.Bool.{eq-eqb, not-true}
 use Rattle.sof_base.specs.declared.format.Params.{Params}
 use Rattle.stream_law.specs.declared.graph.Comp.{Comp}
 use Rattle.stream_law.specs.Ways.{comp_of}
@@ -51,10 +51,6 @@ zip-at [] rs k low same = absurd (omega (arith, low))
 zip-at (s ∷ ss) [] k low same = absurd (cc same)
 zip-at (s ∷ ss) (r ∷ rs) zero low same = inl refl
 zip-at (s ∷ ss) (r ∷ rs) (suc k) low same = inr (zip-at ss rs k (omega (arith, low)) (let rest : length rs ≡ length ss = omega (arith, same) in rest))
-
-is-false : (b : Bool) → not b ≡ true → b ≡ false
-is-false true is = absurd (false≢true is)
-is-false false is = refl
 
 module _ (plan : Plan) (sound : IsSound plan) (s : UpState) (is : IsUpState plan s) where
   -- ---- the stream at a place
@@ -148,7 +144,7 @@ module _ (plan : Plan) (sound : IsSound plan) (s : UpState) (is : IsUpState plan
     close-keeps none =
         let r = place-of Closing none in
         subst (λ (o : Option ℕ). Keeps plan next (IsUpState plan) s q (closing_job plan s (host_at plan (unwrap_or o 0)) (stream_at s.kept (unwrap_or o 0)).found).routine) (sym r.1.place)
-        (close-at r.0 r.1.within next q r.1.stood.up (is-false (is_closed (stream_at s.kept r.0).found) r.1.stood.takes_it))
+        (close-at r.0 r.1.within next q r.1.stood.up (not-true (is_closed (stream_at s.kept r.0).found) r.1.stood.takes_it))
 
     pub trigger-named : (what : Trigger) → early_fault plan s.kept name (Triggering what) ≡ None → Keeps plan next (IsUpState plan) s q (plain_job plan s (stream_order plan s.kept name (Triggering what))).routine
     trigger-named what none =

@@ -2,7 +2,7 @@
 use Rattle.std.proofs.Common.{◌≡◌, refl, sym, ap, subst, ◌∙◌, ℕ, List, [], ◌∷◌, ◌++◌, Bool, true, false, cond, not, inl, inr, ◌⊎◌, ◌==◌, ◌||◌, ◌&&◌, Some, None, is_some}
 use Rattle.std.specs.Prelude.{Option, ◌↔◌}
 use Rattle.std.specs.List.{zip, AllByRecursion}
-use Rattle.std.proofs.lemmas.Bool.{true≢false, false≢true, eqb-true, and_parts, and_from, or_left, or_cases}
+use Rattle.std.proofs.lemmas.Bool.{true≢false, false≢true, eqb-true, and_parts, and_from, or_left, or_cases, not-true}
 use Rattle.sof_base.specs.declared.format.Params.{Params}
 use Rattle.stream_law.specs.declared.graph.Comp.{Comp}
 use Rattle.stream_law.specs.declared.graph.Edge.{Edge}
@@ -188,10 +188,6 @@ module _ (plan : Plan) (sound : IsSound plan) where
       lacking-need j is =
           let p = and_parts (not (is_among up j)) (is_among (need_in g host) j) (sym (is_among-filter (λ i. not (is_among up i)) (need_in g host) j) ∙ is) in
           (not-true (is_among up j) p.0, p.1)
-        where
-          not-true : (b : Bool) → not b ≡ true → b ≡ false
-          not-true true is = absurd (false≢true is)
-          not-true false is = refl
 
       pub both-brought : HasBrought g (is_among (up ++ n))
       both-brought = brought-by (is_among (up ++ n)) (λ i is. by i (or_cases (is_among up i) (is_among n i) (sym (among-both up n i) ∙ is)))

@@ -47,12 +47,7 @@ use Rattle.host_dynamic.proofs.UpUnmaking.{unmakes}
 use Rattle.host_widgets.proofs.UpWalks.{with_there, Runs, Met, HasEnded, walk-runs, Keeps}
 use Rattle.host_widgets.specs.HostActs.{Act}
 use Rattle.host_widgets.specs.Indices.{pipe_indices}
-
--- a member of a map
-pub mapped-in : {X Y : Type 0} (f : X → Y) (xs : List X) (y : Y) → IsIn y (map f xs) → (x : X) × IsIn x xs × (y ≡ f x)
-mapped-in f [] y none = absurd none
-mapped-in f (x ∷ xs) y (inl same) = (x, inl refl, same)
-mapped-in f (x ∷ xs) y (inr more) = let r = mapped-in f xs y more in (r.0, inr r.1, r.2)
+use Rattle.host_widgets.proofs.StageStays.{from-map}
 
 -- what is so of every record is so at each host
 pub all-at : {So : StreamRec → Type 0} (host : ℕ) (ss : List StreamPlan) (rs : List StreamRec) → ((r : StreamRec) → So r) → AllAt So host ss rs
@@ -111,7 +106,7 @@ module _ (plan : Plan) (sound : IsSound plan) where
 
       back : IsAsked plan sound (went_down kept) i → IsAsked plan sound kept i
       back (p, there, open_yet, is) =
-          let r = mapped-in (λ (q : StreamPair). (q.0, halted q.1)) (zip plan.streams kept.streams) p (subst (IsIn p) (zip-halted plan.streams kept.streams) there) in
+          let r = from-map (λ (q : StreamPair). (q.0, halted q.1)) (zip plan.streams kept.streams) p (subst (IsIn p) (zip-halted plan.streams kept.streams) there) in
           (r.0, r.1, sym (halted-closed r.0.1.found) ∙ ap (λ (q : StreamPair). is_closed q.1.found) (sym r.2) ∙ open_yet, ap (λ (q : StreamPair). is_among (need_in g q.0.host) i) (sym r.2) ∙ is)
 
   -- what is up by a record, each index once
@@ -199,7 +194,7 @@ module _ (plan : Plan) (sound : IsSound plan) where
     was-asked i (q, q_in, open_yet, need) = by (r.0.0.host == host) refl
       where
         r : (x : StreamPair) × IsIn x olds × (q ≡ changed_one host opened_stream x)
-        r = mapped-in (changed_one host opened_stream) olds q (subst (IsIn q) news-are q_in)
+        r = from-map (changed_one host opened_stream) olds q (subst (IsIn q) news-are q_in)
 
         same_host : q.0.host ≡ r.0.0.host
         same_host = ap (λ (x : StreamPair). x.0.host) r.2
@@ -302,14 +297,7 @@ module _ (plan : Plan) (sound : IsSound plan) where
 
         faulted : (fault : HostFault) → Mid u.there → Goal (Err fault)
         faulted (faults.Refused e) mid = refused mid
-        faulted faults.NotLoaded mid = down
-        faulted faults.Loaded mid = down
-        faulted (faults.NoSuch name) mid = down
-        faulted (faults.State found) mid = down
-        faulted faults.Off mid = down
-        faulted (faults.Range k) mid = down
-        faulted faults.LinkDown mid = down
-        faulted (faults.Blob k) mid = down
+        faulted fault mid = down
 
         come : (o : Outcome) → Met plan Mid End o u.there → Goal o
         come (Ok passed) met = open-state u same same_up (opened-there u.there met)

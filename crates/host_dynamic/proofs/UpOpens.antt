@@ -206,14 +206,7 @@ module _ {D : Type 0} (means : Meaning D) (plan : Plan) (sound : IsSound plan) (
                 fails : (fault : HostFault) → JobDone means (up_act_rules plan) heap (opening_job plan s host) (record { kept = kept'; up = s.up; there = there_on (means.on v.device) }) w v (first_of (Err (faults.Refused e)) (Err fault)) →
                     IsSwitched kept'.power (means.on v.device) → HasOpened kept' w v (first_of (Err (faults.Refused e)) (Err fault))
                 fails faults.LinkDown done switched = record { done = done; switched = switched }
-                fails (faults.Refused d) done switched = record { done = done; switched = switched }
-                fails faults.NotLoaded done switched = record { done = done; switched = switched }
-                fails faults.Loaded done switched = record { done = done; switched = switched }
-                fails (faults.NoSuch name) done switched = record { done = done; switched = switched }
-                fails (faults.State stands) done switched = record { done = done; switched = switched }
-                fails faults.Off done switched = record { done = done; switched = switched }
-                fails (faults.Range k) done switched = record { done = done; switched = switched }
-                fails (faults.Blob k) done switched = record { done = done; switched = switched }
+                fails fault done switched = record { done = done; switched = switched }
 
           unmade-then : (kept' : Record) (v : World D) (outcome' : Outcome) → Unmade means plan heap made s.kept kept' mid v outcome' → HasOpened kept' w v (first_of (Err (faults.Refused e)) outcome')
           unmade-then kept' v (Ok done) un = unmade-all un.passed un.sent (Ok tt) un.did kept' v refl un.ends.0 un.ends.1

@@ -126,5 +126,4 @@ module _ (plan : Plan) {D : Type 0} (means : Meaning D) (heap : ℕ) (done : Rec
     -- one that sends nothing, since what it is of is not up
     pub unsent-done : (power : Power) (xs : List Act) (kept' : Record) (v : World D) (result : Outcome) → kept' ≡ done kept → v ≡ w → result ≡ Ok tt → IsDoneSo means plan heap up (unsent (sends power xs done answer)) kept kept' w v result
     unsent-done powers.On xs kept' v result left stays ok = rest-done kept' v result left stays ok
-    unsent-done powers.Off xs kept' v result left stays ok = rest-done kept' v result left stays ok
-    unsent-done powers.Unloaded xs kept' v result left stays ok = rest-done kept' v result left stays ok
+    unsent-done power xs kept' v result left stays ok = rest-done kept' v result left stays ok

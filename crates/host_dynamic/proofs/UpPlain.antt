@@ -38,14 +38,7 @@ module _ (plan : Plan) (sound : IsSound plan) where
     -- a refusal leaves what is kept, and a failed link cuts the device
     failed : (now : UpState) → IsUpState plan now → (fault : HostFault) → IsUpState plan (settled (plain_end done now.kept (Err fault)).0 now)
     failed now is faults.LinkDown = down-state plan sound now (record { record_is = is.record_is; up_is = is.up; once = is.once })
-    failed now is (faults.Refused e) = settled-state now is
-    failed now is faults.NotLoaded = settled-state now is
-    failed now is faults.Loaded = settled-state now is
-    failed now is (faults.NoSuch name) = settled-state now is
-    failed now is (faults.State found) = settled-state now is
-    failed now is faults.Off = settled-state now is
-    failed now is (faults.Range k) = settled-state now is
-    failed now is (faults.Blob k) = settled-state now is
+    failed now is fault = settled-state now is
 
     ended : (now : UpState) (o : Outcome) → Came plan (IsUpState plan) IsDone o now → IsUpState plan (settled (plain_end done now.kept o).0 now)
     ended now (Ok passed) came = came

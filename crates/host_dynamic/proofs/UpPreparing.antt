@@ -42,7 +42,7 @@ use Rattle.host_dynamic.specs.UpStates.{IsThereBy, IsUpState}
 use Rattle.host_widgets.proofs.HostStreams.{IsHostKind, stream-comp, in-zip}
 use Rattle.host_widgets.proofs.RowsThere.{row-told}
 use Rattle.host_widgets.proofs.RowsTold.{told}
-use Rattle.host_widgets.proofs.StagePrepares.{up-placed, up-amid, one-of-host, prepare-told, prepare-is}
+use Rattle.host_widgets.proofs.StagePrepares.{up-placed, up-has, one-of-host, prepare-told, prepare-is}
 use Rattle.host_widgets.proofs.StageStreams.{changed_one, zip-changed, other-stays}
 use Rattle.host_widgets.proofs.UpContext.{IsServing}
 use Rattle.host_widgets.proofs.UpExchanges.{SaysSo, IsOwn}
@@ -138,7 +138,7 @@ module _ (plan : Plan) (sound : IsSound plan) (s : UpState) (is : IsUpState plan
   there-then : list_any (conflicts plan host params) pairs ≡ false → there_after plan (Prepare host params) s.there ≡ at_stage plan now (up_stage plan s.up) s.there.heap
   there-then free =
       ap (there_after plan (Prepare host params)) begun.is
-      ∙ prepare-is plan sound s.kept s.up [] (up_stage plan s.up) (up-amid plan sound s.up serves.brought) (up-placed plan sound s.up) s.there.heap host has-all comp.0 comp.1 comp.2 params serves p found takes rate free
+      ∙ prepare-is plan sound s.kept s.up (up_stage plan s.up) (up-has plan sound s.up serves.brought) (up-placed plan sound s.up) s.there.heap host has-all comp.0 comp.1 comp.2 params serves p found takes rate free
 
   pub prepared-state : up_own plan s (Prepare host params) ≡ None → IsUpState plan ((up_act_rules plan).after (Prepare host params) s)
   prepared-state own_is = changed-state plan sound s is host (prepared_stream params) (λ q there e. sym (ap (λ (x : StreamPair). is_closed x.1.found) (one-pair q there e) ∙ takes-open p.1.found takes)) (record-then free) then.there
@@ -156,7 +156,7 @@ module _ (plan : Plan) (sound : IsSound plan) (s : UpState) (is : IsUpState plan
   said_by b = cond b (Err invalid) (Ok (at_stage plan now (up_stage plan s.up) s.there.heap))
 
   told-then : told (row (silent_state (at_stage plan s.kept (up_stage plan s.up) s.there.heap)) (PcmParams host (direction_of plan host) params)) ≡ said_by (list_any (conflicts plan host params) pairs)
-  told-then = prepare-told plan sound s.kept s.up [] (up_stage plan s.up) (up-amid plan sound s.up serves.brought) (up-placed plan sound s.up) s.there.heap host has-all comp.0 comp.1 comp.2 params serves p found takes rate
+  told-then = prepare-told plan sound s.kept s.up (up_stage plan s.up) (up-has plan sound s.up serves.brought) (up-placed plan sound s.up) s.there.heap host has-all comp.0 comp.1 comp.2 params serves p found takes rate
 
   -- it refuses them where they conflict with those of another stream, and else takes them
   pub own-prepare : (f : FwState) → there_in f ≡ s.there → IsOwn plan s (Prepare host params) f

@@ -28,7 +28,8 @@ use Rattle.host_dynamic.specs.UpDevices.{there_on}
 use Rattle.host_dynamic.specs.UpStates.{IsThereBy, IsUpState}
 use Rattle.host_dynamic.proofs.JobLegs.{HasGone, once-done}
 use Rattle.host_dynamic.proofs.UpAgreeing.{IsSwitched, gone-of, cut-none, there-then}
-use Rattle.host_dynamic.proofs.UpResuming.{AnyThere, real, Ready, all-runs, resuming-answered, resuming-loose}
+use Rattle.host_pm.proofs.ParamsAgain.{AnyThere}
+use Rattle.host_dynamic.proofs.UpResuming.{real, Ready, all-runs, resuming-answered, resuming-loose}
 use Rattle.host_widgets.proofs.UpSending.{EndsThere, HasSent, sent-did}
 use Rattle.host_widgets.proofs.UpWalks.{HasEnded, walk-runs}
 use Rattle.host_widgets.proofs.MadeSent.{sent-listed}

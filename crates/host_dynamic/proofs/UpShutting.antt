@@ -33,17 +33,18 @@ use Rattle.host_dynamic.specs.UpStates.{IsThereBy, IsUpState}
 use Rattle.host_widgets.proofs.StageStreams.{changed_one, zip-changed}
 use Rattle.host_dynamic.proofs.UpClosing.{shut-off}
 use Rattle.host_dynamic.proofs.UpNeeds.{IsAsked, asked-needed, up-brought}
-use Rattle.host_dynamic.proofs.UpOpening.{mapped-in, down-state}
+use Rattle.host_dynamic.proofs.UpOpening.{down-state}
 use Rattle.host_widgets.proofs.UpStages.{StreamPair}
 use Rattle.host_dynamic.proofs.UpStreams.{HasFreed, freed-keeps, begun, freed-so}
 use Rattle.host_dynamic.proofs.UpTriggers.{one-pair, may-be, triggered, triggered-state, triggered-pair, stands-then}
 use Rattle.host_widgets.proofs.UpWalks.{Keeps, Steps, Came, walk-steps}
+use Rattle.host_widgets.proofs.StageStays.{from-map}
 
 module _ (plan : Plan) (sound : IsSound plan) (s : UpState) (is : IsUpState plan s) (host : ℕ) where
   -- what the other streams need is up
   shut-asked : (i : ℕ) → IsAsked plan sound (with_stream plan host shut s.kept) i → is_among s.up i ≡ true
   shut-asked i (q, there, open_q, need) =
-      let r = mapped-in (changed_one host shut) (zip plan.streams s.kept.streams) q (subst (IsIn q) (zip-changed host shut plan.streams s.kept.streams) there) in
+      let r = from-map (changed_one host shut) (zip plan.streams s.kept.streams) q (subst (IsIn q) (zip-changed host shut plan.streams s.kept.streams) there) in
       by r (r.0.0.host == host) refl
     where
       by : (r : (x : StreamPair) × IsIn x (zip plan.streams s.kept.streams) × (q ≡ changed_one host shut x)) (b : Bool) → (r.0.0.host == host) ≡ b → is_among s.up i ≡ true
@@ -115,14 +116,7 @@ module _ (plan : Plan) (sound : IsSound plan) (s : UpState) (is : IsUpState plan
 
       faulted : (fault : HostFault) → IsUpState plan v → Goal (Err fault)
       faulted (faults.Refused e) k = k
-      faulted faults.NotLoaded k = down k
-      faulted faults.Loaded k = down k
-      faulted (faults.NoSuch name) k = down k
-      faulted (faults.State found) k = down k
-      faulted faults.Off k = down k
-      faulted (faults.Range n) k = down k
-      faulted faults.LinkDown k = down k
-      faulted (faults.Blob n) k = down k
+      faulted fault k = down k
 
       come : (o : Outcome) → Came plan (IsUpState plan) Ended o v → Goal o
       come (Ok passed) ended = freed-keeps plan sound s.up host next is.once (up-brought plan sound s.kept s.up is.record_is is.up) v r ended

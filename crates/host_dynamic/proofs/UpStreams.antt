@@ -36,12 +36,13 @@ use Rattle.host_widgets.proofs.HostStreams.{stream-comp}
 use Rattle.host_widgets.proofs.StageBetween.{comp-index}
 use Rattle.host_widgets.proofs.StageStreams.{changed_one, zip-changed, free-is}
 use Rattle.host_dynamic.proofs.UpNeeds.{IsAsked, needed-asked, asked-needed, stream-enough}
-use Rattle.host_dynamic.proofs.UpOpening.{mapped-in, all-at}
+use Rattle.host_dynamic.proofs.UpOpening.{all-at}
 use Rattle.host_dynamic.proofs.UpClosing.{parts-keep}
 use Rattle.host_widgets.proofs.UpStages.{StreamPair, at_stage, IsStage, up_stage, index_of_id}
 use Rattle.host_dynamic.proofs.UpStanding.{there-stage}
 use Rattle.host_widgets.proofs.UpWalks.{Keeps}
 use Rattle.host_widgets.specs.Indices.{index_at}
+use Rattle.host_widgets.proofs.StageStays.{from-map}
 
 module _ (plan : Plan) (sound : IsSound plan) (u : UpState) (is : IsUpState plan u) (host : ℕ) (f : StreamRec → StreamRec)
     (keeps : (p : StreamPair) → IsIn p (zip plan.streams u.kept.streams) → (p.0.host == host) ≡ true → is_closed (f p.1).found ≡ is_closed p.1.found) (record_is : IsRecordOf plan (with_stream plan host f u.kept)) where
@@ -66,7 +67,7 @@ module _ (plan : Plan) (sound : IsSound plan) (u : UpState) (is : IsUpState plan
 
   asked-then : (i : ℕ) → IsAsked plan sound now i → IsAsked plan sound u.kept i
   asked-then i (q, there, open_yet, need) =
-      let r = mapped-in (changed_one host f) olds q (subst (IsIn q) news-are there) in
+      let r = from-map (changed_one host f) olds q (subst (IsIn q) news-are there) in
       (r.0, r.1, sym (same-closed r.0 r.1) ∙ ap (λ (x : StreamPair). is_closed x.1.found) (sym r.2) ∙ open_yet, ap (λ (x : StreamPair). is_among (need_in plan.graph x.0.host) i) (sym r.2) ∙ need)
 
   -- with the stream changed in the record, and what is there as it should be then
@@ -136,7 +137,7 @@ module _ (plan : Plan) (sound : IsSound plan) (up : List ℕ) (host : ℕ) where
       then-there = ap (there_after plan (Free host)) (begun u is same on).is ∙ free-is plan sound u.kept (up_stage plan u.up) (whole u) u.there.heap host p found has prepared
 
       from-old : (q : StreamPair) → IsIn q (zip plan.streams then.kept.streams) → (r : StreamPair) × IsIn r (zip plan.streams u.kept.streams) × (q ≡ changed_one host freed r)
-      from-old q there = mapped-in (changed_one host freed) (zip plan.streams u.kept.streams) q (subst (IsIn q) (zip-changed host freed plan.streams u.kept.streams) there)
+      from-old q there = from-map (changed_one host freed) (zip plan.streams u.kept.streams) q (subst (IsIn q) (zip-changed host freed plan.streams u.kept.streams) there)
 
       is-closed : (q : StreamPair) → IsIn q (zip plan.streams then.kept.streams) → (q.0.host == host) ≡ true → q.1 ≡ closed
       is-closed q there e =
@@ -147,7 +148,7 @@ module _ (plan : Plan) (sound : IsSound plan) (up : List ℕ) (host : ℕ) where
       -- what is asked of others was asked
       still-asked : (i : ℕ) → IsAsked plan sound (with_stream plan host shut then.kept) i → is_among up i ≡ true
       still-asked i (q, there, open_q, need) =
-          let r = mapped-in (changed_one host shut) (zip plan.streams then.kept.streams) q (subst (IsIn q) (zip-changed host shut plan.streams then.kept.streams) there) in
+          let r = from-map (changed_one host shut) (zip plan.streams then.kept.streams) q (subst (IsIn q) (zip-changed host shut plan.streams then.kept.streams) there) in
           by (r.0.0.host == host) r refl
         where
           by : (b : Bool) (r : (x : StreamPair) × IsIn x (zip plan.streams then.kept.streams) × (q ≡ changed_one host shut x)) → (r.0.0.host == host) ≡ b → is_among up i ≡ true

@@ -59,9 +59,7 @@ takes-open what found takes = absurd (false≢true takes)
 
 then-open : (what : Trigger) → is_closed (triggered_found what) ≡ false
 then-open Start = refl
-then-open Stop = refl
-then-open Pause = refl
-then-open Release = refl
+then-open what = refl
 
 -- ---- the stream of a host
 

@@ -1,8 +1,9 @@
 -- Unmaking what there is of these pipelines leads back to what is up.
-use Rattle.std.proofs.Common.{◌≡◌, refl, sym, ap, subst, ◌∙◌, arith, ℕ, ◌<◌, List, [], ◌∷◌, ◌++◌, map, filter, length, Bool, true, false, cond, not, inl, inr, ◌⊎◌, ◌==◌, ◌&&◌, Some}
+use Rattle.std.proofs.Common.{◌≡◌, refl, sym, ap, subst, ◌∙◌, arith, ℕ, ◌<◌, List, [], ◌∷◌, ◌++◌, map, filter, length, Bool, true, false, cond, not, inl, inr, ◌⊎◌, ◌==◌, ◌&&◌, Some, Ok}
 use Rattle.std.specs.Prelude.{Option}
 use Rattle.std.specs.Option.{option_map_or}
 use Rattle.std.specs.List.{flat_map, list_any}
+use Rattle.std.proofs.lemmas.List.{map-append}
 use Rattle.std.proofs.lemmas.Bool.{true≢false, false≢true, eqb-true, eq-eqb, or_from, or_cases, or_parts, and_parts, and_from, and_right, false_from_ne_true}
 use Rattle.stream_law.specs.declared.graph.Comp.{Comp}
 use Rattle.stream_law.specs.declared.graph.Edge.{Edge}
@@ -36,8 +37,8 @@ use Rattle.host_widgets.specs.Up.{buffer_joins}
 use Rattle.host_widgets.proofs.Needs.{in-among, in-map}
 use Rattle.host_widgets.proofs.Between.{same-bools, member-found, found-member, comp-named, edge-named}
 use Rattle.host_widgets.proofs.StageBetween.{comp-index, edge-index, stage-between}
-use Rattle.host_widgets.proofs.RowsTold.{told}
-use Rattle.host_widgets.proofs.StageFrees.{without_id, piece-less, free-pipe-is, buffer-gone, free-buffer-is, free-comp-is, edge-named as edge-index-of, comp-named as comp-index-of, free-pipe-told, free-buffer-told, free-comp-told}
+use Rattle.host_widgets.proofs.RowsTold.{told, left-told}
+use Rattle.host_widgets.proofs.StageFrees.{without_id, piece-less, buffer-gone, edge-named as edge-index-of, comp-named as comp-index-of, free-pipe-told, free-buffer-told, free-comp-told}
 use Rattle.host_widgets.proofs.StageMessages.{unmake-fits, unmake-whole}
 use Rattle.host_widgets.proofs.StageMakes.{none-passes}
 use Rattle.host_widgets.proofs.StageSame.{heap-same, at-same}
@@ -47,8 +48,10 @@ use Rattle.host_widgets.proofs.UpContext.{IsServing, AreApart, own-index, JoinEn
 use Rattle.host_widgets.proofs.UpStages.{Stage, StreamPair, comps_left, edges_left, stage_graph, stage_streams, at_stage, IsStage, index_of_id, is_join_of, up_stage, IsAmid}
 use Rattle.host_widgets.proofs.UpExchanges.{own-told}
 use Rattle.host_widgets.proofs.UpSending.{StagedFirst, AreAnswered}
+use Rattle.host_widgets.proofs.LeadingOn.{LeadsTo, leads-answered, leads-on, leads-runs}
+use Rattle.host_widgets.proofs.UpMaking.{IsMidway}
 use Rattle.host_widgets.proofs.UpWalks.{Runs, with_there}
-use Rattle.host_widgets.specs.HostActs.{Unmake}
+use Rattle.host_widgets.specs.HostActs.{Act, Unmake}
 use Rattle.host_widgets.specs.ActMessages.{act_message}
 use Rattle.host_widgets.specs.Indices.{index_at}
 
@@ -143,6 +146,9 @@ module _ (plan : Plan) (sound : IsSound plan) (s : UpState) (up n : List ℕ) (s
   abbrev Any : There → Type 0
   Any t = Unit {0}
 
+  abbrev Midway : There → Type 0
+  Midway t = IsMidway plan kept up n t
+
   -- what is left of a stage, and of what is there
   less-stage : (st : Stage) (t : There) (id : ℕ) → IsAmid plan up n st → st.has id ≡ true → IsStage plan kept st t → there_after plan (Unmake id) (at_stage plan kept st t.heap) ≡ at_stage plan kept (without_id id st) (without_piece id t.heap) → IsStage plan kept (without_id id st) (there_after plan (Unmake id) t)
   less-stage st t id a has is gone =
@@ -181,22 +187,32 @@ module _ (plan : Plan) (sound : IsSound plan) (s : UpState) (up n : List ℕ) (s
           no (inl same) = true≢false (sym p.1 ∙ ap not (eq-eqb x id same))
           no (inr more) = out more
 
-  -- a segment of acts leads on to another
-  segments : (ids more : List ℕ) (u : UpState) (Mid Last : There → Type 0) → Runs plan Any u (map Unmake ids) Mid → ((t : There) → Mid t → Runs plan Any (with_there plan u t) (map Unmake more) Last) → Runs plan Any u (map Unmake (ids ++ more)) Last
-  segments [] more u Mid Last runs then = then u.there runs
-  segments (id ∷ ids) more u Mid Last runs then = (tt, runs.1, λ free. segments ids more (with_there plan u (there_after plan (Unmake id) u.there)) Mid Last (runs.2 free) (λ t mid. then t mid))
+  unmakes-loose : (ids : List ℕ) (f : FwState) → StagedFirst (map Unmake ids) f
+  unmakes-loose [] f = tt
+  unmakes-loose (id ∷ ids) f = tt
+
+  -- one of these is unmade, and the others after it
+  one-less : (id : ℕ) (ids : List ℕ) (st : Stage) (t : There) → IsAmid plan up n st → st.has id ≡ true → id < length plan.widgets → IsStage plan kept st t →
+      told (row (silent_state (at_stage plan kept st t.heap)) (act_message plan (Unmake id))) ≡ Ok (at_stage plan kept (without_id id st) (without_piece id t.heap)) → (End : There → Type 0) →
+      (IsStage plan kept (without_id id st) (there_after plan (Unmake id) t) → LeadsTo plan Midway (with_there plan s (there_after plan (Unmake id) t)) (map Unmake ids) End) → LeadsTo plan Midway (with_there plan s t) (map Unmake (id ∷ ids)) End
+  one-less id ids st t a has low is said End then = (
+    (st, a, is),
+    refl,
+    unmake-fits plan sound id low,
+    λ f same staged. own-told plan (with_there plan s t) (Unmake id) (unmake-whole plan sound id) refl f same refl (at_stage plan kept (without_id id st) (without_piece id t.heap)) (ap (λ (x : There). told (row (silent_state x) (act_message plan (Unmake id)))) is.is ∙ said),
+    λ f after staged done. unmakes-loose ids after,
+    λ free.
+        then (less-stage st t id a has is (left-told (at_stage plan kept st t.heap) (row (silent_state (at_stage plan kept st t.heap)) (act_message plan (Unmake id))) (at_stage plan kept (without_id id st) (without_piece id t.heap)) said)),
+  )
 
   -- ---- pipelines
 
   pipes-go : (ids : List ℕ) (st : Stage) (t : There) → AreOnce ids → AreLeft ids st → ((id : ℕ) → IsIn id ids → (p : Pipe) × (pipe_at g id ≡ Some p)) → IsAmid plan up n st → IsStage plan kept st t →
-      Runs plan Any (with_there plan s t) (map Unmake ids) (λ x. IsStage plan kept (drops ids st) x)
+      LeadsTo plan Midway (with_there plan s t) (map Unmake ids) (λ x. IsStage plan kept (drops ids st) x)
   pipes-go [] st t once left named a is = is
-  pipes-go (id ∷ ids) st t once left named a is = (
-    tt,
-    refl,
-    λ free. pipes-go ids (without_id id st) (there_after plan (Unmake id) t) once.1 (left-rest id ids st once left) (λ x there. named x (inr there)) (less-amid st id a here.0)
-        (less-stage st t id a here.1 is (free-pipe-is plan sound kept st (whole st a) t.heap id here.1 p.0 p.1 (index-free st a p.0.index in_n))),
-  )
+  pipes-go (id ∷ ids) st t once left named a is =
+      one-less id ids st t a here.1 (pipeline-found plan sound id p.0 p.1).low is (free-pipe-told plan sound kept st (whole st a) t.heap id here.1 p.0 p.1 (index-free st a p.0.index in_n)) (λ x. IsStage plan kept (drops (id ∷ ids) st) x)
+      (λ next. pipes-go ids (without_id id st) (there_after plan (Unmake id) t) once.1 (left-rest id ids st once left) (λ x there. named x (inr there)) (less-amid st id a here.0) next)
     where
       here : (of_n id ≡ true) × (st.has id ≡ true)
       here = left id (inl refl)
@@ -217,15 +233,13 @@ module _ (plan : Plan) (sound : IsSound plan) (s : UpState) (up n : List ℕ) (s
   pipes-still st id gone p there in_n has = gone p there in_n (and_parts (st.has p.id) (not (p.id == id)) has).0
 
   buffers-go : (ids : List ℕ) (st : Stage) (t : There) → AreOnce ids → AreLeft ids st → ((id : ℕ) → IsIn id ids → (e : Edge) × (edge_of g id ≡ Some e)) → ArePipesGone st → IsAmid plan up n st → IsStage plan kept st t →
-      Runs plan Any (with_there plan s t) (map Unmake ids) (λ x. IsStage plan kept (drops ids st) x)
+      LeadsTo plan Midway (with_there plan s t) (map Unmake ids) (λ x. IsStage plan kept (drops ids st) x)
   buffers-go [] st t once left named gone a is = is
-  buffers-go (id ∷ ids) st t once left named gone a is = (
-    tt,
-    refl,
-    λ free. buffers-go ids (without_id id st) (there_after plan (Unmake id) t) once.1 (left-rest id ids st once left) (λ x there. named x (inr there)) (pipes-still st id gone) next
-        (less-stage st t id a here.1 is (free-buffer-is plan sound kept st (whole st a) t.heap id here.1 e.0.pipe (edge-index-of plan sound kept st (whole st a) t.heap id here.1 e.0 e.1) no-pipe e.0 e.1
-        (none-held st a id e.0.pipe (edge-named plan sound up id e.0 e.1) in_n) stay)),
-  )
+  buffers-go (id ∷ ids) st t once left named gone a is =
+      one-less id ids st t a here.1 (buffer-found plan sound id e.0 e.1).low is
+      (free-buffer-told plan sound kept st (whole st a) t.heap id here.1 e.0.pipe (edge-index-of plan sound kept st (whole st a) t.heap id here.1 e.0 e.1) no-pipe e.0 e.1 (none-held st a id e.0.pipe (edge-named plan sound up id e.0 e.1) in_n) stay)
+      (λ x. IsStage plan kept (drops (id ∷ ids) st) x)
+      (λ at. buffers-go ids (without_id id st) (there_after plan (Unmake id) t) once.1 (left-rest id ids st once left) (λ x there. named x (inr there)) (pipes-still st id gone) next at)
     where
       here : (of_n id ≡ true) × (st.has id ≡ true)
       here = left id (inl refl)
@@ -254,16 +268,15 @@ module _ (plan : Plan) (sound : IsSound plan) (s : UpState) (up n : List ℕ) (s
   AreUpJoins st = (j : Join) → IsIn j st.joins → is_join_of g up j ≡ true
 
   comps-go : (ids : List ℕ) (st : Stage) (t : There) → AreOnce ids → AreLeft ids st → ((id : ℕ) → IsIn id ids → (c : Comp) × (comp_of g id ≡ Some c)) → ArePipesGone st → AreUpJoins st → IsAmid plan up n st → IsStage plan kept st t →
-      Runs plan Any (with_there plan s t) (map Unmake ids) (λ x. IsStage plan kept (drops ids st) x)
-  comps-go [] st t once left named gone joins a is = is
-  comps-go (id ∷ ids) st t once left named gone joins a is = (
-    tt,
-    refl,
-    λ free. comps-go ids (without_id id st) (there_after plan (Unmake id) t) once.1 (left-rest id ids st once left) (λ x there. named x (inr there)) (pipes-still st id gone)
-        (λ j there. joins j (kept-in (λ (i : Join). not (touches id i)) st.joins j there).0) (less-amid st id a here.0)
-        (less-stage st t id a here.1 is (free-comp-is plan sound kept st (whole st a) t.heap id here.1 c.0.pipe (comp-index-of plan sound kept st (whole st a) t.heap id here.1 c.0 c.1) no-pipe c.0 c.1
-        (λ j there. up-untouched id here.0 j (whole st a j there) (joins j there)))),
-  )
+      (End : There → Type 0) → ((x : There) → IsStage plan kept (drops ids st) x → End x) → LeadsTo plan Midway (with_there plan s t) (map Unmake ids) End
+  comps-go [] st t once left named gone joins a is End ends = ends t is
+  comps-go (id ∷ ids) st t once left named gone joins a is End ends =
+      one-less id ids st t a here.1 (component-found plan sound id c.0 c.1).low is
+      (free-comp-told plan sound kept st (whole st a) t.heap id here.1 c.0.pipe (comp-index-of plan sound kept st (whole st a) t.heap id here.1 c.0 c.1) no-pipe c.0 c.1
+      (λ j there. up-untouched id here.0 j (whole st a j there) (joins j there)))
+      End
+      (λ at. comps-go ids (without_id id st) (there_after plan (Unmake id) t) once.1 (left-rest id ids st once left) (λ x there. named x (inr there)) (pipes-still st id gone)
+      (λ j there. joins j (kept-in (λ (i : Join). not (touches id i)) st.joins j there).0) (less-amid st id a here.0) at End ends)
     where
       here : (of_n id ≡ true) × (st.has id ≡ true)
       here = left id (inl refl)
@@ -273,97 +286,6 @@ module _ (plan : Plan) (sound : IsSound plan) (s : UpState) (up n : List ℕ) (s
 
       no-pipe : (p : Pipe) → IsIn p g.pipes → p.index ≡ c.0.pipe → st.has p.id ≡ true → ⊥
       no-pipe p there same has = gone p there (ap (is_among n) (same ∙ sym (comp-index plan sound id c.0 c.1)) ∙ here.0) has
-
-  -- ---- what the firmware answers
-
-  unmakes-loose : (ids : List ℕ) (f : FwState) → StagedFirst (map Unmake ids) f
-  unmakes-loose [] f = tt
-  unmakes-loose (id ∷ ids) f = tt
-
-  -- as the rules say, of what is left of these and of what comes after
-  pipes-asked : (ids behind : List ℕ) (st : Stage) (t : There) → AreOnce ids → AreLeft ids st → ((id : ℕ) → IsIn id ids → (p : Pipe) × (pipe_at g id ≡ Some p)) → IsAmid plan up n st → IsStage plan kept st t →
-      ((x : There) → IsStage plan kept (drops ids st) x → AreAnswered plan (with_there plan s x) (map Unmake behind)) → AreAnswered plan (with_there plan s t) (map Unmake (ids ++ behind))
-  pipes-asked [] behind st t once left named a is then = then t is
-  pipes-asked (id ∷ ids) behind st t once left named a is then = (
-    unmake-fits plan sound id (pipeline-found plan sound id p.0 p.1).low,
-    λ f same staged. own-told plan (with_there plan s t) (Unmake id) (unmake-whole plan sound id) refl f same refl (at_stage plan kept (without_id id st) (without_piece id t.heap))
-        (ap (λ (x : There). told (row (silent_state x) (act_message plan (Unmake id)))) is.is ∙ free-pipe-told plan sound kept st (whole st a) t.heap id here.1 p.0 p.1 (index-free st a p.0.index in_n)),
-    λ f after staged done. unmakes-loose (ids ++ behind) after,
-    λ free.
-        pipes-asked ids behind (without_id id st) (there_after plan (Unmake id) t) once.1 (left-rest id ids st once left) (λ x there. named x (inr there)) (less-amid st id a here.0)
-        (less-stage st t id a here.1 is (free-pipe-is plan sound kept st (whole st a) t.heap id here.1 p.0 p.1 (index-free st a p.0.index in_n))) then,
-  )
-    where
-      here : (of_n id ≡ true) × (st.has id ≡ true)
-      here = left id (inl refl)
-
-      p : (p : Pipe) × (pipe_at g id ≡ Some p)
-      p = named id (inl refl)
-
-      in_n : is_among n p.0.index ≡ true
-      in_n = ap (is_among n) (sym (pipeline-found plan sound id p.0 p.1).is.index) ∙ here.0
-
-  buffers-asked : (ids behind : List ℕ) (st : Stage) (t : There) → AreOnce ids → AreLeft ids st → ((id : ℕ) → IsIn id ids → (e : Edge) × (edge_of g id ≡ Some e)) → ArePipesGone st → IsAmid plan up n st → IsStage plan kept st t →
-      ((x : There) → IsStage plan kept (drops ids st) x → AreAnswered plan (with_there plan s x) (map Unmake behind)) → AreAnswered plan (with_there plan s t) (map Unmake (ids ++ behind))
-  buffers-asked [] behind st t once left named gone a is then = then t is
-  buffers-asked (id ∷ ids) behind st t once left named gone a is then = (
-    unmake-fits plan sound id (buffer-found plan sound id e.0 e.1).low,
-    λ f same staged. own-told plan (with_there plan s t) (Unmake id) (unmake-whole plan sound id) refl f same refl (at_stage plan kept (without_id id st) (without_piece id t.heap))
-        (ap (λ (x : There). told (row (silent_state x) (act_message plan (Unmake id)))) is.is
-        ∙ free-buffer-told plan sound kept st (whole st a) t.heap id here.1 e.0.pipe (edge-index-of plan sound kept st (whole st a) t.heap id here.1 e.0 e.1) no-pipe e.0 e.1 (none-held st a id e.0.pipe (edge-named plan sound up id e.0 e.1) in_n) stay),
-    λ f after staged done. unmakes-loose (ids ++ behind) after,
-    λ free.
-        buffers-asked ids behind (without_id id st) (there_after plan (Unmake id) t) once.1 (left-rest id ids st once left) (λ x there. named x (inr there)) (pipes-still st id gone) next
-        (less-stage st t id a here.1 is (free-buffer-is plan sound kept st (whole st a) t.heap id here.1 e.0.pipe (edge-index-of plan sound kept st (whole st a) t.heap id here.1 e.0 e.1) no-pipe e.0 e.1
-        (none-held st a id e.0.pipe (edge-named plan sound up id e.0 e.1) in_n) stay)) then,
-  )
-    where
-      here : (of_n id ≡ true) × (st.has id ≡ true)
-      here = left id (inl refl)
-
-      e : (e : Edge) × (edge_of g id ≡ Some e)
-      e = named id (inl refl)
-
-      in_n : is_among n e.0.pipe ≡ true
-      in_n = ap (is_among n) (sym (edge-index plan sound id e.0 e.1)) ∙ here.0
-
-      no-pipe : (p : Pipe) → IsIn p g.pipes → p.index ≡ e.0.pipe → st.has p.id ≡ true → ⊥
-      no-pipe p there same has = gone p there (ap (is_among n) same ∙ in_n) has
-
-      next : IsAmid plan up n (without_id id st)
-      next = less-amid st id a here.0
-
-      stay : stays (view_of (silent_state (at_stage plan kept st t.heap))) (without_edge id (stage_graph plan kept st)) ≡ true
-      stay =
-          ap (stays (view_of (silent_state (at_stage plan kept st t.heap)))) (buffer-gone plan sound kept st (whole st a) t.heap id here.1 e.0.pipe (edge-index-of plan sound kept st (whole st a) t.heap id here.1 e.0 e.1) no-pipe e.0 e.1)
-          ∙ ways-stay plan sound kept up serving.held serving.shapes (λ (p : StreamPair). st.has p.0.host) (stage_graph plan kept st) (stage_graph plan kept (without_id id st)) (stage-between plan sound kept up n st a) (stage-between plan sound kept up n (without_id id st) next)
-
-  comps-asked : (ids : List ℕ) (st : Stage) (t : There) → AreOnce ids → AreLeft ids st → ((id : ℕ) → IsIn id ids → (c : Comp) × (comp_of g id ≡ Some c)) → ArePipesGone st → AreUpJoins st → IsAmid plan up n st → IsStage plan kept st t →
-      AreAnswered plan (with_there plan s t) (map Unmake ids)
-  comps-asked [] st t once left named gone joins a is = tt
-  comps-asked (id ∷ ids) st t once left named gone joins a is = (
-    unmake-fits plan sound id (component-found plan sound id c.0 c.1).low,
-    λ f same staged. own-told plan (with_there plan s t) (Unmake id) (unmake-whole plan sound id) refl f same refl (at_stage plan kept (without_id id st) (without_piece id t.heap))
-        (ap (λ (x : There). told (row (silent_state x) (act_message plan (Unmake id)))) is.is
-        ∙ free-comp-told plan sound kept st (whole st a) t.heap id here.1 c.0.pipe (comp-index-of plan sound kept st (whole st a) t.heap id here.1 c.0 c.1) no-pipe c.0 c.1 untouched),
-    λ f after staged done. unmakes-loose ids after,
-    λ free.
-        comps-asked ids (without_id id st) (there_after plan (Unmake id) t) once.1 (left-rest id ids st once left) (λ x there. named x (inr there)) (pipes-still st id gone)
-        (λ j there. joins j (kept-in (λ (i : Join). not (touches id i)) st.joins j there).0) (less-amid st id a here.0)
-        (less-stage st t id a here.1 is (free-comp-is plan sound kept st (whole st a) t.heap id here.1 c.0.pipe (comp-index-of plan sound kept st (whole st a) t.heap id here.1 c.0 c.1) no-pipe c.0 c.1 untouched)),
-  )
-    where
-      here : (of_n id ≡ true) × (st.has id ≡ true)
-      here = left id (inl refl)
-
-      c : (c : Comp) × (comp_of g id ≡ Some c)
-      c = named id (inl refl)
-
-      no-pipe : (p : Pipe) → IsIn p g.pipes → p.index ≡ c.0.pipe → st.has p.id ≡ true → ⊥
-      no-pipe p there same has = gone p there (ap (is_among n) (same ∙ sym (comp-index plan sound id c.0 c.1)) ∙ here.0) has
-
-      untouched : (j : Join) → IsIn j st.joins → touches id j ≡ false
-      untouched j there = up-untouched id here.0 j (whole st a j there) (joins j there)
 
   -- ---- all of what there is
 
@@ -549,26 +471,27 @@ module _ (plan : Plan) (sound : IsSound plan) (s : UpState) (up n : List ℕ) (s
 
     -- ---- all acts
 
-    weaken : (xs : List ℕ) (u : UpState) → Runs plan Any u (map Unmake xs) (λ x. IsStage plan kept st3 x) → Runs plan Any u (map Unmake xs) (λ x. IsStage plan kept (up_stage plan up) x)
-    weaken [] u runs = ends-up-so u.there runs
-    weaken (x ∷ xs) u runs = (tt, runs.1, λ free. weaken xs (with_there plan u (there_after plan (Unmake x) u.there)) (runs.2 free))
+    -- two lists of them, one after another
+    both-lead : (xs ys : List ℕ) (u : UpState) (Mid Last : There → Type 0) → LeadsTo plan Midway u (map Unmake xs) Mid → ((x : There) → Mid x → LeadsTo plan Midway (with_there plan u x) (map Unmake ys) Last) → LeadsTo plan Midway u (map Unmake (xs ++ ys)) Last
+    both-lead xs ys u Mid Last first then = subst (λ (acts : List Act). LeadsTo plan Midway u acts Last) (sym (map-append Unmake xs ys)) (leads-on plan Midway Mid Last u (map Unmake xs) (map Unmake ys) first (unmakes-loose ys) then)
 
-    pub unmakes : Runs plan Any (with_there plan s t) (unmaking_acts plan ids) (λ x. IsStage plan kept (up_stage plan up) x)
-    unmakes =
-        subst (λ (l : List ℕ). Runs plan Any (with_there plan s t) (map Unmake l) (λ x. IsStage plan kept (up_stage plan up) x)) (sym order-is)
-        (weaken (ps ++ (bs ++ cs)) (with_there plan s t)
-        (segments ps (bs ++ cs) (with_there plan s t) (λ x. IsStage plan kept st1 x) (λ x. IsStage plan kept st3 x)
+    unmakes-lead : LeadsTo plan Midway (with_there plan s t) (unmaking_acts plan ids) (λ x. IsStage plan kept (up_stage plan up) x)
+    unmakes-lead =
+        subst (λ (l : List ℕ). LeadsTo plan Midway (with_there plan s t) (map Unmake l) (λ x. IsStage plan kept (up_stage plan up) x)) (sym order-is)
+        (both-lead ps (bs ++ cs) (with_there plan s t) (λ x. IsStage plan kept st1 x) (λ x. IsStage plan kept (up_stage plan up) x)
         (pipes-go ps st t (once-filter (is_among ids) (pipe_ids g) (keys-once (λ (p : Pipe). p.id) g.pipes (Ascends-distinct (λ (p : Pipe). p.id) g.pipes sound.pipes_ascend))) (picked-left (pipe_ids g)) pipe-named a is)
-        (λ x at1. segments bs cs (with_there plan s x) (λ y. IsStage plan kept st2 y) (λ y. IsStage plan kept st3 y)
+        (λ x at1. both-lead bs cs (with_there plan s x) (λ y. IsStage plan kept st2 y) (λ y. IsStage plan kept (up_stage plan up) y)
         (buffers-go bs st1 x (once-filter (is_among ids) (buffers g) (keys-once (λ (e : Edge). e.buffer) g.edges (Ascends-distinct (λ (e : Edge). e.buffer) g.edges sound.edges_ascend))) (still-left ps bs st (picked-left (buffers g)) pipe-no-edge) edge-there gone1 a1 at1)
         (λ y at2. comps-go cs st2 y (once-filter (is_among ids) (components g) (keys-once (λ (c : Comp). c.id) g.comps (Ascends-distinct (λ (c : Comp). c.id) g.comps sound.comps_ascend)))
-        (still-left bs cs st1 (still-left ps cs st (picked-left (components g)) pipe-no-comp) edge-no-comp) comp-there gone2 joins2 a2 at2))))
+        (still-left bs cs st1 (still-left ps cs st (picked-left (components g)) pipe-no-comp) edge-no-comp) comp-there gone2 joins2 a2 at2 (λ z. IsStage plan kept (up_stage plan up) z) ends-up-so)))
+
+    -- before each of them it is midway
+    pub unmakes-amid : Runs plan Midway (with_there plan s t) (unmaking_acts plan ids) (λ x. IsStage plan kept (up_stage plan up) x)
+    unmakes-amid = leads-runs plan Midway Midway (λ x. IsStage plan kept (up_stage plan up) x) (λ x mid. mid) (with_there plan s t) (unmaking_acts plan ids) unmakes-lead
+
+    pub unmakes : Runs plan Any (with_there plan s t) (unmaking_acts plan ids) (λ x. IsStage plan kept (up_stage plan up) x)
+    unmakes = leads-runs plan Midway Any (λ x. IsStage plan kept (up_stage plan up) x) (λ x mid. tt) (with_there plan s t) (unmaking_acts plan ids) unmakes-lead
 
     -- the firmware answers all of it as the rules say
     pub unmakes-answered : AreAnswered plan (with_there plan s t) (unmaking_acts plan ids)
-    unmakes-answered =
-        subst (λ (l : List ℕ). AreAnswered plan (with_there plan s t) (map Unmake l)) (sym order-is)
-        (pipes-asked ps (bs ++ cs) st t (once-filter (is_among ids) (pipe_ids g) (keys-once (λ (p : Pipe). p.id) g.pipes (Ascends-distinct (λ (p : Pipe). p.id) g.pipes sound.pipes_ascend))) (picked-left (pipe_ids g)) pipe-named a is
-        (λ x at1. buffers-asked bs cs st1 x (once-filter (is_among ids) (buffers g) (keys-once (λ (e : Edge). e.buffer) g.edges (Ascends-distinct (λ (e : Edge). e.buffer) g.edges sound.edges_ascend))) (still-left ps bs st (picked-left (buffers g)) pipe-no-edge) edge-there gone1 a1 at1
-        (λ y at2. comps-asked cs st2 y (once-filter (is_among ids) (components g) (keys-once (λ (c : Comp). c.id) g.comps (Ascends-distinct (λ (c : Comp). c.id) g.comps sound.comps_ascend)))
-        (still-left bs cs st1 (still-left ps cs st (picked-left (components g)) pipe-no-comp) edge-no-comp) comp-there gone2 joins2 a2 at2)))
+    unmakes-answered = leads-answered plan Midway (λ x. IsStage plan kept (up_stage plan up) x) (with_there plan s t) (unmaking_acts plan ids) unmakes-lead

@@ -8,7 +8,7 @@ use Rattle.host_widgets.proofs.Walks.{sent-on, sent-room, handed_on}
 use Rattle.host_widgets.specs.UpActs.{widgets_of, making_acts}
 use Rattle.host_widgets.specs.Up.{buffer_joins}
 use Rattle.host_widgets.proofs.NamedIds.{few-widgets}
-use Rattle.host_dynamic.proofs.JoinsFew.{joins-few}
+use Rattle.host_widgets.proofs.FewJoins.{few-joins}
 use Rattle.host_widgets.proofs.GroupsMade.{joins, puts, joins-failed, puts-failed, finished, widgets-failed}
 use Rattle.host_dynamic.proofs.lists.make.Goals as goal
 use Rattle.host_widgets.specs.MadeLists.{MadeListed}
@@ -81,4 +81,4 @@ pub make_widgets_of-requires-clause-widgets : goal.make_widgets_of-requires-clau
 make_widgets_of-requires-clause-widgets g c = few-widgets c.args.plan.now c.requires.plan
 
 pub make_joins-requires-clause-few : goal.make_joins-requires-clause-few
-make_joins-requires-clause-few g c = joins-few c.args.plan.now c.requires.plan
+make_joins-requires-clause-few g c = few-joins c.args.plan.now c.requires.plan

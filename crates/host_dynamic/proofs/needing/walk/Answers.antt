@@ -41,16 +41,12 @@ loop-join-preserved c =
           (let so = c.loop-join.invariant.sound p all in subst (λ (k : ℕ). AllAllowed g back p (set marks k true)) (sym c.far.ensures) (set-allows g back p marks (walk_to back j) so (allow-on g back p j here.0 (so (walk_from back j) from))));
     }
 
-pub returns-clause-size : goal.returns-clause-size
-returns-clause-size c = c.loop-join.invariant.size
-
-pub returns-clause-kept : goal.returns-clause-kept
-returns-clause-kept c = c.loop-join.invariant.kept
-
-pub returns-clause-sound : goal.returns-clause-sound
-returns-clause-sound c = c.loop-join.invariant.sound
-
-pub returns-clause-closed : goal.returns-clause-closed
-returns-clause-closed c =
+pub returns : goal.returns
+returns c =
     let g = c.args.graph.now in let back = c.args.back in let marks = c.loop-join.marks in
-    ap (find (is_unwalked marks back)) (sym c.items.ensures) ∙ sym c.next_join.ensures ∙ ap option_copied c.in_default.is
+    record {
+      size = c.loop-join.invariant.size;
+      kept = c.loop-join.invariant.kept;
+      sound = c.loop-join.invariant.sound;
+      closed = ap (find (is_unwalked marks back)) (sym c.items.ensures) ∙ sym c.next_join.ensures ∙ ap option_copied c.in_default.is;
+    }

@@ -7,7 +7,7 @@ use Rattle.host_widgets.specs.Host.{Outcome}
 use Rattle.host_widgets.specs.HostActs.{Act}
 use Rattle.host_widgets.proofs.Walks.{sent-then, sent-ended, handed_on}
 use Rattle.host_widgets.specs.UpActs.{making_acts}
-use Rattle.host_dynamic.proofs.ListsSent.{turn-sent}
+use Rattle.host_pm.proofs.TurnsCome.{turn-sent}
 use Rattle.host_dynamic.proofs.powering.bring_back.Goals as goal
 use Rattle.host_widgets.proofs.MadeSent.{listed-on, listed-room, listed-sent}
 

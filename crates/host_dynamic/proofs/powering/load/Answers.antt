@@ -11,20 +11,11 @@ use Rattle.host_dynamic.proofs.powering.load.Goals as goal
 pub boot-requires-clause-off : goal.boot-requires-clause-off
 boot-requires-clause-off g c = switched-off g.P.Dsp.means c.args.plan.now c.args.kept.now c.args.up.now c.args.dsp.now c.requires.agree (λ on. cc (sym c.in-Unloaded.is ∙ on))
 
-pub returns-in-Unloaded-clause-done : goal.returns-in-Unloaded-clause-done
-returns-in-Unloaded-clause-done g c =
+pub returns-in-Unloaded : goal.returns-in-Unloaded
+returns-in-Unloaded g c =
     let w = world c.args.dsp.now c.args.io.now c.args.out.now in let v = world c.boot.new.self c.args.io.now c.args.out.now in
-    (loads g.P.Dsp.means c.args.plan.now c.requires.plan c.args.heap c.args.kept.now c.args.up.now w v c.requires.state c.in-Unloaded.is (v, (c.boot.ensures, refl), refl) c.boot.ensures.on c.empty.result c.empty.ensures).tested
-
-pub returns-in-Unloaded-clause-state : goal.returns-in-Unloaded-clause-state
-returns-in-Unloaded-clause-state g c =
-    let w = world c.args.dsp.now c.args.io.now c.args.out.now in let v = world c.boot.new.self c.args.io.now c.args.out.now in
-    (loads g.P.Dsp.means c.args.plan.now c.requires.plan c.args.heap c.args.kept.now c.args.up.now w v c.requires.state c.in-Unloaded.is (v, (c.boot.ensures, refl), refl) c.boot.ensures.on c.empty.result c.empty.ensures).state
-
-pub returns-in-Unloaded-clause-agree : goal.returns-in-Unloaded-clause-agree
-returns-in-Unloaded-clause-agree g c =
-    let w = world c.args.dsp.now c.args.io.now c.args.out.now in let v = world c.boot.new.self c.args.io.now c.args.out.now in
-    (loads g.P.Dsp.means c.args.plan.now c.requires.plan c.args.heap c.args.kept.now c.args.up.now w v c.requires.state c.in-Unloaded.is (v, (c.boot.ensures, refl), refl) c.boot.ensures.on c.empty.result c.empty.ensures).agree
+    let called = loads g.P.Dsp.means c.args.plan.now c.requires.plan c.args.heap c.args.kept.now c.args.up.now w v c.requires.state c.in-Unloaded.is (v, (c.boot.ensures, refl), refl) c.boot.ensures.on c.empty.result c.empty.ensures in
+    record { done = called.tested; state = called.state; agree = called.agree }
 
 pub returns-in-On-clause-done : goal.returns-in-On-clause-done
 returns-in-On-clause-done g c =

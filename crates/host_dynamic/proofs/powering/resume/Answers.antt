@@ -35,47 +35,19 @@ pub bring_back-requires-clause-few : goal.bring_back-requires-clause-few
 bring_back-requires-clause-few g c =
     subst (λ (xs : List ℕ). length (widgets_of c.args.plan.now xs) ≤ 288) (sym c.items.ensures.value) (up-widgets c.args.plan.now c.requires.plan (up_state_in g.P.Dsp.means c.args.kept.now c.args.up.now c.args.dsp.now) c.requires.state)
 
-pub returns-in-Ok-clause-done : goal.returns-in-Ok-clause-done
-returns-in-Ok-clause-done g c =
+pub returns-in-Ok : goal.returns-in-Ok
+returns-in-Ok g c =
     let means = g.P.Dsp.means in let plan = c.args.plan.now in let kept = c.args.kept.now in let up : List ℕ = c.args.up.now in
     let w = world c.args.dsp.now c.args.io.now c.args.out.now in let m0 = world c.boot.new.self c.args.io.now c.args.out.now in let mid = world c.bring_back.new.dsp c.bring_back.new.io c.bring_back.new.out in
     let sent = subst (λ (xs : List ℕ). ActsSent means plan (making_acts plan kept xs ++ flat_map prepare_acts (zip plan.streams kept.streams)) m0 mid c.bring_back.result) c.items.ensures.value c.bring_back.ensures in
-    (resumed-so means plan c.requires.plan c.args.heap kept up w mid c.requires.state c.requires.agree c.in-Off.is m0 mid (m0, (c.boot.ensures, refl), refl) c.boot.ensures.on c.bring_back.result sent c.in-Ok.is).tested
+    let called = resumed-so means plan c.requires.plan c.args.heap kept up w mid c.requires.state c.requires.agree c.in-Off.is m0 mid (m0, (c.boot.ensures, refl), refl) c.boot.ensures.on c.bring_back.result sent c.in-Ok.is in
+    record { done = called.tested; state = called.state; agree = called.agree }
 
-pub returns-in-Ok-clause-state : goal.returns-in-Ok-clause-state
-returns-in-Ok-clause-state g c =
-    let means = g.P.Dsp.means in let plan = c.args.plan.now in let kept = c.args.kept.now in let up : List ℕ = c.args.up.now in
-    let w = world c.args.dsp.now c.args.io.now c.args.out.now in let m0 = world c.boot.new.self c.args.io.now c.args.out.now in let mid = world c.bring_back.new.dsp c.bring_back.new.io c.bring_back.new.out in
-    let sent = subst (λ (xs : List ℕ). ActsSent means plan (making_acts plan kept xs ++ flat_map prepare_acts (zip plan.streams kept.streams)) m0 mid c.bring_back.result) c.items.ensures.value c.bring_back.ensures in
-    (resumed-so means plan c.requires.plan c.args.heap kept up w mid c.requires.state c.requires.agree c.in-Off.is m0 mid (m0, (c.boot.ensures, refl), refl) c.boot.ensures.on c.bring_back.result sent c.in-Ok.is).state
-
-pub returns-in-Ok-clause-agree : goal.returns-in-Ok-clause-agree
-returns-in-Ok-clause-agree g c =
-    let means = g.P.Dsp.means in let plan = c.args.plan.now in let kept = c.args.kept.now in let up : List ℕ = c.args.up.now in
-    let w = world c.args.dsp.now c.args.io.now c.args.out.now in let m0 = world c.boot.new.self c.args.io.now c.args.out.now in let mid = world c.bring_back.new.dsp c.bring_back.new.io c.bring_back.new.out in
-    let sent = subst (λ (xs : List ℕ). ActsSent means plan (making_acts plan kept xs ++ flat_map prepare_acts (zip plan.streams kept.streams)) m0 mid c.bring_back.result) c.items.ensures.value c.bring_back.ensures in
-    (resumed-so means plan c.requires.plan c.args.heap kept up w mid c.requires.state c.requires.agree c.in-Off.is m0 mid (m0, (c.boot.ensures, refl), refl) c.boot.ensures.on c.bring_back.result sent c.in-Ok.is).agree
-
-pub returns-in-Err-clause-done : goal.returns-in-Err-clause-done
-returns-in-Err-clause-done g c =
+pub returns-in-Err : goal.returns-in-Err
+returns-in-Err g c =
     let means = g.P.Dsp.means in let plan = c.args.plan.now in let kept = c.args.kept.now in let up : List ℕ = c.args.up.now in
     let w = world c.args.dsp.now c.args.io.now c.args.out.now in let m0 = world c.boot.new.self c.args.io.now c.args.out.now in let mid = world c.bring_back.new.dsp c.bring_back.new.io c.bring_back.new.out in
     let sent = subst (λ (xs : List ℕ). ActsSent means plan (making_acts plan kept xs ++ flat_map prepare_acts (zip plan.streams kept.streams)) m0 mid c.bring_back.result) c.items.ensures.value c.bring_back.ensures in
     let v = world c.cut.new.self c.bring_back.new.io c.bring_back.new.out in
-    (resumed-not means plan c.requires.plan c.args.heap kept up w mid c.requires.state c.requires.agree c.in-Off.is m0 mid (m0, (c.boot.ensures, refl), refl) c.boot.ensures.on c.bring_back.result sent c.in-Err.fault v c.in-Err.is (v, (c.cut.ensures, refl), refl)).tested
-
-pub returns-in-Err-clause-state : goal.returns-in-Err-clause-state
-returns-in-Err-clause-state g c =
-    let means = g.P.Dsp.means in let plan = c.args.plan.now in let kept = c.args.kept.now in let up : List ℕ = c.args.up.now in
-    let w = world c.args.dsp.now c.args.io.now c.args.out.now in let m0 = world c.boot.new.self c.args.io.now c.args.out.now in let mid = world c.bring_back.new.dsp c.bring_back.new.io c.bring_back.new.out in
-    let sent = subst (λ (xs : List ℕ). ActsSent means plan (making_acts plan kept xs ++ flat_map prepare_acts (zip plan.streams kept.streams)) m0 mid c.bring_back.result) c.items.ensures.value c.bring_back.ensures in
-    let v = world c.cut.new.self c.bring_back.new.io c.bring_back.new.out in
-    (resumed-not means plan c.requires.plan c.args.heap kept up w mid c.requires.state c.requires.agree c.in-Off.is m0 mid (m0, (c.boot.ensures, refl), refl) c.boot.ensures.on c.bring_back.result sent c.in-Err.fault v c.in-Err.is (v, (c.cut.ensures, refl), refl)).state
-
-pub returns-in-Err-clause-agree : goal.returns-in-Err-clause-agree
-returns-in-Err-clause-agree g c =
-    let means = g.P.Dsp.means in let plan = c.args.plan.now in let kept = c.args.kept.now in let up : List ℕ = c.args.up.now in
-    let w = world c.args.dsp.now c.args.io.now c.args.out.now in let m0 = world c.boot.new.self c.args.io.now c.args.out.now in let mid = world c.bring_back.new.dsp c.bring_back.new.io c.bring_back.new.out in
-    let sent = subst (λ (xs : List ℕ). ActsSent means plan (making_acts plan kept xs ++ flat_map prepare_acts (zip plan.streams kept.streams)) m0 mid c.bring_back.result) c.items.ensures.value c.bring_back.ensures in
-    let v = world c.cut.new.self c.bring_back.new.io c.bring_back.new.out in
-    (resumed-not means plan c.requires.plan c.args.heap kept up w mid c.requires.state c.requires.agree c.in-Off.is m0 mid (m0, (c.boot.ensures, refl), refl) c.boot.ensures.on c.bring_back.result sent c.in-Err.fault v c.in-Err.is (v, (c.cut.ensures, refl), refl)).agree
+    let called = resumed-not means plan c.requires.plan c.args.heap kept up w mid c.requires.state c.requires.agree c.in-Off.is m0 mid (m0, (c.boot.ensures, refl), refl) c.boot.ensures.on c.bring_back.result sent c.in-Err.fault v c.in-Err.is (v, (c.cut.ensures, refl), refl) in
+    record { done = called.tested; state = called.state; agree = called.agree }

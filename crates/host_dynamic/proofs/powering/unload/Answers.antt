@@ -16,41 +16,17 @@ returns-in-Unloaded-clause-done g c =
     let plan = c.args.plan.now in let kept = c.args.kept.now in let up : List ℕ = c.args.up.now in let w = world c.args.dsp.now c.args.io.now c.args.out.now in
     (called-early g.P.Dsp.means plan c.args.heap kept up w c.requires.state c.requires.agree (unload_fault kept.power) (unloading_job plan (up_state_in g.P.Dsp.means kept up c.args.dsp.now)) NotLoaded (Err NotLoaded) (ap unload_fault c.in-Unloaded.is) refl).tested
 
-pub returns-in-On-clause-done : goal.returns-in-On-clause-done
-returns-in-On-clause-done g c =
+pub returns-in-On : goal.returns-in-On
+returns-in-On g c =
     let means = g.P.Dsp.means in let w = world c.args.dsp.now c.args.io.now c.args.out.now in let v = world c.cut.new.self c.args.io.now c.args.out.now in
     let cuts = subst (λ (p : Power). Led means w (calls_of c.args.heap (where_on p (Cut ∷ []))) v) (sym c.in-On.is) (v, (c.cut.ensures, refl), refl) in
-    (unloads means c.args.plan.now c.requires.plan c.args.heap c.args.kept.now c.args.up.now w v c.requires.state (ap unload_fault c.in-On.is) cuts c.cut.ensures.on c.forget.new.kept c.forget.ensures c.empty.result c.empty.ensures).tested
+    let called = unloads means c.args.plan.now c.requires.plan c.args.heap c.args.kept.now c.args.up.now w v c.requires.state (ap unload_fault c.in-On.is) cuts c.cut.ensures.on c.forget.new.kept c.forget.ensures c.empty.result c.empty.ensures in
+    record { done = called.tested; state = called.state; agree = called.agree }
 
-pub returns-in-On-clause-state : goal.returns-in-On-clause-state
-returns-in-On-clause-state g c =
-    let means = g.P.Dsp.means in let w = world c.args.dsp.now c.args.io.now c.args.out.now in let v = world c.cut.new.self c.args.io.now c.args.out.now in
-    let cuts = subst (λ (p : Power). Led means w (calls_of c.args.heap (where_on p (Cut ∷ []))) v) (sym c.in-On.is) (v, (c.cut.ensures, refl), refl) in
-    (unloads means c.args.plan.now c.requires.plan c.args.heap c.args.kept.now c.args.up.now w v c.requires.state (ap unload_fault c.in-On.is) cuts c.cut.ensures.on c.forget.new.kept c.forget.ensures c.empty.result c.empty.ensures).state
-
-pub returns-in-On-clause-agree : goal.returns-in-On-clause-agree
-returns-in-On-clause-agree g c =
-    let means = g.P.Dsp.means in let w = world c.args.dsp.now c.args.io.now c.args.out.now in let v = world c.cut.new.self c.args.io.now c.args.out.now in
-    let cuts = subst (λ (p : Power). Led means w (calls_of c.args.heap (where_on p (Cut ∷ []))) v) (sym c.in-On.is) (v, (c.cut.ensures, refl), refl) in
-    (unloads means c.args.plan.now c.requires.plan c.args.heap c.args.kept.now c.args.up.now w v c.requires.state (ap unload_fault c.in-On.is) cuts c.cut.ensures.on c.forget.new.kept c.forget.ensures c.empty.result c.empty.ensures).agree
-
-pub returns-in-Off-clause-done : goal.returns-in-Off-clause-done
-returns-in-Off-clause-done g c =
+pub returns-in-Off : goal.returns-in-Off
+returns-in-Off g c =
     let means = g.P.Dsp.means in let w = world c.args.dsp.now c.args.io.now c.args.out.now in
     let cuts = subst (λ (p : Power). Led means w (calls_of c.args.heap (where_on p (Cut ∷ []))) w) (sym c.in-Off.is) refl in
-    (unloads means c.args.plan.now c.requires.plan c.args.heap c.args.kept.now c.args.up.now w w c.requires.state (ap unload_fault c.in-Off.is) cuts (switched-off means c.args.plan.now c.args.kept.now c.args.up.now c.args.dsp.now c.requires.agree (λ on. cc (sym c.in-Off.is ∙ on)))
-    c.forget-in-Off.new.kept c.forget-in-Off.ensures c.empty-in-Off.result c.empty-in-Off.ensures).tested
-
-pub returns-in-Off-clause-state : goal.returns-in-Off-clause-state
-returns-in-Off-clause-state g c =
-    let means = g.P.Dsp.means in let w = world c.args.dsp.now c.args.io.now c.args.out.now in
-    let cuts = subst (λ (p : Power). Led means w (calls_of c.args.heap (where_on p (Cut ∷ []))) w) (sym c.in-Off.is) refl in
-    (unloads means c.args.plan.now c.requires.plan c.args.heap c.args.kept.now c.args.up.now w w c.requires.state (ap unload_fault c.in-Off.is) cuts (switched-off means c.args.plan.now c.args.kept.now c.args.up.now c.args.dsp.now c.requires.agree (λ on. cc (sym c.in-Off.is ∙ on)))
-    c.forget-in-Off.new.kept c.forget-in-Off.ensures c.empty-in-Off.result c.empty-in-Off.ensures).state
-
-pub returns-in-Off-clause-agree : goal.returns-in-Off-clause-agree
-returns-in-Off-clause-agree g c =
-    let means = g.P.Dsp.means in let w = world c.args.dsp.now c.args.io.now c.args.out.now in
-    let cuts = subst (λ (p : Power). Led means w (calls_of c.args.heap (where_on p (Cut ∷ []))) w) (sym c.in-Off.is) refl in
-    (unloads means c.args.plan.now c.requires.plan c.args.heap c.args.kept.now c.args.up.now w w c.requires.state (ap unload_fault c.in-Off.is) cuts (switched-off means c.args.plan.now c.args.kept.now c.args.up.now c.args.dsp.now c.requires.agree (λ on. cc (sym c.in-Off.is ∙ on)))
-    c.forget-in-Off.new.kept c.forget-in-Off.ensures c.empty-in-Off.result c.empty-in-Off.ensures).agree
+    let called = unloads means c.args.plan.now c.requires.plan c.args.heap c.args.kept.now c.args.up.now w w c.requires.state (ap unload_fault c.in-Off.is) cuts (switched-off means c.args.plan.now c.args.kept.now c.args.up.now c.args.dsp.now c.requires.agree (λ on. cc (sym c.in-Off.is ∙ on)))
+    c.forget-in-Off.new.kept c.forget-in-Off.ensures c.empty-in-Off.result c.empty-in-Off.ensures in
+    record { done = called.tested; state = called.state; agree = called.agree }

@@ -126,12 +126,7 @@ cause_at n = get_or (causes.Byte ∷ causes.Byte ∷ causes.Quote ∷ causes.Wor
 
 cause_back : (cause : Cause) → cause_at (cause_number cause) ≡ cause
 cause_back causes.Byte = refl
-cause_back causes.Quote = refl
-cause_back causes.Word = refl
-cause_back causes.Count = refl
-cause_back causes.Number = refl
-cause_back causes.Hex = refl
-cause_back causes.Name = refl
+cause_back cause = refl
 
 same_cause : (first second : Cause) → cause_number first ≡ cause_number second → first ≡ second
 same_cause first second is = sym (cause_back first) ∙ ap cause_at is ∙ cause_back second

@@ -1,4 +1,4 @@
-use Rattle.std.proofs.Common.{ap, sym, ◌∙◌, Option}
+use Rattle.std.proofs.Common.{ap, ◌∙◌, Option}
 use Rattle.sof_script.specs.declared.words.Word.{Word}
 use Rattle.sof_script.specs.TokenStarts.{texts}
 use Rattle.sof_script.specs.Words.{behind_word}

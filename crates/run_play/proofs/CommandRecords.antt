@@ -52,8 +52,7 @@ use Rattle.sof_session.proofs.CalmDoings.{acts-steady}
 use Rattle.sof_session.proofs.StepCounts.{Calm-between}
 use Rattle.sof_session.proofs.SentOrders.{IsSent, sent-stream}
 use Rattle.sof_session.proofs.ControlCalls.{sent-set, sent-get, sent-read, sent-bytes}
-use Rattle.sof_session.proofs.FewOrders.{few-order, few-most}
-use Rattle.sof_session.proofs.SameNext.{due}
+use Rattle.sof_session.proofs.FewOrders.{due, few-order, few-most}
 use Rattle.run_play.specs.StepCalls.{met_calls, exchange_calls, calls_onwards, acts_calls, routine_calls, calls_by, command_calls}
 use Rattle.run_play.specs.Met.{sent_deeds, act_deeds, walk_deeds, moment_deeds, order_deeds, deeds_by, command_deeds}
 use Rattle.run_play.proofs.DeedRecords.{Leaves, none-leaves, within, retold, append-leaves, boot-leaves, cut-leaves, tick-leaves, ticks-leave, ticks-on, exchange-leaves}

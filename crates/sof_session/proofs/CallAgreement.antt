@@ -26,7 +26,10 @@ use Rattle.sof_session.specs.Agreement.{Powered}
 use Rattle.sof_session.specs.SessionView.{SessionView}
 use Rattle.sof_session.proofs.Agreement.{at, AgreeAtLoad, seat_with, Kept, kept-by, Shows, Here, not-off, kept-here, still-here, agreed-again}
 use Rattle.sof_session.proofs.Keeping.{Keeps-loaded}
-use Rattle.sof_session.proofs.OrderCalls.{carried-led}
+use Rattle.host_widgets.specs.OneAct.{act_rules}
+use Rattle.host_widgets.specs.Routines.{order_job}
+use Rattle.host_widgets.proofs.OrderJobs.{order-done}
+use Rattle.sof_session.proofs.JobPorts.{job-led}
 use Rattle.sof_session.proofs.OrderStands.{sending, cut-off, met, sent-left}
 use Rattle.sof_session.proofs.SentOrders.{IsSent, IsSentCall}
 
@@ -53,7 +56,7 @@ module _ {P : Type 0} (means : Meaning P) (old : SessionView P) (wire : Wire P) 
   still-kept same = kept-by means old wire io io' agreed [] same
 
   order-kept : (o : Procedure) → CarriedSo o → KeptSo
-  order-kept o c = let led = carried-led means old.plan old.heap o old.kept kept (at old.link io) (at wire io') result c in kept-by means old wire io io' agreed led.0 led.1
+  order-kept o c = let led = job-led means (act_rules old.plan old.heap) old.heap (order_job old.plan old.kept o) kept (at old.link io) (at wire io') result (order-done (link means) old.plan old.heap o old.kept kept (at old.link io) (at wire io') result c) in kept-by means old wire io io' agreed led.0 led.1
 
   -- by a test, and an order where none fails
   by-test : (test : Option HostFault) (o : Procedure) → Tested (link means) old.plan old.heap test o old.kept kept (at old.link io) (at wire io') result → (test ≡ None → CarriedSo o → Found) → AgreeAtLoad means new

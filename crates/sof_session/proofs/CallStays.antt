@@ -1,15 +1,23 @@
 -- What each call of a session on its link leaves as it was.
-use Rattle.std.proofs.Common.{◌≡◌, refl, ap, ℕ, Bool, List, Option, None}
+use Rattle.std.proofs.Common.{◌≡◌, refl, sym, ap, subst, ℕ, Bool, List, Option, Some, None}
 use Rattle.sof_base.specs.Ports.{Io}
-use Rattle.mbox_link.specs.Calls.{Meaning}
+use Rattle.mbox_link.specs.Calls.{World, Meaning}
 use Rattle.mbox_link.specs.Link.{link}
 use Rattle.mbox_link.specs.Wire.{Wire}
 use Rattle.host_widgets.specs.declared.answers.HostFault.{HostFault}
+use Rattle.host_widgets.specs.declared.answers.Answer.{Answer}
+use Rattle.host_widgets.specs.declared.kept.Power.{Power}
+use Rattle.host_widgets.specs.declared.kept.Power.TheVariants.{On}
 use Rattle.host_widgets.specs.declared.kept.Record.{Record}
+use Rattle.host_widgets.specs.HostActs.{Act}
+use Rattle.host_widgets.specs.OneAct.{act_rules}
+use Rattle.host_widgets.specs.Routines.{JobDone, order_job}
+use Rattle.host_widgets.proofs.OrderJobs.{order-done}
+use Rattle.host_widgets.proofs.StandingOn.{AllStill}
 use Rattle.host_widgets.specs.Host.{Outcome, Agrees}
 use Rattle.host_widgets.specs.Bringing.{BroughtUp}
 use Rattle.host_widgets.specs.Kept.{first_record}
-use Rattle.host_widgets.specs.Orders.{Procedure, fault_of_load, loading, resuming, suspending, unload_fault, unloading}
+use Rattle.host_widgets.specs.Orders.{Procedure, fault_of_load, loading, resuming, sends, suspending, unload_fault, unloading}
 use Rattle.host_widgets.specs.TestedOrders.{Tested}
 use Rattle.host_pm.specs.PowerTests.{suspend_fault, resume_fault}
 use Rattle.host_pm.specs.Resumed.{ResumeLeft}
@@ -18,9 +26,9 @@ use Rattle.sof_session.specs.SessionView.{SessionView}
 use Rattle.sof_session.specs.SessionCalls.{Stays}
 use Rattle.sof_session.proofs.Agreement.{at, AgreeAtLoad, at-load, from-load, seat_with}
 use Rattle.sof_session.proofs.CallAgreement.{AgreeAtLoad-loaded, AgreeAtLoad-unloaded, AgreeAtLoad-suspended, AgreeAtLoad-resumed, AgreeAtLoad-sent}
-use Rattle.sof_session.proofs.PowerSteps.{suspend-io, suspend-ends}
+use Rattle.sof_session.proofs.JobPorts.{IsStillJob, job-io, job-ends}
 use Rattle.sof_session.proofs.SentOrders.{IsSentCall}
-use Rattle.sof_session.proofs.SentStays.{sent-io, sent-ends}
+use Rattle.sof_session.proofs.UpPasses.{order-ends}
 use Rattle.sof_session.proofs.Writings.{bound_ends}
 
 module _ {P : Type 0} (means : Meaning P) (old : SessionView P) (wire : Wire P) (io io' : Io) (are : AreAgreed means old) (none : old.up ≡ None) (kept : Record) (agree : Agrees (link means) old.plan kept wire) (result : Outcome) where
@@ -64,12 +72,40 @@ module _ {P : Type 0} (means : Meaning P) (old : SessionView P) (wire : Wire P) 
 
   -- ---- calls before whose messages ticks may come
 
+  -- by its test and its order, whose first moments are no ticks
+  module _ (test : Option HostFault) (o : Procedure) (tested : TestedSo test o) (first : test ≡ None → AllStill o.first) where
+    -- its job, where no test fails
+    still : test ≡ None → IsStillJob (link means) (act_rules old.plan old.heap) old.heap (order_job old.plan old.kept o)
+    still none = record { first = first none; ends = order-ends old.plan old.kept o }
+
+    done : test ≡ None → JobDone (link means) (act_rules old.plan old.heap) old.heap (order_job old.plan old.kept o) kept (at old.link io) (at wire io') result
+    done none = order-done (link means) old.plan old.heap o old.kept kept (at old.link io) (at wire io') result (tested.late none)
+
+    io-same : (link means).pending old.link ≡ 0 → io' ≡ io
+    io-same quiet = by test refl
+      where
+        by : (t : Option HostFault) → test ≡ t → io' ≡ io
+        by (Some fault) is = ap (λ (x : World (Wire P)). x.io) (tested.early fault is).1
+        by None is = job-io (link means) (act_rules old.plan old.heap) old.heap (order_job old.plan old.kept o) kept (at old.link io) (at wire io') result (still is) (done is) quiet
+
+    ends-same : bound_ends io' ≡ bound_ends io
+    ends-same = by test refl
+      where
+        by : (t : Option HostFault) → test ≡ t → bound_ends io' ≡ bound_ends io
+        by (Some fault) is = ap (λ (x : World (Wire P)). bound_ends x.io) (tested.early fault is).1
+        by None is = job-ends (link means) (act_rules old.plan old.heap) old.heap (order_job old.plan old.kept o) kept (at old.link io) (at wire io') result (still is) (done is)
+
   pub suspend-stays : TestedSo (suspend_fault old.kept.power) (suspending old.plan old.kept) → StaysSo
   suspend-stays tested = stays-by (AgreeAtLoad-suspended means old wire io io' agreed kept agree result tested)
-      (suspend-ends means old wire io io' agreed kept result tested)
-      (suspend-io means old wire io io' agreed kept result tested)
+      (ends-same (suspend_fault old.kept.power) (suspending old.plan old.kept) tested (λ passes. tt))
+      (io-same (suspend_fault old.kept.power) (suspending old.plan old.kept) tested (λ passes. tt))
+
+  -- of one that sends acts alone none is
+  sends-still : (power : Power) (acts : List Act) (done : Record → Record) (answer : Answer) → AllStill (sends power acts done answer).first
+  sends-still On acts done answer = tt
+  sends-still power acts done answer = tt
 
   pub sent-stays : {test : Option HostFault} {o : Procedure} → IsSentCall old.plan old.kept test o → TestedSo test o → StaysSo
-  sent-stays {test} {o} call tested = stays-by (AgreeAtLoad-sent means old wire io io' agreed kept agree result test o call tested)
-      (sent-ends means old wire io io' agreed kept agree result test o call.sent tested)
-      (sent-io means old wire io io' agreed kept agree result test o call.sent tested)
+  sent-stays {test} {o} call tested =
+      let first : test ≡ None → AllStill o.first = λ passes. (let s = call.sent passes in subst (λ (x : Procedure). AllStill x.first) (sym s.is) (sends-still old.kept.power s.acts s.done s.answer)) in
+      stays-by (AgreeAtLoad-sent means old wire io io' agreed kept agree result test o call tested) (ends-same test o tested first) (io-same test o tested first)

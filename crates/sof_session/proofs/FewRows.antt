@@ -1,8 +1,8 @@
 -- Rows that are done leave periods and parameters in range, where those of their messages are.
-use Rattle.std.proofs.Common.{◌≡◌, refl, ℕ, ◌≤◌, ◌%◌, not, Bool, true, false, ◌&&◌, ◌||◌, cond, ◌==◌, List, [], ◌∷◌, map, filter, length, Option, Some, None, Result, Ok, Err, ℤ, is_some}
-use Rattle.std.specs.Prelude.{nat_le, nat_lt, find, option_and_then}
+use Rattle.std.proofs.Common.{◌≡◌, refl, ℕ, ◌≤◌, ◌%◌, not, Bool, true, false, ◌&&◌, ◌||◌, cond, ◌==◌, List, [], ◌∷◌, map, length, Option, Some, None, Result, Ok, Err, ℤ, is_some}
+use Rattle.std.specs.Prelude.{nat_le, find, option_and_then}
 use Rattle.std.specs.List.{AllByRecursion, list_any}
-use Rattle.std.proofs.lemmas.Bool.{and_parts, or_parts, leb-true, true≢false}
+use Rattle.std.proofs.lemmas.Bool.{and_parts, or_parts, leb-true, not-false}
 use Rattle.sof_base.specs.BlobFaults.{is_blob}
 use Rattle.sof_base.specs.declared.format.Params.{Params}
 use Rattle.sof_base.specs.declared.part.Part.{Part}
@@ -16,7 +16,6 @@ use Rattle.stream_law.specs.declared.graph.Setting.{Setting}
 use Rattle.stream_law.specs.declared.stream.Phase.{Phase}
 use Rattle.stream_law.specs.declared.stream.Phase.TheVariants as phases
 use Rattle.stream_law.specs.declared.stream.StreamView.{StreamView}
-use Rattle.stream_law.specs.Placed.{placed}
 use Rattle.stream_law.specs.State.{FwState, view_of}
 use Rattle.stream_law.specs.Joins.{crosses, stays, with_join}
 use Rattle.stream_law.specs.Ways.{comp_of, is_of, is_live_phase, is_running_phase, agree}
@@ -27,24 +26,9 @@ use Rattle.ipc3_model.specs.Meanings.{IsAllowed}
 use Rattle.mbox_link.specs.Step.{no_memory, busy, no_device, invalid, has_comp, has_edge, is_used, has_index, kind_at, has_kind, comp_bytes, buffer_bytes, pipe_bytes, has_hole, is_complete, kind_of, first_setting, first_ramp, with_host_stream, with_comp, with_buffer, with_pipe, with_pipes, is_joined, is_refused_join, completed, complete_pipe, has_complete_pipe, touches, without_comp, is_held, without_edge, without_buffer, is_index_held, without_pipe, free_pipe, new_setting, with_setting_at, value_set, control_values_at, staging_at, keeps_order, staged_bytes, with_staged, blob_installed, part_staged, part_at, is_host, goes, is_way_ready, is_rate, phase_at, set_stream, with_params, is_stream_phase, is_refused_params, set_phase, is_prepared, is_paused, stream_changed, row}
 use Rattle.host_widgets.specs.There.{There, there_in, row_left, silent_state}
 use Rattle.sof_session.proofs.CommandMoves.{AreFew}
+use Rattle.host_widgets.proofs.Sublists.{all-filter, all-placed}
 
 -- ---- lists
-
-all-placed : {X : Type 0} (P : X → Type 0) (key : X → ℕ) (x : X) (xs : List X) → P x → AllByRecursion P xs → AllByRecursion P (placed key x xs)
-all-placed P key x [] here all = (here, tt)
-all-placed {X} P key x (y ∷ ys) here all = by (nat_lt (key x) (key y)) (all-placed P key x ys here all.1)
-  where
-    by : (b : Bool) → AllByRecursion P (placed key x ys) → AllByRecursion P (cond b (x ∷ y ∷ ys) (y ∷ placed key x ys))
-    by true rest = (here, all)
-    by false rest = (all.0, rest)
-
-pub all-left : {X : Type 0} (P : X → Type 0) (p : X → Bool) (xs : List X) → AllByRecursion P xs → AllByRecursion P (filter p xs)
-all-left P p [] all = tt
-all-left {X} P p (x ∷ xs) all = by (p x) (all-left P p xs all.1)
-  where
-    by : (b : Bool) → AllByRecursion P (filter p xs) → AllByRecursion P (cond b (x ∷ filter p xs) (filter p xs))
-    by true rest = (all.0, rest)
-    by false rest = rest
 
 all-changed : {X : Type 0} (P : X → Type 0) (f : X → X) → ((x : X) → P x → P (f x)) → (xs : List X) → AllByRecursion P xs → AllByRecursion P (map f xs)
 all-changed P f each [] all = tt
@@ -70,10 +54,6 @@ IsFewMessage (messages.PcmParams host direction params) = params.channels ≤ 8
 IsFewMessage m = Unit {0}
 
 -- ---- rows
-
-not-false : (b : Bool) → not b ≡ false → b ≡ true
-not-false true is = refl
-not-false false is = absurd (true≢false is)
 
 abbrev IsFine : Result FwState ℤ → Type 0
 IsFine (Ok g) = AreFewThere (there_in g)
@@ -140,7 +120,7 @@ module _ (f : FwState) (few : AreFewThere (there_in f)) where
   free-fine : (id : ℕ) (o : Option Pipe) → Fine (free_pipe f id o)
   free-fine id None = refused invalid
   free-fine id (Some p) =
-      test (is_index_held g f.streams p.index) _ _ (refused invalid) (left (without_pipe id f) (all-left HasFewPeriod (λ (q : Pipe). not (q.id == id)) f.graph.pipes few.pipes) few.streams)
+      test (is_index_held g f.streams p.index) _ _ (refused invalid) (left (without_pipe id f) (all-filter HasFewPeriod (λ (q : Pipe). not (q.id == id)) f.graph.pipes few.pipes) few.streams)
 
   value-fine : (id : ℕ) (o : Option Setting) → Fine (value_set f id o)
   value-fine id None = refused invalid
@@ -184,7 +164,7 @@ module _ (f : FwState) (few : AreFewThere (there_in f)) where
       test (not (is_used g id)) _ _ (refused no_device)
       (test (has_complete_pipe g id) _ _ (refused busy)
       (test (not (has_comp g id) || list_any (touches id) g.joins) _ _ (refused invalid)
-      (left (without_comp id f) few.pipes (all-left HasFewParams (λ (s : StreamView). not (s.host == id)) f.streams few.streams))))
+      (left (without_comp id f) few.pipes (all-filter HasFewParams (λ (s : StreamView). not (s.host == id)) f.streams few.streams))))
   fine-row (messages.BufferNew id pipe size caps) is =
       test (is_used g id || is_complete g pipe) _ _ (refused busy)
       (test (nat_le 128 (length g.edges) || not (has_hole f (buffer_bytes size))) _ _ (refused no_memory) (left (with_buffer id pipe size f) few.pipes few.streams))

@@ -1,5 +1,5 @@
 -- How far moments move an input: each tick by at most 61440 bytes, where periods, frames a second and samples a frame are in range.
-use Rattle.std.proofs.Common.{◌≡◌, refl, sym, ap, ◌∙◌, subst, ℕ, zero, suc, ◌+◌, ◌*◌, ◌≤◌, List, [], ◌∷◌, ◌++◌, replicate, Bool, true, false, cond, arith}
+use Rattle.std.proofs.Common.{◌≡◌, refl, sym, ap, ◌∙◌, subst, ℕ, ◌+◌, ◌*◌, ◌≤◌, List, [], ◌∷◌, Bool, true, false, cond, arith}
 use Rattle.std.proofs.Math.Nat.{mul-le-mul_right}
 use Rattle.sof_base.specs.declared.format.Format.{Format}
 use Rattle.sof_base.specs.declared.format.Format.TheVariants.{S16}
@@ -14,6 +14,7 @@ use Rattle.stream_law.specs.Endpoints.{format_of, reads, bytes_of_frames}
 use Rattle.stream_law.specs.Past.{Moment, Boot, Cut, Now, Tick, Past, Ticks, Leads, empty_view, position_after}
 use Rattle.stream_law.proofs.Among.{value_of-table_among, value_of-table_apart, value_of-updated_among, value_of-updated_apart}
 use Rattle.stream_law.proofs.Quotas.{quota-few}
+use Rattle.sof_session.proofs.SeenMoments.{AllSeen, ticks_in}
 
 -- ---- a view in range
 
@@ -102,40 +103,7 @@ module _ (whole : List (ℕ × List ℕ)) (slot : ℕ) where
 
 -- every view that comes is in range
 abbrev pub AllInRange : List Moment → Type 0
-AllInRange [] = Unit {0}
-AllInRange (Boot ∷ ms) = AllInRange ms
-AllInRange (Cut ∷ ms) = AllInRange ms
-AllInRange (Now view fresh ∷ ms) = IsInRange view × AllInRange ms
-AllInRange (Tick ∷ ms) = AllInRange ms
-
-abbrev pub ticks_in : List Moment → ℕ
-ticks_in [] = 0
-ticks_in (Boot ∷ ms) = ticks_in ms
-ticks_in (Cut ∷ ms) = ticks_in ms
-ticks_in (Now view fresh ∷ ms) = ticks_in ms
-ticks_in (Tick ∷ ms) = suc (ticks_in ms)
-
-pub all-append : (ms ns : List Moment) → AllInRange ms → AllInRange ns → AllInRange (ms ++ ns)
-all-append [] ns first rest = rest
-all-append (Boot ∷ ms) ns first rest = all-append ms ns first rest
-all-append (Cut ∷ ms) ns first rest = all-append ms ns first rest
-all-append (Now view fresh ∷ ms) ns first rest = (first.0, all-append ms ns first.1 rest)
-all-append (Tick ∷ ms) ns first rest = all-append ms ns first rest
-
-pub ticks-append : (ms ns : List Moment) → ticks_in (ms ++ ns) ≡ ticks_in ms + ticks_in ns
-ticks-append [] ns = omega arith
-ticks-append (Boot ∷ ms) ns = ticks-append ms ns
-ticks-append (Cut ∷ ms) ns = ticks-append ms ns
-ticks-append (Now view fresh ∷ ms) ns = ticks-append ms ns
-ticks-append (Tick ∷ ms) ns = omega (arith, ticks-append ms ns)
-
-pub lag-in-range : (n : ℕ) → AllInRange (replicate n Tick)
-lag-in-range zero = tt
-lag-in-range (suc n) = lag-in-range n
-
-pub lag-ticks : (n : ℕ) → ticks_in (replicate n Tick) ≡ n
-lag-ticks zero = refl
-lag-ticks (suc n) = ap suc (lag-ticks n)
+AllInRange ms = AllSeen IsInRange ms
 
 module _ (whole : List (ℕ × List ℕ)) (slot : ℕ) where
   -- how far a moment moves an input, and that the view stays in range

@@ -1,6 +1,6 @@
 -- What a job's calls leave of the endpoints, by any rules: where no tick is pending their bytes, and else their slots, and which inputs
 -- have ended; the inputs move by the ticks that were pending.
-use Rattle.std.proofs.Common.{◌≡◌, ap, ◌∙◌, ℕ, ◌+◌, ◌*◌, ◌-◌, ◌≤◌, Bool, true, false, List, [], ◌∷◌, ◌++◌, arith}
+use Rattle.std.proofs.Common.{◌≡◌, sym, ap, ◌∙◌, subst, ℕ, ◌+◌, ◌*◌, ◌-◌, ◌≤◌, Bool, true, false, List, [], ◌∷◌, ◌++◌, inl, inr, arith}
 use Rattle.stream_law.specs.Past as past
 use Rattle.stream_law.specs.Past.{Moment}
 use Rattle.sof_base.specs.Ports.{Io}
@@ -20,6 +20,7 @@ use Rattle.host_widgets.proofs.Exchanges.{state_of}
 use Rattle.host_widgets.proofs.StandingOn.{AllStill}
 use Rattle.sof_session.proofs.ActsLed.{acts-io, acts-ends}
 use Rattle.sof_session.proofs.JobCalm.{routine-led}
+use Rattle.sof_session.proofs.RoutinePasses.{EndsSo, EndsWell}
 use Rattle.sof_session.proofs.StepMoves.{HasSent, sent-then, acts-sent}
 use Rattle.sof_session.proofs.Writings.{bound_ends}
 
@@ -67,27 +68,28 @@ module _ {D S A : Type 0} (means : Meaning D) (rules : ActRules S A) (heap : ℕ
 
   -- ---- a routine without a tick of its own
 
-  abbrev pub EndsStill : Routine S A → Type 0
-  EndsStill (Finished kept moments) = AllStill moments
-  EndsStill (Sending acts goes_on then) = (now : S) (o : Outcome) → EndsStill (then now o)
+  -- no last moment is a tick
+  still-last : (moments : List Moment) → EndsSo moments → AllStill moments
+  still-last moments (inl is) = subst AllStill (sym is) tt
+  still-last moments (inr is) = subst AllStill (sym is) tt
 
-  routine-still : (routine : Routine S A) (kept : S) (ms : List Meeting) (w v : World D) → EndsStill routine → RoutineDid means rules heap kept routine ms w v → means.pending w.device ≡ 0 → v.io ≡ w.io
-  routine-still (Finished end moments) kept ms w v still did none = (led-still moments still w v did.1).io
+  routine-still : (routine : Routine S A) (kept : S) (ms : List Meeting) (w v : World D) → EndsWell routine → RoutineDid means rules heap kept routine ms w v → means.pending w.device ≡ 0 → v.io ≡ w.io
+  routine-still (Finished end moments) kept ms w v still did none = (led-still moments (still-last moments still.0) w v did.1).io
   routine-still (Sending acts goes_on then) kept ms w v still (early, late, mid, split, acts_did, rest_did) none =
       let now : Walked S A (List Meeting) = walk rules goes_on next_of kept early acts in
       let fewer = acts-pending goes_on acts early kept w mid acts_did in
-      routine-still (then now.kept now.outcome) now.kept late mid v (still now.kept now.outcome) rest_did (omega (arith, fewer, none)) ∙ acts-still goes_on acts early kept w mid acts_did none
+      routine-still (then now.kept now.outcome) now.kept late mid v (still.1 now.kept now.outcome tt) rest_did (omega (arith, fewer, none)) ∙ acts-still goes_on acts early kept w mid acts_did none
 
-  routine-bound : (routine : Routine S A) (kept : S) (ms : List Meeting) (w v : World D) → EndsStill routine → RoutineDid means rules heap kept routine ms w v → bound_ends v.io ≡ bound_ends w.io
-  routine-bound (Finished end moments) kept ms w v still did = ap bound_ends (led-still moments still w v did.1).io
+  routine-bound : (routine : Routine S A) (kept : S) (ms : List Meeting) (w v : World D) → EndsWell routine → RoutineDid means rules heap kept routine ms w v → bound_ends v.io ≡ bound_ends w.io
+  routine-bound (Finished end moments) kept ms w v still did = ap bound_ends (led-still moments (still-last moments still.0) w v did.1).io
   routine-bound (Sending acts goes_on then) kept ms w v still (early, late, mid, split, acts_did, rest_did) =
       let now : Walked S A (List Meeting) = walk rules goes_on next_of kept early acts in
-      routine-bound (then now.kept now.outcome) now.kept late mid v (still now.kept now.outcome) rest_did ∙ acts-bound goes_on acts early kept w mid acts_did
+      routine-bound (then now.kept now.outcome) now.kept late mid v (still.1 now.kept now.outcome tt) rest_did ∙ acts-bound goes_on acts early kept w mid acts_did
 
   -- a job, none of whose first and last moments is a tick
   pub record IsStillJob (job : Job S A) : Type 0 where
     pub first : AllStill job.first
-    pub ends : EndsStill job.routine
+    pub ends : EndsWell job.routine
 
   pub job-io : (job : Job S A) (kept' : S) (w v : World D) (result : Outcome) → IsStillJob job → JobDone means rules heap job kept' w v result → means.pending w.device ≡ 0 → v.io ≡ w.io
   job-io job kept' w v result still j none =
@@ -106,11 +108,11 @@ module _ {D S A : Type 0} (means : Meaning D) (rules : ActRules S A) (heap : ℕ
     moves = λ slot. let at = ap (λ (x : Io). position_of x.inputs slot) same.io in omega (arith, at);
   }
 
-  routine-sent : (routine : Routine S A) (kept : S) (ms : List Meeting) (w v : World D) → EndsStill routine → RoutineDid means rules heap kept routine ms w v → HasSent means w v
-  routine-sent (Finished end moments) kept ms w v still did = still-sent w v (led-still moments still w v did.1)
+  routine-sent : (routine : Routine S A) (kept : S) (ms : List Meeting) (w v : World D) → EndsWell routine → RoutineDid means rules heap kept routine ms w v → HasSent means w v
+  routine-sent (Finished end moments) kept ms w v still did = still-sent w v (led-still moments (still-last moments still.0) w v did.1)
   routine-sent (Sending acts goes_on then) kept ms w v still (early, late, mid, split, acts_did, rest_did) =
       let now : Walked S A (List Meeting) = walk rules goes_on next_of kept early acts in
-      sent-then means w mid v (acts-sent means rules goes_on kept acts early w mid acts_did) (routine-sent (then now.kept now.outcome) now.kept late mid v (still now.kept now.outcome) rest_did)
+      sent-then means w mid v (acts-sent means rules goes_on kept acts early w mid acts_did) (routine-sent (then now.kept now.outcome) now.kept late mid v (still.1 now.kept now.outcome tt) rest_did)
 
   -- by the ticks that were pending
   pub job-moves : (job : Job S A) (kept' : S) (w v : World D) (result : Outcome) → IsStillJob job → JobDone means rules heap job kept' w v result → means.pending w.device ≤ 16 → MovesBy 983040 w.io.inputs v.io.inputs

@@ -8,7 +8,11 @@ pub mod Agreement
 pub mod Keeping
 pub mod Writings
 pub mod SameDoings
-pub mod SameNext
+pub mod SeenMoments
+pub mod RoutinePasses
+pub mod OrderFirsts
+pub mod OrderActs
+pub mod UpPasses
 pub mod RankedRuns
 pub mod OneRun
 pub mod RunBoots
@@ -36,6 +40,7 @@ pub mod Carrying
 pub mod JobCalm
 pub mod JobWalks
 pub mod OrderStands
+mod CallsRan
 pub mod Stepping
 pub mod JobSteps
 pub mod FewMeetings
@@ -57,7 +62,6 @@ pub mod StillOrders
 pub mod SentSteps
 pub mod ControlCalls
 pub mod ActsLed
-pub mod OrderCalls
 pub mod CallAgreement
 pub mod UpRings
 pub mod UpAgreement
@@ -65,11 +69,10 @@ pub mod ModeSteps
 pub mod TickAgreement
 pub mod PlanAgreement
 pub mod StepCommands
-pub mod SentStays
 pub mod CallStays
 pub mod StepDone
+mod ModeCalls
 pub mod JobPorts
-pub mod RoutineEnds
 pub mod StillJobs
 pub mod UpStays
 pub mod LiveViews
@@ -79,7 +82,6 @@ pub mod RowStands
 pub mod UpStageRows
 pub mod UpStands
 pub mod UpStandsWalks
-pub mod UpUnmakeStages
 pub mod UpStandsLists
 pub mod UpStandsJobs
 pub mod UpStandsStreams

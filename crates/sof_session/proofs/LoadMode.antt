@@ -1,5 +1,5 @@
 -- The mode in which all pipelines are made at a load keeps what written runs ask of a mode.
-use Rattle.std.proofs.Common.{◌≡◌, refl, subst, ℕ, List, Option, Some, None, true, false, arith}
+use Rattle.std.proofs.Common.{◌≡◌, refl, subst, ℕ, List, Option, Some, None, false, arith}
 use Rattle.std.specs.Prelude.{is_some}
 use Rattle.std.proofs.lemmas.Bool.{true≢false}
 use Rattle.mbox_link.specs.Calls.{World, Meaning}
@@ -14,18 +14,20 @@ use Rattle.host_widgets.proofs.Records.{closed-record}
 use Rattle.sof_script.specs.declared.script.Command.{Command}
 use Rattle.sof_script.specs.declared.script.Command.TheVariants as commands
 use Rattle.sof_session.specs.CommandRanges.{most_sent}
+use Rattle.sof_session.specs.Commands.{command_rules, order_of}
 use Rattle.sof_session.specs.Modes.{made_at_load, IsInMode, CommandDoneIn, DoneWith, SteppedBy, shown_in}
 use Rattle.sof_session.specs.SessionView.{SessionView}
 use Rattle.sof_session.specs.Show.{shown_by}
 use Rattle.sof_session.proofs.CommandMoves.{next-paced}
-use Rattle.sof_session.proofs.FewOrders.{few-order, few-most}
+use Rattle.sof_session.proofs.FewOrders.{order-within, few-most}
 use Rattle.sof_session.proofs.ModeLaws.{ModeLaws}
-use Rattle.sof_session.proofs.SameNext.{next-within, next-same}
-use Rattle.sof_session.proofs.StepCounts.{step-inside, step-boots}
+use Rattle.sof_session.proofs.RoutineBoots.{inside-by, boots-by}
+use Rattle.sof_session.proofs.RoutineNumbers.{within-by, same-by}
+use Rattle.sof_session.proofs.UpPasses.{order-ends}
 
 -- what such a session shows
 pub load-shows : (command : Command) (plan : Plan) (kept : Record) → shown_in command None plan kept ≡ shown_by command plan kept
-load-shows commands.Load plan kept = refl
+load-shows commands.Show plan kept = refl
 load-shows command plan kept = refl
 
 module _ {P : Type 0} (means : Meaning P) where
@@ -57,12 +59,9 @@ module _ {P : Type 0} (means : Meaning P) where
     sees_first = λ p off. refl;
     stepped = load-stepped;
     shows = shows;
-    within = λ known doing command is few.
-        (let due = few-order plan sound command known.kept is in
-        let w = next-within plan heap known doing command (omega (arith, due, few)) in
-        (w.0, omega (arith, due, w.1)));
-    same = λ known d e command is few alike. (let due = few-order plan sound command known.kept is in next-same plan heap known d e command (omega (arith, due, few)) alike);
-    inside = λ kept kept' w v answer command doing calls. step-inside means plan heap kept kept' w v answer command doing calls;
-    boots = λ kept kept' w v answer command doing calls. step-boots means plan heap kept kept' w v answer command doing calls;
+    within = λ known doing command is few. within-by (command_rules plan heap) known doing (most_sent command) command (λ plans none. order-within plan sound command known.kept is none) few;
+    same = λ known d e command is few alike. same-by (command_rules plan heap) known d e (most_sent command) command (λ plans none. order-within plan sound command known.kept is none) few alike;
+    inside = λ kept kept' w v answer command doing calls. inside-by means (command_rules plan heap) heap kept kept' w v answer command doing calls;
+    boots = λ kept kept' w v answer command doing calls. boots-by means (command_rules plan heap) heap kept kept' w v answer command doing calls (order-ends plan kept (order_of plan kept command));
     paced = λ known doing command is few. next-paced plan sound heap doing known is few command;
   }

@@ -22,6 +22,7 @@ use Rattle.host_widgets.specs.OneAct.{act_rules}
 use Rattle.host_widgets.specs.ActCalls.{calls_of, next_of}
 use Rattle.host_widgets.specs.StateOf.{loaded_state}
 use Rattle.host_widgets.specs.ViewOf.{record_view}
+use Rattle.host_widgets.proofs.OrderJobs.{order-done}
 use Rattle.host_widgets.specs.Host.{Outcome, Sides}
 use Rattle.host_widgets.specs.Bringing.{BroughtUp, ticks_put}
 use Rattle.host_widgets.specs.Walk.{Walked, walk}
@@ -35,13 +36,14 @@ use Rattle.sof_script.specs.declared.script.Command.TheVariants as commands
 use Rattle.sof_session.specs.Commands.{answer_by, command_rules}
 use Rattle.sof_session.specs.SessionView.{SessionView}
 use Rattle.sof_session.specs.SessionStep.{CommandDone}
-use Rattle.sof_session.specs.SessionCalls.{LoadRan}
+use Rattle.sof_session.proofs.CallsRan.{LoadRan}
 use Rattle.sof_session.proofs.Agreement.{at, AgreeAtLoad}
 use Rattle.sof_session.proofs.BuildStands.{AtRest, rest_view, rest-quiet, loaded-rests, brought-stands, brought-reads}
 use Rattle.sof_session.proofs.FewMeetings.{few-meetings}
 use Rattle.sof_session.proofs.OrderStands.{moments-are, cut-leads}
 use Rattle.sof_session.proofs.OrderStands as after_order
-use Rattle.sof_session.proofs.Stepping.{early-stepped, late-stepped, standing-by}
+use Rattle.sof_session.proofs.JobSteps.{early-done, late-done}
+use Rattle.sof_session.proofs.Stepping.{standing-by}
 
 -- nothing was loaded
 was-unloaded : (power : Power) → fault_of_load power ≡ None → power ≡ Unloaded
@@ -133,10 +135,10 @@ module _ {P : Type 0} (means : Meaning P) (old new : SessionView P) (io io' : Io
       by : (test : Option HostFault) → fault_of_load old.kept.power ≡ test → CommandDone means (command_rules old.plan old.heap) old.heap commands.Load old.kept new.kept w v answer
       by (Some fault) is =
           let e = ran.call.tested.early fault is in
-          early-stepped means old.plan old.heap commands.Load old.kept new.kept w v answer (λ doing known. refl) refl fault is (ran.call.said ∙ ap (answer_by Done) e.0) e.1 e.2 empty
+          early-done means (command_rules old.plan old.heap) old.heap commands.Load old.kept new.kept w v answer (λ doing. refl) refl fault is (ran.call.said ∙ ap (answer_by Done) e.0) e.1 e.2 empty
       by None is =
           let c = ran.call.tested.late is in
           let unloaded = was-unloaded old.kept.power is in
-          late-stepped means old.plan old.heap commands.Load old.kept new.kept w v answer (λ doing known. refl) refl is ran.call.outcome c agreed.pending agreed.fated (few-messages unloaded ran.call.outcome c ran.left)
+          late-done means (command_rules old.plan old.heap) old.heap commands.Load old.kept new.kept w v answer (λ doing. refl) refl is ran.call.outcome (order-done (link means) old.plan old.heap (loading old.plan old.kept) old.kept new.kept w v ran.call.outcome c) agreed.pending agreed.fated (few-messages unloaded ran.call.outcome c ran.left)
           ran.call.said
           (standing-by means w v (written unloaded ran.call.outcome c ran.left) (load-leads-on unloaded ran.call.outcome c ran.left ran.same) empty)

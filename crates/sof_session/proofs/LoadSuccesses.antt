@@ -43,6 +43,7 @@ use Rattle.sof_script.specs.declared.script.Command.TheVariants as commands
 use Rattle.sof_session.specs.Commands.{Known, answer_by, command_rules, tested}
 use Rattle.sof_session.specs.SuccessLaws.{PassNext, NoneRefused, LoadSucceedsExactly, OpenSucceedsExactly, opening_acts}
 use Rattle.sof_session.specs.UpCommands.{up_rules, up_job, place_named}
+use Rattle.host_widgets.proofs.BuildingActs.{ends-at}
 
 -- ---- results
 
@@ -52,11 +53,6 @@ came-pass Pass None is = (refl, refl)
 came-pass Pass (Some e) is = absurd (cc is)
 came-pass (Refuse e) refusal is = absurd (cc is)
 came-pass fate refusal is = absurd (cc is)
-
--- after a fault no act goes on
-stops : (fault : HostFault) → goes_past false (Err fault) ≡ false
-stops (Refused e) = refl
-stops fault = refl
 
 -- what follows a fault does not make it done
 never : (fault : HostFault) (rest : Outcome) → first_of (Err fault) rest ≡ Ok tt → {X : Type 0} → X
@@ -103,7 +99,7 @@ module _ {S A : Type 0} (rules : ActRules S A) (doing : Doing) where
   passed-by act acts kept q (Err fault) here is later =
       let m = next_meeting doing q in
       let a = performed rules act kept (lag_of m.0) (Err fault) in
-      absurd (cc (sym (ap (λ (b : Bool). (followed_by act a m.1 b (walked a.kept m.1 acts)).outcome) (stops fault)) ∙ is))
+      absurd (cc (sym (ap (λ (b : Bool). (followed_by act a m.1 b (walked a.kept m.1 acts)).outcome) (ends-at fault)) ∙ is))
 
   passed : (acts : List A) (kept : S) (q : Queue) → (walked kept q acts).outcome ≡ Ok tt → NoneRefused rules kept acts × PassNext doing q (length acts)
   passed [] kept q is = (tt, tt)

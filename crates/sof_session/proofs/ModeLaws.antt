@@ -14,7 +14,8 @@ use Rattle.sof_session.specs.Modes.{Mode, IsInMode, CommandDoneIn, SteppedBy, sh
 use Rattle.sof_session.specs.SessionView.{SessionView, seat_in}
 use Rattle.sof_session.specs.SessionStep.{CallsBy, known_of}
 use Rattle.sof_session.specs.Written.{boots_in, raised}
-use Rattle.sof_session.proofs.InputMoves.{AllInRange, ticks_in}
+use Rattle.sof_session.proofs.InputMoves.{AllInRange}
+use Rattle.sof_session.proofs.SeenMoments.{ticks_in}
 
 pub record ModeLaws {P S A : Type 0} (means : Meaning P) (mode : Mode P S A) (plan : Plan) (heap : ℕ) : Type 1 where
   -- how many messages a command sends at most

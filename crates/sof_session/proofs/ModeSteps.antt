@@ -12,9 +12,6 @@ use Rattle.sof_session.specs.Commands.{command_rules}
 use Rattle.sof_session.specs.Modes.{made_on_use, CommandDoneIn, DoneWith, SteppedBy, most_sent_by}
 use Rattle.sof_session.specs.SessionView.{SessionView}
 use Rattle.sof_session.specs.SessionStep.{CommandDone}
-use Rattle.sof_session.proofs.Agreement.{none-up}
-use Rattle.sof_session.proofs.LoadMode.{load-stepped}
-use Rattle.sof_session.proofs.UpMode.{up-stepped}
 
 module _ {P : Type 0} (means : Meaning P) (command : Command) (old new : SessionView P) (w v : World (Wire P)) (answer : Answer) where
   abbrev Stepped : Type 0
@@ -27,12 +24,6 @@ module _ {P : Type 0} (means : Meaning P) (command : Command) (old new : Session
     did = subst (λ (up : Option (List ℕ)). DoneWith means done.doing up command old new w v answer) (sym none) (record { done = done; stays = ap (λ (up : Option (List ℕ)). is_some up) stays }, refl);
   }
 
-  pub load-done : old.up ≡ None → Stepped → CommandDone means (command_rules old.plan old.heap) old.heap command old.kept new.kept w v answer
-  load-done none stepped = (load-stepped means command old new w v answer stepped (ap (λ (up : Option (List ℕ)). is_some up) none)).0.done
-
-  pub load-remains : old.up ≡ None → Stepped → new.up ≡ None
-  load-remains none stepped = none-up new.up (load-stepped means command old new w v answer stepped (ap (λ (up : Option (List ℕ)). is_some up) none)).0.stays
-
   -- where they are made on use
   pub use-step : is_some old.up ≡ true → CommandDoneIn means (made_on_use means) command old new w v answer → Stepped
   use-step some done = by old.up refl some
@@ -41,13 +32,10 @@ module _ {P : Type 0} (means : Meaning P) (command : Command) (old new : Session
       by None at is = absurd (false≢true is)
       by (Some up) at is = record { doing = done.done.doing; did = subst (λ (o : Option (List ℕ)). DoneWith means done.done.doing o command old new w v answer) (sym at) (done, refl) }
 
-  pub use-done-in : is_some old.up ≡ true → Stepped → CommandDoneIn means (made_on_use means) command old new w v answer
-  use-done-in some stepped = (up-stepped means command old new w v answer stepped some).0
-
 -- ---- how many messages are sent at most
 
 load-most-of : (command : Command) → most_sent_by None command ≡ most_sent command
-load-most-of commands.Load = refl
+load-most-of (commands.Tick t) = refl
 load-most-of command = refl
 
 pub load-most : (up : Option (List ℕ)) → up ≡ None → (command : Command) → most_sent_by up command ≡ most_sent command

@@ -7,7 +7,7 @@ use Rattle.stream_law.specs.Past.{Moment, Cut}
 use Rattle.mbox_link.specs.Calls.{World, Meaning, Led}
 use Rattle.mbox_link.specs.Wire.{Wire}
 use Rattle.mbox_link.specs.Link.{link}
-use Rattle.mbox_link.specs.Meetings.{Meeting}
+use Rattle.mbox_link.specs.Meetings.{Doing, Meeting}
 use Rattle.tplg_plan.specs.declared.plans.Plan.{Plan}
 use Rattle.tplg_plan.specs.Sound.{IsSound}
 use Rattle.host_widgets.specs.declared.answers.Answer.{Answer}
@@ -23,10 +23,11 @@ use Rattle.host_widgets.specs.Orders.{Procedure, Plain, Carried, goes_on_after_r
 use Rattle.host_widgets.proofs.StandingOn.{StandsOn, ReadsOn, cut-stands}
 use Rattle.host_widgets.proofs.WalksHold.{ByLink, AreTaken, Held, HeldBy, ReadBy, walk-holds}
 use Rattle.host_widgets.specs.Routines.{order_job}
+use Rattle.host_widgets.proofs.OrderJobs.{order-done}
 use Rattle.sof_session.specs.Agreement.{IsFated}
 use Rattle.sof_session.specs.Commands.{carried, command_rules}
 use Rattle.sof_session.specs.SessionStep.{known_of}
-use Rattle.sof_session.proofs.Carrying.{doing, from-start}
+use Rattle.sof_session.proofs.JobWalks.{job_doing, job-moments}
 
 -- ---- how an order ends
 
@@ -36,15 +37,6 @@ plain-ends done now (Ok all) Up Down x = inr (x, refl)
 plain-ends done now (Err LinkDown) Up Down x = inl (refl, x)
 plain-ends done now (Err (Refused e)) Up Down x = inr (x, refl)
 plain-ends done now (Err fault) Up Down x = inr (x, refl)
-
-both-ways : (o : Outcome) → ByLink o (Unit {0}) (Unit {0})
-both-ways (Ok all) = tt
-both-ways (Err (Refused e)) = tt
-both-ways (Err fault) = tt
-
--- whatever its result
-pub plain-cuts : (done : Record → Record) (now : Record) (o : Outcome) → ((plain_end done now o).1 ≡ Cut ∷ []) ⊎ ((plain_end done now o).1 ≡ [])
-plain-cuts done now o = ⊎_elim (λ cut. inl cut.0) (λ up. inr up.1) (plain-ends done now o (Unit {0}) (Unit {0}) (both-ways o))
 
 -- what is so where the link failed is so of all
 pub by-down : (o : Outcome) (Up Down : Type 0) → (Up → Down) → ByLink o Up Down → Down
@@ -75,14 +67,15 @@ module _ {P : Type 0} (means : Meaning P) (heap : ℕ) (plan : Plan) (o : Proced
       ap (λ (x : World (Wire P)). x.io) one.2 ∙ one.1.1
 
   module _ (none : means.pending w.device.device ≡ 0) (fated : IsFated w.device) (few : w.device.sent + length c.meetings < 2 ^ 64 - 1) where
+    abbrev pub doing : Doing
+    doing = job_doing means (command_rules plan heap) heap (order_job plan kept o) kept kept' w v result (order-done (link means) plan heap o kept kept' w v result c) none fated few
+
     abbrev pub written : List Moment
-    written = (carried (command_rules plan heap) (doing means heap plan o kept kept' w v result c none fated few) (known_of w.device kept) (order_job plan (known_of w.device kept).kept o)).moments
+    written = (carried (command_rules plan heap) doing (known_of w.device kept) (order_job plan (known_of w.device kept).kept o)).moments
 
     -- the written moments are those of what the messages met
     pub moments-are : o.first ++ (met.moments ++ last) ≡ written
-    moments-are =
-        let s = (from-start means heap plan o kept kept' w v result c none fated few).0 in
-        λ i. o.first ++ (s.moments i ++ (end_by o.ending plan o.done kept (s.left i) (s.outcome i)).1)
+    moments-are = job-moments means (command_rules plan heap) heap (order_job plan kept o) kept kept' w v result (order-done (link means) plan heap o kept kept' w v result c) none fated few
 
     -- the device is off, whatever the result of its acts
     pub cut-leads : (device : Option FwState) → last ≡ Cut ∷ [] → ReadsOn device w.io c.sent.io (o.first ++ met.moments) → StandsOn device w.io (means.on v.device.device) v.io written

@@ -11,6 +11,7 @@ use Rattle.mbox_link.specs.Link.{link}
 use Rattle.tplg_plan.specs.declared.plans.Plan.{Plan}
 use Rattle.tplg_plan.specs.declared.plans.StreamPlan.{StreamPlan}
 use Rattle.tplg_plan.specs.Sound.{IsSound, host_of}
+use Rattle.host_widgets.proofs.OrderJobs.{order-done}
 use Rattle.host_widgets.specs.declared.answers.Answer.{Answer}
 use Rattle.host_widgets.specs.declared.answers.Answer.TheVariants.{Done}
 use Rattle.host_widgets.specs.declared.answers.HostFault.{HostFault}
@@ -25,7 +26,6 @@ use Rattle.host_widgets.specs.ActLists.{go_down, stop_acts, stop_by}
 use Rattle.host_widgets.specs.OneAct.{act_rules}
 use Rattle.host_widgets.specs.Host.{Outcome}
 use Rattle.host_widgets.specs.Orders.{Carried, Procedure, suspending}
-use Rattle.host_widgets.specs.TestedOrders.{Tested}
 use Rattle.host_widgets.proofs.StandingOn.{ReadsOn, reads-of}
 use Rattle.host_widgets.proofs.WalksHold.{Held, HeldBy, walk-holds}
 use Rattle.host_pm.specs.PowerTests.{suspend_fault}
@@ -35,14 +35,13 @@ use Rattle.sof_session.specs.Agreement.{Powered}
 use Rattle.sof_session.specs.Commands.{answer_by, command_rules}
 use Rattle.sof_session.specs.SessionView.{SessionView}
 use Rattle.sof_session.specs.SessionStep.{CommandDone}
-use Rattle.sof_session.specs.SessionCalls.{CallRan}
-use Rattle.sof_session.proofs.ActsLed.{acts-io, acts-ends}
+use Rattle.sof_session.proofs.CallsRan.{CallRan}
 use Rattle.sof_session.proofs.Agreement.{at, AgreeAtLoad}
 use Rattle.sof_session.proofs.FewMeetings.{few-meetings}
 use Rattle.sof_session.proofs.OrderStands.{by-down, cut-leads}
 use Rattle.sof_session.proofs.OrderStands as after_order
-use Rattle.sof_session.proofs.Stepping.{early-stepped, late-stepped, standing-by}
-use Rattle.sof_session.proofs.Writings.{bound_ends}
+use Rattle.sof_session.proofs.JobSteps.{early-done, late-done}
+use Rattle.sof_session.proofs.Stepping.{standing-by}
 
 -- the power was on
 was-on : (power : Power) → suspend_fault power ≡ None → power ≡ On
@@ -79,52 +78,6 @@ few-down plan kept sound = omega (arith, few-streams plan sound, few-stops plan.
 
 -- ---- a suspend
 
-module _ {P : Type 0} (means : Meaning P) (old : SessionView P) (wire : Wire P) (io io' : Io) (agreed : AgreeAtLoad means old) (kept : Record) (result : Outcome) where
-  abbrev order : Procedure
-  order = suspending old.plan old.kept
-
-  abbrev CarriedSo : Type 0
-  CarriedSo = Carried (link means) old.plan old.heap order old.kept kept (at old.link io) (at wire io') result
-
-  -- of a device that is on
-  abbrev On-so : Type 0
-  On-so = (f : FwState) × (means.on old.link.device ≡ Some f)
-
-  was-powered : (power : Power) → power ≡ On → Powered means old power → On-so
-  was-powered On is powered = (powered.0, powered.1)
-  was-powered Unloaded is powered = absurd (cc is)
-  was-powered Off is powered = absurd (cc is)
-
-  -- it leaves the endpoints as they are where no tick is pending
-  cut-still : (link means).pending old.link ≡ 0 → On-so → CarriedSo → io' ≡ io
-  cut-still none on c =
-      ap (λ (x : World (Wire P)). x.io) c.ends.1.2 ∙ c.ends.1.1.1
-      ∙ acts-io (link means) (act_rules old.plan old.heap) true order.acts c.meetings old.kept c.begun c.sent c.walked
-      (ap (λ (x : World (Wire P)). (link means).pending x.device) c.first ∙ none) on.0 (ap (λ (x : World (Wire P)). means.on x.device.device) c.first ∙ on.1)
-      ∙ ap (λ (x : World (Wire P)). x.io) c.first
-
-  -- and the slots, and which inputs have ended
-  cut-ends : On-so → CarriedSo → bound_ends io' ≡ bound_ends io
-  cut-ends on c =
-      ap (λ (x : World (Wire P)). bound_ends x.io) c.ends.1.2 ∙ ap bound_ends c.ends.1.1.1
-      ∙ acts-ends (link means) (act_rules old.plan old.heap) true order.acts c.meetings old.kept c.begun c.sent c.walked on.0 (ap (λ (x : World (Wire P)). means.on x.device.device) c.first ∙ on.1)
-      ∙ ap (λ (x : World (Wire P)). bound_ends x.io) c.first
-
-  module _ (tested : Tested (link means) old.plan old.heap (suspend_fault old.kept.power) order old.kept kept (at old.link io) (at wire io') result) where
-    pub suspend-io : (link means).pending old.link ≡ 0 → io' ≡ io
-    suspend-io none = by (suspend_fault old.kept.power) refl
-      where
-        by : (test : Option HostFault) → suspend_fault old.kept.power ≡ test → io' ≡ io
-        by (Some fault) is = ap (λ (x : World (Wire P)). x.io) (tested.early fault is).1
-        by None is = cut-still none (was-powered old.kept.power (was-on old.kept.power is) agreed.powered) (tested.late is)
-
-    pub suspend-ends : bound_ends io' ≡ bound_ends io
-    suspend-ends = by (suspend_fault old.kept.power) refl
-      where
-        by : (test : Option HostFault) → suspend_fault old.kept.power ≡ test → bound_ends io' ≡ bound_ends io
-        by (Some fault) is = ap (λ (x : World (Wire P)). bound_ends x.io) (tested.early fault is).1
-        by None is = cut-ends (was-powered old.kept.power (was-on old.kept.power is) agreed.powered) (tested.late is)
-
 module _ {P : Type 0} (means : Meaning P) (old new : SessionView P) (io io' : Io) (agreed : AgreeAtLoad means old) (few : old.link.sent < 2 ^ 63) where
   abbrev w : World (Wire P)
   w = at old.link io
@@ -159,12 +112,12 @@ module _ {P : Type 0} (means : Meaning P) (old new : SessionView P) (io io' : Io
       by : (test : Option HostFault) → suspend_fault old.kept.power ≡ test → CommandDone means (command_rules old.plan old.heap) old.heap commands.Suspend old.kept new.kept w v answer
       by (Some fault) is =
           let e = ran.tested.early fault is in
-          early-stepped means old.plan old.heap commands.Suspend old.kept new.kept w v answer (λ doing known. refl) refl fault is (ran.said ∙ ap (answer_by Done) e.0) e.1 e.2 empty
+          early-done means (command_rules old.plan old.heap) old.heap commands.Suspend old.kept new.kept w v answer (λ doing. refl) refl fault is (ran.said ∙ ap (answer_by Done) e.0) e.1 e.2 empty
       by None is =
           let c = ran.tested.late is in
           let fewer : old.link.sent + length c.meetings < 2 ^ 64 - 1 = omega (arith, few, few-meetings (link means) (act_rules old.plan old.heap) true o.acts c.meetings old.kept c.begun c.sent c.walked, few-down old.plan old.kept agreed.sound) in
           let written = after_order.written means old.heap old.plan o old.kept new.kept w v ran.outcome c agreed.pending agreed.fated fewer in
-          late-stepped means old.plan old.heap commands.Suspend old.kept new.kept w v answer (λ doing known. refl) refl is ran.outcome c agreed.pending agreed.fated fewer
+          late-done means (command_rules old.plan old.heap) old.heap commands.Suspend old.kept new.kept w v answer (λ doing. refl) refl is ran.outcome (order-done (link means) old.plan old.heap (suspending old.plan old.kept) old.kept new.kept w v ran.outcome c) agreed.pending agreed.fated fewer
           ran.said
           (standing-by means w v written
           (cut-leads means old.heap old.plan o old.kept new.kept w v ran.outcome c agreed.pending agreed.fated fewer (means.on old.link.device) refl

@@ -15,6 +15,7 @@ use Rattle.mbox_link.specs.Wire.{Wire}
 use Rattle.mbox_link.specs.Link.{link}
 use Rattle.tplg_plan.specs.declared.plans.Plan.{Plan}
 use Rattle.tplg_plan.specs.declared.plans.StreamPlan.{StreamPlan}
+use Rattle.host_widgets.proofs.OrderJobs.{order-done}
 use Rattle.host_widgets.specs.declared.answers.Answer.{Answer}
 use Rattle.host_widgets.specs.declared.answers.Answer.TheVariants.{Done}
 use Rattle.host_widgets.specs.declared.answers.HostFault.{HostFault}
@@ -47,14 +48,15 @@ use Rattle.sof_script.specs.declared.script.Command.TheVariants as commands
 use Rattle.sof_session.specs.Commands.{answer_by, command_rules}
 use Rattle.sof_session.specs.SessionView.{SessionView}
 use Rattle.sof_session.specs.SessionStep.{CommandDone}
-use Rattle.sof_session.specs.SessionCalls.{ResumeRan}
+use Rattle.sof_session.proofs.CallsRan.{ResumeRan}
 use Rattle.sof_session.proofs.Agreement.{at, AgreeAtLoad}
 use Rattle.sof_session.proofs.BuildStands.{AtRest, IsQuiet, brought-stands, brought-reads, record-quiet, resumed-rests}
 use Rattle.sof_session.proofs.FewMeetings.{few-meetings}
 use Rattle.sof_session.proofs.OrderStands.{moments-are, cut-leads}
 use Rattle.sof_session.proofs.OrderStands as after_order
 use Rattle.sof_session.proofs.PlanCounts.{few-streams_and_controls}
-use Rattle.sof_session.proofs.Stepping.{early-stepped, late-stepped, standing-by}
+use Rattle.sof_session.proofs.JobSteps.{early-done, late-done}
+use Rattle.sof_session.proofs.Stepping.{standing-by}
 
 -- the power was off
 was-off : (power : Power) → resume_fault power ≡ None → power ≡ Off
@@ -189,11 +191,11 @@ module _ {P : Type 0} (means : Meaning P) (old new : SessionView P) (io io' : Io
       by : (test : Option HostFault) → resume_fault old.kept.power ≡ test → CommandDone means (command_rules old.plan old.heap) old.heap commands.Resume old.kept new.kept a b answer
       by (Some fault) is =
           let e = ran.call.tested.early fault is in
-          early-stepped means old.plan old.heap commands.Resume old.kept new.kept a b answer (λ doing known. refl) refl fault is (ran.call.said ∙ ap (answer_by Done) e.0) e.1 e.2 empty
+          early-done means (command_rules old.plan old.heap) old.heap commands.Resume old.kept new.kept a b answer (λ doing. refl) refl fault is (ran.call.said ∙ ap (answer_by Done) e.0) e.1 e.2 empty
       by None is =
           let c = ran.call.tested.late is in
           let off = was-off old.kept.power is in
-          late-stepped means old.plan old.heap commands.Resume old.kept new.kept a b answer (λ doing known. refl) refl is ran.call.outcome c agreed.pending agreed.fated (few-sent means old new.link io io' agreed new.kept ran.call.outcome c few off ran.left ran.same)
+          late-done means (command_rules old.plan old.heap) old.heap commands.Resume old.kept new.kept a b answer (λ doing. refl) refl is ran.call.outcome (order-done (link means) old.plan old.heap (resuming old.plan old.kept) old.kept new.kept a b ran.call.outcome c) agreed.pending agreed.fated (few-sent means old new.link io io' agreed new.kept ran.call.outcome c few off ran.left ran.same)
           ran.call.said
           (standing-by means a b (written means old new.link io io' agreed new.kept ran.call.outcome c few off ran.left ran.same)
           (resume-leads means old new.link io io' agreed new.kept ran.call.outcome c few off ran.left ran.same) empty)

@@ -24,6 +24,7 @@ use Rattle.sof_session.specs.Written.{boots_in, raised}
 use Rattle.sof_session.proofs.JobCalm.{routine-led}
 use Rattle.sof_session.proofs.LinkFates.{Steady-none, Led-inside}
 use Rattle.sof_session.proofs.RoutineNumbers.{planned-by, tested-is}
+use Rattle.sof_session.proofs.RoutinePasses.{EndsSo, EndsWell}
 use Rattle.sof_session.proofs.RunBoots.{NoBoot, none-more, none-late, boots-append, led-boots, onwards}
 
 -- ---- moments
@@ -46,15 +47,15 @@ module _ {S A : Type 0} (rules : ActRules S A) where
       (none-walked goes_on next acts a.kept (next q).1)
 
   -- no last moment of a routine is a boot
-  abbrev pub NoneBoots : Routine S A → Type 0
-  NoneBoots (Finished kept moments) = NoBoot moments
-  NoneBoots (Sending acts goes_on then) = (now : S) (o : Outcome) → NoneBoots (then now o)
+  none-last : (moments : List Moment) → EndsSo moments → NoBoot moments
+  none-last moments (inl is) = ap boots_in is
+  none-last moments (inr is) = ap boots_in is
 
-  pub none-routine : {Q : Type 0} (next : Q → Meeting × Q) (before : Walked S A Q) (routine : Routine S A) → NoBoot before.moments → NoneBoots routine → NoBoot (walk_on rules next before routine).moments
-  none-routine next before (Finished kept moments) first none = none-more before.moments moments first none
-  none-routine next before (Sending acts goes_on then) first none =
+  pub none-routine : {Q : Type 0} (next : Q → Meeting × Q) (before : Walked S A Q) (routine : Routine S A) → NoBoot before.moments → EndsWell routine → NoBoot (walk_on rules next before routine).moments
+  none-routine next before (Finished kept moments) first ends = none-more before.moments moments first (none-last moments ends.0)
+  none-routine next before (Sending acts goes_on then) first ends =
       let now = walk rules goes_on next before.kept before.queue acts in
-      none-routine next (followed before now) (then now.kept now.outcome) (none-more before.moments now.moments first (none-walked goes_on next acts before.kept before.queue)) (none now.kept now.outcome)
+      none-routine next (followed before now) (then now.kept now.outcome) (none-more before.moments now.moments first (none-walked goes_on next acts before.kept before.queue)) (ends.1 now.kept now.outcome tt)
 
   -- ---- calls
 
@@ -67,13 +68,13 @@ module _ {S A : Type 0} (rules : ActRules S A) where
         onwards means (goes_past goes_on a.outcome) ms did.0 v (ActsDid means rules goes_on a.kept acts ms did.0 v) (acts-boots goes_on acts ms a.kept did.0 v) did.2
         ∙ did.1.exchanged.boots
 
-    routine-boots : (heap : ℕ) (routine : Routine S A) (kept : S) (ms : List Meeting) (w v : World D) → NoneBoots routine → RoutineDid means rules heap kept routine ms w v → means.boots v.device ≡ means.boots w.device
-    routine-boots heap (Finished end moments) kept ms w v none did = led-boots means heap moments w v did.1 ∙ ap (λ (n : ℕ). raised n (means.boots w.device)) none
-    routine-boots heap (Sending acts goes_on then) kept ms w v none (early, late, mid, split, acts_did, rest_did) =
+    routine-boots : (heap : ℕ) (routine : Routine S A) (kept : S) (ms : List Meeting) (w v : World D) → EndsWell routine → RoutineDid means rules heap kept routine ms w v → means.boots v.device ≡ means.boots w.device
+    routine-boots heap (Finished end moments) kept ms w v ends did = led-boots means heap moments w v did.1 ∙ ap (λ (n : ℕ). raised n (means.boots w.device)) (none-last moments ends.0)
+    routine-boots heap (Sending acts goes_on then) kept ms w v ends (early, late, mid, split, acts_did, rest_did) =
         let now : Walked S A (List Meeting) = walk rules goes_on next_of kept early acts in
-        routine-boots heap (then now.kept now.outcome) now.kept late mid v (none now.kept now.outcome) rest_did ∙ acts-boots goes_on acts early kept w mid acts_did
+        routine-boots heap (then now.kept now.outcome) now.kept late mid v (ends.1 now.kept now.outcome tt) rest_did ∙ acts-boots goes_on acts early kept w mid acts_did
 
-    pub job-boots : (heap : ℕ) (job : Job S A) (kept' : S) (w v : World D) (result : Outcome) → NoneBoots job.routine → JobDone means rules heap job kept' w v result → means.boots v.device ≡ raised (boots_in job.first) (means.boots w.device)
+    pub job-boots : (heap : ℕ) (job : Job S A) (kept' : S) (w v : World D) (result : Outcome) → EndsWell job.routine → JobDone means rules heap job kept' w v result → means.boots v.device ≡ raised (boots_in job.first) (means.boots w.device)
     job-boots heap job kept' w v result none j = routine-boots heap job.routine job.from j.meetings j.begun v none j.did ∙ led-boots means heap job.first w j.begun j.first
 
 -- ---- a command
@@ -97,13 +98,13 @@ module _ {P S A : Type 0} (means : Meaning P) (rules : CommandRules S A) (heap :
   BootsBy c = means.boots v.device.device ≡ raised (boots_in c.moments) (means.boots w.device.device)
 
   -- the written job boots as often as its first moments say
-  written-boots : (doing : Doing) (job : Job S A) → NoneBoots rules.acts job.routine → raised (boots_in (carried rules doing known job).moments) (means.boots w.device.device) ≡ raised (boots_in job.first) (means.boots w.device.device)
+  written-boots : (doing : Doing) (job : Job S A) → EndsWell job.routine → raised (boots_in (carried rules doing known job).moments) (means.boots w.device.device) ≡ raised (boots_in job.first) (means.boots w.device.device)
   written-boots doing job none =
       let walked = walk_routine rules.acts (next_meeting doing) job.from known.queue job.routine in
       boots-append job.first walked.moments (means.boots w.device.device)
       ∙ ap (λ (n : ℕ). raised n (raised (boots_in job.first) (means.boots w.device.device))) (none-routine rules.acts (next_meeting doing) (not_begun job.from known.queue) job.routine refl none)
 
-  tested-boots : (doing : Doing) (job : Job S A) (fault : Option HostFault) → NoneBoots rules.acts job.routine → CallsBy means rules.acts heap doing job kept' w v answer false fault → BootsBy (tested rules doing known job fault)
+  tested-boots : (doing : Doing) (job : Job S A) (fault : Option HostFault) → EndsWell job.routine → CallsBy means rules.acts heap doing job kept' w v answer false fault → BootsBy (tested rules doing known job fault)
   tested-boots doing job (Some fault) none calls = ap (λ (x : World (Wire P)). means.boots x.device.device) calls
   tested-boots doing job None none calls = job-boots rules.acts (link means) heap job kept' w v calls.0 none calls.1 ∙ sym (written-boots doing job none)
 
@@ -114,7 +115,7 @@ module _ {P S A : Type 0} (means : Meaning P) (rules : CommandRules S A) (heap :
     abbrev Calls : Bool → Type 0
     Calls b = CallsBy means rules.acts heap doing (rules.job kept command) kept' w v answer b (rules.fault kept command)
 
-    pub boots-by : NoneBoots rules.acts (rules.job kept command).routine → BootsBy (next rules doing known command)
+    pub boots-by : EndsWell (rules.job kept command).routine → BootsBy (next rules doing known command)
     boots-by none =
         elim (cases_Bool (is_plan command)) [
           | inl is ↦

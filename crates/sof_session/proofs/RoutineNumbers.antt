@@ -11,33 +11,32 @@ use Rattle.host_widgets.specs.declared.answers.HostFault.{HostFault}
 use Rattle.host_widgets.specs.ActRules.{ActRules}
 use Rattle.host_widgets.specs.Walk.{Walked, walk}
 use Rattle.host_widgets.specs.ActCalls.{next_of}
+use Rattle.host_widgets.specs.Host.{Outcome}
 use Rattle.host_widgets.specs.Routines.{Routine, Finished, Sending, Job, RoutineDid, followed, walk_on, not_begun}
 use Rattle.sof_script.specs.declared.script.Command.{Command}
 use Rattle.sof_script.specs.declared.script.Command.TheVariants as commands
 use Rattle.sof_session.specs.CommandRules.{CommandRules}
 use Rattle.sof_session.specs.Commands.{Known, CommandResult, came, is_plan, ended, tested, planned_where_room, next}
 use Rattle.sof_session.proofs.FewMeetings.{few-meetings}
-use Rattle.sof_session.proofs.JobWalks.{walk-front}
 use Rattle.sof_session.proofs.SameDoings.{walk-up, walk-few, same-walk}
 
 -- ---- a routine
 
-module _ {S A : Type 0} (rules : ActRules S A) where
-  -- by what these messages meet, no more than so many are sent
-  abbrev pub SendsWithin : {Q : Type 0} → (Q → Meeting × Q) → ℕ → S → Q → Routine S A → Type 0
-  SendsWithin next n kept q (Finished end moments) = Unit {0}
-  SendsWithin next n kept q (Sending acts goes_on then) =
-      (length acts ≤ n) × (let w = walk rules goes_on next kept q acts in SendsWithin next (n - length acts) w.kept w.queue (then w.kept w.outcome))
+-- no more than so many messages are sent, whatever they meet
+abbrev pub SendsWithin : {S A : Type 0} → ℕ → Routine S A → Type 0
+SendsWithin n (Finished end moments) = Unit {0}
+SendsWithin {S} n (Sending acts goes_on then) = (length acts ≤ n) × ((now : S) (o : Outcome) → SendsWithin (n - length acts) (then now o))
 
+module _ {S A : Type 0} (rules : ActRules S A) where
   -- so numbers go up by no more
-  pub routine-within : (doing : Doing) (n : ℕ) (before : Walked S A Queue) (routine : Routine S A) → SendsWithin (next_meeting doing) n before.kept before.queue routine → before.queue.sent + n < 2 ^ 64 - 1 →
+  pub routine-within : (doing : Doing) (n : ℕ) (before : Walked S A Queue) (routine : Routine S A) → SendsWithin n routine → before.queue.sent + n < 2 ^ 64 - 1 →
       let w = walk_on rules (next_meeting doing) before routine in (before.queue.sent ≤ w.queue.sent) × (w.queue.sent ≤ before.queue.sent + n)
   routine-within doing n before (Finished end moments) sends few = (omega arith, omega arith)
   routine-within doing n before (Sending acts goes_on then) sends few =
       let now = walk rules goes_on (next_meeting doing) before.kept before.queue acts in
       let up : before.queue.sent ≤ now.queue.sent = walk-up rules goes_on doing acts before.kept before.queue (omega (arith, few, sends.0)) in
       let most : now.queue.sent ≤ before.queue.sent + length acts = walk-few rules goes_on doing acts before.kept before.queue in
-      let rest = routine-within doing (n - length acts) (followed before now) (then now.kept now.outcome) sends.1 (omega (arith, few, sends.0, most)) in
+      let rest = routine-within doing (n - length acts) (followed before now) (then now.kept now.outcome) (sends.1 now.kept now.outcome) (omega (arith, few, sends.0, most)) in
       let low : now.queue.sent ≤ (walk_on rules (next_meeting doing) (followed before now) (then now.kept now.outcome)).queue.sent = rest.0 in
       let high : (walk_on rules (next_meeting doing) (followed before now) (then now.kept now.outcome)).queue.sent ≤ now.queue.sent + (n - length acts) = rest.1 in
       (omega (arith, up, low), omega (arith, most, high, sends.0))
@@ -47,7 +46,7 @@ module _ {S A : Type 0} (rules : ActRules S A) where
   SameFrom d e from to = (number : ℕ) → from < number → number ≤ to → d number ≡ e number
 
   -- and by doings that are one at its numbers a routine comes to the same
-  pub routine-same : (d e : Doing) (n : ℕ) (before : Walked S A Queue) (routine : Routine S A) → SendsWithin (next_meeting d) n before.kept before.queue routine → before.queue.sent + n < 2 ^ 64 - 1 →
+  pub routine-same : (d e : Doing) (n : ℕ) (before : Walked S A Queue) (routine : Routine S A) → SendsWithin n routine → before.queue.sent + n < 2 ^ 64 - 1 →
       SameFrom d e before.queue.sent (walk_on rules (next_meeting d) before routine).queue.sent → walk_on rules (next_meeting d) before routine ≡ walk_on rules (next_meeting e) before routine
   routine-same d e n before (Finished end moments) sends few same = refl
   routine-same d e n before (Sending acts goes_on then) sends few same =
@@ -55,9 +54,9 @@ module _ {S A : Type 0} (rules : ActRules S A) where
       let up : before.queue.sent ≤ now.queue.sent = walk-up rules goes_on d acts before.kept before.queue (omega (arith, few, sends.0)) in
       let most : now.queue.sent ≤ before.queue.sent + length acts = walk-few rules goes_on d acts before.kept before.queue in
       let fewer : now.queue.sent + (n - length acts) < 2 ^ 64 - 1 = omega (arith, few, sends.0, most) in
-      let last = routine-within d (n - length acts) (followed before now) (then now.kept now.outcome) sends.1 fewer in
+      let last = routine-within d (n - length acts) (followed before now) (then now.kept now.outcome) (sends.1 now.kept now.outcome) fewer in
       let low : now.queue.sent ≤ (walk_on rules (next_meeting d) (followed before now) (then now.kept now.outcome)).queue.sent = last.0 in
-      routine-same d e (n - length acts) (followed before now) (then now.kept now.outcome) sends.1 fewer (λ number after to. same number (omega (arith, after, up)) to)
+      routine-same d e (n - length acts) (followed before now) (then now.kept now.outcome) (sends.1 now.kept now.outcome) fewer (λ number after to. same number (omega (arith, after, up)) to)
       ∙ ap (λ (w : Walked S A Queue). walk_on rules (next_meeting e) (followed before w) (then w.kept w.outcome))
       (same-walk rules goes_on d e acts before.kept before.queue (omega (arith, few, sends.0)) (λ number after to. same number after (omega (arith, to, low))))
 
@@ -65,11 +64,9 @@ module _ {S A : Type 0} (rules : ActRules S A) where
 
 module _ {D S A : Type 0} (means : Meaning D) (rules : ActRules S A) (heap : ℕ) where
   -- a routine's messages met no more
-  pub few-met : (n : ℕ) (routine : Routine S A) (kept : S) (ms : List Meeting) (w v : World D) → SendsWithin rules next_of n kept ms routine → RoutineDid means rules heap kept routine ms w v → length ms ≤ n
+  pub few-met : (n : ℕ) (routine : Routine S A) (kept : S) (ms : List Meeting) (w v : World D) → SendsWithin n routine → RoutineDid means rules heap kept routine ms w v → length ms ≤ n
   few-met n (Finished end moments) kept ms w v sends did = let none = ap length did.0 in omega (arith, none)
   few-met n (Sending acts goes_on then) kept ms w v sends (early, late, mid, split, acts_did, rest_did) =
-      let front = ap (λ (xs : List Meeting). walk rules goes_on next_of kept xs acts) split ∙ walk-front means rules goes_on late acts early kept w mid acts_did in
-      let behind = subst (λ (x : Walked S A (List Meeting)). SendsWithin rules next_of (n - length acts) x.kept x.queue (then x.kept x.outcome)) front sends.1 in
       let now : Walked S A (List Meeting) = walk rules goes_on next_of kept early acts in
       omega (
         arith,
@@ -77,7 +74,7 @@ module _ {D S A : Type 0} (means : Meaning D) (rules : ActRules S A) (heap : ℕ
         ap length split,
         length-append early late,
         few-meetings means rules goes_on acts early kept w mid acts_did,
-        few-met (n - length acts) (then now.kept now.outcome) now.kept late mid v behind rest_did,
+        few-met (n - length acts) (then now.kept now.outcome) now.kept late mid v (sends.1 now.kept now.outcome) rest_did,
       )
 
 -- ---- a command
@@ -114,14 +111,14 @@ module _ {S A : Type 0} (rules : CommandRules S A) (known : Known S) where
 
   -- its job sends no more than so many, where no test fails
   abbrev pub JobWithin : ℕ → Job S A → Option HostFault → Type 0
-  JobWithin n job fault = fault ≡ None → (doing : Doing) → SendsWithin rules.acts (next_meeting doing) n job.from known.queue job.routine
+  JobWithin n job fault = fault ≡ None → SendsWithin n job.routine
 
   abbrev Within : ℕ → CommandResult S A → Type 0
   Within most c = (known.queue.sent ≤ c.known.queue.sent) × (c.known.queue.sent ≤ known.queue.sent + most)
 
   job-within : (doing : Doing) (n : ℕ) (job : Job S A) (fault : Option HostFault) → JobWithin n job fault → known.queue.sent + n < 2 ^ 64 - 1 → Within n (tested rules doing known job fault)
   job-within doing n job (Some fault) sends few = (omega arith, omega arith)
-  job-within doing n job None sends few = routine-within rules.acts doing n (not_begun job.from known.queue) job.routine (sends refl doing) few
+  job-within doing n job None sends few = routine-within rules.acts doing n (not_begun job.from known.queue) job.routine (sends refl) few
 
   pub within-by : (doing : Doing) (n : ℕ) (command : Command) → (is_plan command ≡ false → JobWithin n (rules.job known.kept command) (rules.fault known.kept command)) → known.queue.sent + n < 2 ^ 64 - 1 → Within n (next rules doing known command)
   within-by doing n command sends few =
@@ -136,7 +133,7 @@ module _ {S A : Type 0} (rules : CommandRules S A) (known : Known S) where
 
     job-same : (n : ℕ) (job : Job S A) (fault : Option HostFault) → JobWithin n job fault → known.queue.sent + n < 2 ^ 64 - 1 → SameTo (tested rules d known job fault).known.queue.sent → tested rules d known job fault ≡ tested rules e known job fault
     job-same n job (Some fault) sends few same = refl
-    job-same n job None sends few same = ap (ended job) (routine-same rules.acts d e n (not_begun job.from known.queue) job.routine (sends refl d) few same)
+    job-same n job None sends few same = ap (ended job) (routine-same rules.acts d e n (not_begun job.from known.queue) job.routine (sends refl) few same)
 
     pub same-by : (n : ℕ) (command : Command) → (is_plan command ≡ false → JobWithin n (rules.job known.kept command) (rules.fault known.kept command)) → known.queue.sent + n < 2 ^ 64 - 1 →
         SameTo (next rules d known command).known.queue.sent → next rules d known command ≡ next rules e known command

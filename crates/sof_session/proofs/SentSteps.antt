@@ -7,6 +7,7 @@ use Rattle.mbox_link.specs.Calls.{World, Meaning}
 use Rattle.mbox_link.specs.Meetings.{Doing}
 use Rattle.mbox_link.specs.Wire.{Wire}
 use Rattle.mbox_link.specs.Link.{link}
+use Rattle.host_widgets.proofs.OrderJobs.{order-done}
 use Rattle.host_widgets.specs.declared.answers.Answer.{Answer}
 use Rattle.host_widgets.specs.declared.answers.HostFault.{HostFault}
 use Rattle.host_widgets.specs.declared.kept.Power.{Power}
@@ -22,18 +23,18 @@ use Rattle.host_widgets.specs.Routines.{order_job}
 use Rattle.sof_script.specs.declared.script.Command.{Command}
 use Rattle.sof_session.specs.Agreement.{Powered}
 use Rattle.sof_session.specs.CommandTests.{fault_of}
-use Rattle.sof_session.specs.Commands.{Known, answer_by, carried, is_plan, next, order_of, tested, command_rules}
+use Rattle.sof_session.specs.Commands.{answer_by, carried, is_plan, next, order_of, tested, command_rules}
 use Rattle.sof_session.specs.SessionView.{SessionView}
-use Rattle.sof_session.specs.SessionCalls.{CallRan}
+use Rattle.sof_session.proofs.CallsRan.{CallRan}
 use Rattle.sof_session.specs.SessionStep.{CommandDone, known_of}
 use Rattle.sof_session.proofs.Agreement.{at, AgreeAtLoad}
-use Rattle.sof_session.proofs.Carrying.{doing}
 use Rattle.sof_session.proofs.FewMeetings.{few-meetings}
 use Rattle.sof_session.proofs.OrderStands.{sending, sent-leads}
 use Rattle.sof_session.proofs.OrderStands as after_order
-use Rattle.sof_session.proofs.SameNext.{is-tested}
+use Rattle.sof_session.proofs.RoutineNumbers.{tested-is}
 use Rattle.sof_session.proofs.SentOrders.{IsSent, IsSentCall}
-use Rattle.sof_session.proofs.Stepping.{Standing, early-stepped, late-stepped, standing-by, stays-standing}
+use Rattle.sof_session.proofs.JobSteps.{early-done, late-done}
+use Rattle.sof_session.proofs.Stepping.{Standing, standing-by, stays-standing}
 
 module _ {P : Type 0} (means : Meaning P) (old new : SessionView P) (io io' : Io) (agreed : AgreeAtLoad means old) (few : old.link.sent < 2 ^ 63) (empty : drained io.outputs ≡ io.outputs) where
   abbrev w : World (Wire P)
@@ -49,7 +50,7 @@ module _ {P : Type 0} (means : Meaning P) (old new : SessionView P) (io io' : Io
     -- few messages were sent, and what stood stands where the written moments lead
     abbrev Good : Procedure → Type 0
     Good o = (c : CarriedSo o) → AreTaken old.plan false old.kept o.acts → (fewer : old.link.sent + length c.meetings < 2 ^ 64 - 1)
-        × Standing means w v (carried (command_rules old.plan old.heap) (doing means old.heap old.plan o old.kept new.kept w v outcome c agreed.pending agreed.fated fewer) (known_of old.link old.kept) (order_job old.plan (known_of old.link old.kept).kept o)).moments
+        × Standing means w v (carried (command_rules old.plan old.heap) (after_order.doing means old.heap old.plan o old.kept new.kept w v outcome c agreed.pending agreed.fated fewer) (known_of old.link old.kept) (order_job old.plan (known_of old.link old.kept).kept o)).moments
 
     module _ (acts : List Act) (done : Record → Record) (answer : Answer) (short : length acts ≤ 900) where
       -- nothing was sent
@@ -84,8 +85,8 @@ module _ {P : Type 0} (means : Meaning P) (old new : SessionView P) (io io' : Io
     abbrev order : Procedure
     order = order_of old.plan old.kept command
 
-    nexts : (doing : Doing) (known : Known Record) → next (command_rules old.plan old.heap) doing known command ≡ tested (command_rules old.plan old.heap) doing known (order_job old.plan known.kept (order_of old.plan known.kept command)) (fault_of old.plan known.kept command)
-    nexts doing known = is-tested old.plan old.heap known doing command plans
+    nexts : (doing : Doing) → next (command_rules old.plan old.heap) doing (known_of old.link old.kept) command ≡ tested (command_rules old.plan old.heap) doing (known_of old.link old.kept) (order_job old.plan old.kept order) test
+    nexts doing = tested-is (command_rules old.plan old.heap) (known_of old.link old.kept) doing command plans
 
     pub sent_stepped : IsSentCall old.plan old.kept test order → (answer : Answer) → CallRan means test order old new io io' answer → CommandDone means (command_rules old.plan old.heap) old.heap command old.kept new.kept w v answer
     sent_stepped call answer ran = by test refl
@@ -93,8 +94,8 @@ module _ {P : Type 0} (means : Meaning P) (old new : SessionView P) (io io' : Io
         by : (t : Option HostFault) → test ≡ t → CommandDone means (command_rules old.plan old.heap) old.heap command old.kept new.kept w v answer
         by (Some fault) is =
             let e = ran.tested.early fault is in
-            early-stepped means old.plan old.heap command old.kept new.kept w v answer nexts plans fault is (ran.said ∙ ap (answer_by order.answer) e.0) e.1 e.2 empty
+            early-done means (command_rules old.plan old.heap) old.heap command old.kept new.kept w v answer nexts plans fault is (ran.said ∙ ap (answer_by order.answer) e.0) e.1 e.2 empty
         by None is =
             let c = ran.tested.late is in
             let stands = sent-good ran.outcome order (call.sent is) c (call.taken is) in
-            late-stepped means old.plan old.heap command old.kept new.kept w v answer nexts plans is ran.outcome c agreed.pending agreed.fated stands.0 ran.said stands.1
+            late-done means (command_rules old.plan old.heap) old.heap command old.kept new.kept w v answer nexts plans is ran.outcome (order-done (link means) old.plan old.heap order old.kept new.kept w v ran.outcome c) agreed.pending agreed.fated stands.0 ran.said stands.1

@@ -33,7 +33,7 @@ use Rattle.host_widgets.proofs.NamedIds.{buffer-found}
 use Rattle.host_widgets.proofs.Needs.{in-among, among-in}
 use Rattle.host_widgets.proofs.Between.{IsBetween, member-found, found-member, join-into, join-outof}
 use Rattle.host_widgets.proofs.HostStreams.{stream-comp, in-zip}
-use Rattle.host_widgets.proofs.StageBetween.{mapped, comp-at, at-edge, stage-between}
+use Rattle.host_widgets.proofs.StageBetween.{mapped, amid-has, comp-at, at-edge, stage-between}
 use Rattle.host_widgets.proofs.StageReady.{way-ready}
 use Rattle.host_widgets.proofs.StageStays.{AreHeldUp, pass-each, from-map}
 use Rattle.host_widgets.proofs.UpStages.{Stage, StreamPair, stage_graph, stage_streams, IsAmid}
@@ -143,7 +143,7 @@ module _ (plan : Plan) (sound : IsSound plan) (kept : Record) (up n : List ℕ) 
       let there = (kept-in (λ (q : StreamPair). st.has q.0.host) (zip plan.streams kept.streams) p.0 p.1).0 in
       let own = stream-comp plan sound kept p.0 there in
       let some = running-has p.0.1.found p.0.1.params (pass-each (λ (r : StreamRec). may_have r.found r.params) kept.streams p.0.1 each (in-zip plan.streams kept.streams p.0 there).1) parts.0 in
-      let ready = way-ready plan sound kept up n st amid host (held p.0 there some) own.0 own.1 own.2 in
+      let ready = way-ready plan sound kept up st (amid-has plan sound up n st amid) host (held p.0 there some) own.0 own.1 own.2 in
       let all = (and_parts (list_all (λ (x : Comp). not (on_way k host x.id) || is_ready_comp k x) k.comps) (list_all (λ (e : Edge). not (on_way k host e.buffer) || is_ready_edge k e) k.edges) ready).0 in
       let y = member-found (λ (x : Comp). x.id) k.comps c (among-in (components k) c among) in
       let f = find-in (λ (x : Comp). x.id == c) k.comps y.0 y.1 in

@@ -14,6 +14,7 @@ use Rattle.host_widgets.specs.declared.answers.HostFault.{HostFault}
 use Rattle.host_widgets.specs.declared.kept.Power.{Power}
 use Rattle.host_widgets.specs.declared.kept.Power.TheVariants.{Unloaded, On, Off}
 use Rattle.host_widgets.specs.OneAct.{act_rules}
+use Rattle.host_widgets.proofs.OrderJobs.{order-done}
 use Rattle.host_widgets.specs.Host.{Outcome}
 use Rattle.host_widgets.specs.Orders.{Carried, unload_fault, unloading}
 use Rattle.host_widgets.proofs.LoadOrders.{unloading_at}
@@ -21,11 +22,12 @@ use Rattle.host_widgets.proofs.StandingOn.{StandsOn, stands-none, reads-of, cut-
 use Rattle.sof_script.specs.declared.script.Command.TheVariants as commands
 use Rattle.sof_session.specs.SessionView.{SessionView}
 use Rattle.sof_session.specs.SessionStep.{CommandDone}
-use Rattle.sof_session.specs.SessionCalls.{CallRan}
+use Rattle.sof_session.proofs.CallsRan.{CallRan}
 use Rattle.sof_session.specs.Commands.{answer_by, command_rules}
 use Rattle.sof_session.proofs.Agreement.{at, AgreeAtLoad}
 use Rattle.sof_session.proofs.FewMeetings.{few-meetings}
-use Rattle.sof_session.proofs.Stepping.{Standing, early-stepped, late-stepped, standing-by, stays-standing}
+use Rattle.sof_session.proofs.JobSteps.{early-done, late-done}
+use Rattle.sof_session.proofs.Stepping.{Standing, standing-by, stays-standing}
 
 module _ {P : Type 0} (means : Meaning P) (old new : SessionView P) (io io' : Io) (agreed : AgreeAtLoad means old) (few : old.link.sent < 2 ^ 63) (empty : drained io.outputs ≡ io.outputs) where
   abbrev w : World (Wire P)
@@ -60,9 +62,9 @@ module _ {P : Type 0} (means : Meaning P) (old new : SessionView P) (io io' : Io
       by : (test : Option HostFault) → unload_fault old.kept.power ≡ test → CommandDone means (command_rules old.plan old.heap) old.heap commands.Unload old.kept new.kept w v answer
       by (Some fault) is =
           let e = ran.tested.early fault is in
-          early-stepped means old.plan old.heap commands.Unload old.kept new.kept w v answer (λ doing known. refl) refl fault is (ran.said ∙ ap (answer_by Done) e.0) e.1 e.2 empty
+          early-done means (command_rules old.plan old.heap) old.heap commands.Unload old.kept new.kept w v answer (λ doing. refl) refl fault is (ran.said ∙ ap (answer_by Done) e.0) e.1 e.2 empty
       by None is =
           let c = ran.tested.late is in
           let fewer : old.link.sent + length c.meetings < 2 ^ 64 - 1 = omega (arith, few, few-meetings (link means) (act_rules old.plan old.heap) false [] c.meetings old.kept c.begun c.sent c.walked) in
-          late-stepped means old.plan old.heap commands.Unload old.kept new.kept w v answer (λ doing known. refl) refl is ran.outcome c agreed.pending agreed.fated fewer
+          late-done means (command_rules old.plan old.heap) old.heap commands.Unload old.kept new.kept w v answer (λ doing. refl) refl is ran.outcome (order-done (link means) old.plan old.heap (unloading old.plan old.kept) old.kept new.kept w v ran.outcome c) agreed.pending agreed.fated fewer
           ran.said (subst (Standing means w v) (sym (append-nil (moments_at old.kept.power))) (stands old.kept.power ran.outcome c))

@@ -1,5 +1,5 @@
--- How many messages a command sends at most where pipelines are made on use, and that none of its last moments is a boot.
-use Rattle.std.proofs.Common.{◌≡◌, refl, sym, ◌∙◌, subst, ℕ, ◌+◌, ◌≤◌, ◌-◌, ◌++◌, ◌==◌, length, map, filter, Bool, true, false, not, cond, List, [], ◌∷◌, Option, Some, None, Ok, Err, inl, inr, arith}
+-- How many messages a command sends at most where pipelines are made on use.
+use Rattle.std.proofs.Common.{◌≡◌, refl, sym, ◌∙◌, ℕ, ◌+◌, ◌≤◌, ◌-◌, ◌++◌, ◌==◌, length, map, filter, Bool, true, false, not, cond, List, [], ◌∷◌, Option, Some, None, Ok, Err, inl, inr, arith}
 use Rattle.std.specs.Option.{option_map_or, option_or}
 use Rattle.std.specs.List.{flat_map, zip}
 use Rattle.std.proofs.lemmas.Bool.{eqb-true, false≢true}
@@ -8,12 +8,11 @@ use Rattle.stream_law.specs.Order.{is_among}
 use Rattle.stream_law.specs.Ways.{buffers, components}
 use Rattle.stream_law.specs.declared.graph.Join.{Join}
 use Rattle.stream_law.specs.declared.graph.Pipe.{Pipe}
-use Rattle.stream_law.proofs.Members.{IsIn}
-use Rattle.mbox_link.specs.Meetings.{Meeting}
+use Rattle.stream_law.proofs.Members.{IsIn, filter-most}
 use Rattle.tplg_plan.specs.declared.plans.Plan.{Plan}
 use Rattle.tplg_plan.specs.Sound.{IsSound}
 use Rattle.host_widgets.specs.declared.answers.HostFault.{HostFault}
-use Rattle.host_widgets.specs.declared.answers.HostFault.TheVariants as faults
+use Rattle.host_widgets.specs.declared.answers.HostFault.TheVariants.{Refused}
 use Rattle.host_widgets.specs.declared.kept.Found.{Found}
 use Rattle.host_widgets.specs.declared.kept.Found.TheVariants as founds
 use Rattle.host_widgets.specs.declared.kept.Power.{Power}
@@ -26,11 +25,10 @@ use Rattle.host_widgets.specs.HostActs.{Act, Make, Finish, Unmake}
 use Rattle.host_widgets.specs.HostActs as acts
 use Rattle.host_widgets.specs.Orders.{Procedure}
 use Rattle.host_widgets.specs.Routines.{Routine}
-use Rattle.host_widgets.specs.Walk.{walk}
 use Rattle.host_widgets.proofs.FewJoins.{few-brought}
 use Rattle.host_widgets.specs.UpActs.{widgets_of, making_acts, pipe_ids, unmade_order, unmaking_acts}
 use Rattle.host_dynamic.specs.Dynamic.{plain_job, lacking, after_unmaking, unmade, after_making, opening_by, after_closing, closing_by, after_resuming, resuming_job, is_control_up, unsent, with_stream_shut, parting}
-use Rattle.host_widgets.specs.UpState.{UpState, up_act_rules}
+use Rattle.host_widgets.specs.UpState.{UpState}
 use Rattle.host_widgets.specs.There.{ids_there_of}
 use Rattle.host_widgets.specs.Need.{is_needed, need_in}
 use Rattle.host_widgets.specs.Up.{is_join_at, buffer_joins}
@@ -38,27 +36,15 @@ use Rattle.host_dynamic.specs.UpStates.{IsUpState}
 use Rattle.host_widgets.proofs.Sublists.{AreOnce, once-filter, distinct-once}
 use Rattle.sof_script.specs.declared.script.Command.{Command}
 use Rattle.sof_script.specs.declared.script.Command.TheVariants as commands
-use Rattle.sof_session.specs.CommandRanges.{most_sent}
-use Rattle.sof_session.specs.Commands.{order_of, is_plan}
+use Rattle.sof_session.specs.Commands.{order_of}
 use Rattle.sof_session.specs.CommandTests.{fault_of}
 use Rattle.sof_session.specs.UpCommands.{up_fault, up_job}
-use Rattle.sof_session.proofs.FewOrders.{few-order}
+use Rattle.sof_session.proofs.FewOrders.{few-most, few-tested}
 use Rattle.sof_session.proofs.ResumeSteps.{few-prepares}
 use Rattle.sof_session.proofs.PowerSteps.{few-streams}
 use Rattle.sof_session.proofs.RoutineNumbers.{SendsWithin}
-use Rattle.sof_session.proofs.SameNext.{due}
 use Rattle.host_widgets.specs.Groups.{is_control_of, finish_ids}
 use Rattle.host_widgets.specs.Indices.{pipe_indices, join_index}
-
--- ---- what passes a test is no more
-
-few-filter : {X : Type 0} (p : X → Bool) (xs : List X) → length (filter p xs) ≤ length xs
-few-filter p [] = omega arith
-few-filter {X} p (x ∷ xs) = by (p x) (few-filter p xs)
-  where
-    by : (b : Bool) → length (filter p xs) ≤ length xs → length (cond b (x ∷ filter p xs) (filter p xs)) ≤ length (x ∷ xs)
-    by true few = omega (arith, few)
-    by false few = omega (arith, few)
 
 few-flat : {X Y : Type 0} (f : X → List Y) (p : X → Bool) (xs : List X) → length (flat_map f (filter p xs)) ≤ length (flat_map f xs)
 few-flat f p [] = omega arith
@@ -130,7 +116,7 @@ module _ (plan : Plan) (sound : IsSound plan) where
       let widgets = few-listed (λ (i id : ℕ). (widget_words plan id).pipe == i) one-index (widget_ids plan) n once in
       let joins = few-listed (is_join_at plan.graph) one-buffer plan.graph.joins n once in
       let puts = few-flat control_acts (is_control_of plan n) (zip plan.controls kept.controls) in
-      let pipes = few-filter (λ (p : Pipe). is_among n p.index) plan.graph.pipes in
+      let pipes = filter-most (λ (p : Pipe). is_among n p.index) plan.graph.pipes in
       let a : List Act = map Make (widgets_of plan n) in
       let b : List Act = map (λ (j : Join). acts.Join j.source j.sink) (flat_map (buffer_joins plan.graph) n) in
       let c : List Act = flat_map control_acts (filter (is_control_of plan n) (zip plan.controls kept.controls)) in
@@ -167,7 +153,7 @@ module _ (plan : Plan) (sound : IsSound plan) where
       omega (
         arith,
         length-map (unmade_order plan.graph ids) Unmake,
-        few-filter (is_among ids) all,
+        filter-most (is_among ids) all,
         length-append (pipe_ids plan.graph) (buffers plan.graph ++ components plan.graph),
         length-append (buffers plan.graph) (components plan.graph),
         length-map plan.graph.pipes (λ p. p.id),
@@ -180,60 +166,54 @@ module _ (plan : Plan) (sound : IsSound plan) where
 
 -- ---- routines
 
-module _ (plan : Plan) (sound : IsSound plan) {Q : Type 0} (next : Q → Meeting × Q) where
-  abbrev Sends : ℕ → UpState → Q → Routine UpState Act → Type 0
-  Sends n s q routine = SendsWithin (up_act_rules plan) next n s q routine
+module _ (plan : Plan) (sound : IsSound plan) where
+  abbrev Sends : ℕ → Routine UpState Act → Type 0
+  Sends n routine = SendsWithin n routine
 
-  unmaking-ends : (done : UpState → UpState) (now : UpState) (q : Q) (n : ℕ) (o : Outcome) → Sends n now q (after_unmaking done now o)
-  unmaking-ends done now q n (Ok passed) = tt
-  unmaking-ends done now q n (Err fault) = tt
+  unmaking-ends : (done : UpState → UpState) (n : ℕ) (now : UpState) (o : Outcome) → Sends n (after_unmaking done now o)
+  unmaking-ends done n now (Ok passed) = tt
+  unmaking-ends done n now (Err fault) = tt
 
   -- what is unmade has no more than 288 ids
-  unmade-few : (ids : List ℕ) (done : UpState → UpState) (now : UpState) (q : Q) (n : ℕ) → 288 ≤ n → Sends n now q (unmade plan ids done now)
-  unmade-few ids done now q n most = (
-    omega (arith, most, few-unmaking plan sound (ids_there_of plan ids now.there)),
-    unmaking-ends done _ _ _ _,
-  )
+  unmade-few : (ids : List ℕ) (done : UpState → UpState) (now : UpState) (n : ℕ) → 288 ≤ n → Sends n (unmade plan ids done now)
+  unmade-few ids done now n most = (omega (arith, most, few-unmaking plan sound (ids_there_of plan ids now.there)), unmaking-ends done _)
 
-  making-ends : (host : ℕ) (ns : List ℕ) (now : UpState) (q : Q) (n : ℕ) → 288 ≤ n → (o : Outcome) → Sends n now q (after_making plan host ns now o)
-  making-ends host ns now q n most (Ok passed) = tt
-  making-ends host ns now q n most (Err (faults.Refused e)) = unmade-few ns (λ x. x) now q n most
-  making-ends host ns now q n most (Err fault) = tt
+  making-ends : (host : ℕ) (ns : List ℕ) (n : ℕ) → 288 ≤ n → (now : UpState) (o : Outcome) → Sends n (after_making plan host ns now o)
+  making-ends host ns n most now (Ok passed) = tt
+  making-ends host ns n most now (Err (Refused e)) = unmade-few ns (λ x. x) now n most
+  making-ends host ns n most now (Err fault) = tt
 
   lacking-once : (up : List ℕ) (host : ℕ) → AreOnce (lacking plan up host)
   lacking-once up host = once-filter (λ (i : ℕ). not (is_among up i)) (need_in plan.graph host) (once-filter (is_needed plan.graph host) (pipe_indices plan.graph) (distinct-once (pipe_indices plan.graph) sound.indices))
 
-  opening-few : (s : UpState) → IsRecordOf plan s.kept → (q : Q) (host : ℕ) (power : Power) → Sends 1200 s q (opening_by power plan host (lacking plan s.up host) s)
-  opening-few s is q host powers.On =
+  opening-few : (s : UpState) → IsRecordOf plan s.kept → (host : ℕ) (power : Power) → Sends 1200 (opening_by power plan host (lacking plan s.up host) s)
+  opening-few s is host powers.On =
       let ns = lacking plan s.up host in
       let made = few-making plan sound s.kept ns (lacking-once s.up host) is in
-      (omega (arith, made), making-ends host ns _ _ _ (omega (arith, made)) _)
-  opening-few s is q host powers.Off = tt
-  opening-few s is q host powers.Unloaded = tt
+      (omega (arith, made), making-ends host ns (1200 - length (making_acts plan s.kept ns)) (omega (arith, made)))
+  opening-few s is host power = tt
 
-  closing-ends : (host : ℕ) (now : UpState) (q : Q) (n : ℕ) → 288 ≤ n → (o : Outcome) → Sends n now q (after_closing plan host now o)
-  closing-ends host now q n most (Ok passed) = unmade-few (parting plan host now) (with_stream_shut plan host) now q n most
-  closing-ends host now q n most (Err (faults.Refused e)) = tt
-  closing-ends host now q n most (Err fault) = tt
+  closing-ends : (host n : ℕ) → 288 ≤ n → (now : UpState) (o : Outcome) → Sends n (after_closing plan host now o)
+  closing-ends host n most now (Ok passed) = unmade-few (parting plan host now) (with_stream_shut plan host) now n most
+  closing-ends host n most now (Err (Refused e)) = tt
+  closing-ends host n most now (Err fault) = tt
 
   few-close : (host : ℕ) (found : Found) → length (close_by host found) ≤ 2
   few-close host founds.Running = omega arith
+  few-close host founds.Paused = omega arith
+  few-close host founds.Prepared = omega arith
   few-close host found = omega arith
 
-  closing-few : (s : UpState) (q : Q) (host : ℕ) (found : Found) (power : Power) → Sends 1200 s q (closing_by power plan host found s)
-  closing-few s q host found powers.On =
-      let few = few-close host found in
-      let w = walk (up_act_rules plan) false next s q (close_by host found) in
-      (omega (arith, few), closing-ends host w.kept w.queue (1200 - length (close_by host found)) (omega (arith, few)) w.outcome)
-  closing-few s q host found powers.Off = tt
-  closing-few s q host found powers.Unloaded = tt
+  closing-few : (s : UpState) (host : ℕ) (found : Found) (power : Power) → Sends 1200 (closing_by power plan host found s)
+  closing-few s host found powers.On = let few = few-close host found in (omega (arith, few), closing-ends host (1200 - length (close_by host found)) (omega (arith, few)))
+  closing-few s host found power = tt
 
-  resuming-ends : (before now : UpState) (q : Q) (n : ℕ) (o : Outcome) → Sends n now q (after_resuming before now o)
-  resuming-ends before now q n (Ok passed) = tt
-  resuming-ends before now q n (Err fault) = tt
+  resuming-ends : (before : UpState) (n : ℕ) (now : UpState) (o : Outcome) → Sends n (after_resuming before now o)
+  resuming-ends before n now (Ok passed) = tt
+  resuming-ends before n now (Err fault) = tt
 
-  resuming-few : (heap : ℕ) (s : UpState) → IsUpState plan s → (q : Q) → Sends 1200 (resuming_job plan heap s).from q (resuming_job plan heap s).routine
-  resuming-few heap s is q =
+  resuming-few : (heap : ℕ) (s : UpState) → IsUpState plan s → Sends 1200 (resuming_job plan heap s).routine
+  resuming-few heap s is =
       let making = making_acts plan s.kept s.up in
       let prepares = flat_map prepare_acts (zip plan.streams s.kept.streams) in (
         omega (
@@ -243,16 +223,16 @@ module _ (plan : Plan) (sound : IsSound plan) {Q : Type 0} (next : Q → Meeting
           few-streams plan sound,
           length-append making prepares,
         ),
-        resuming-ends s _ _ _ _,
+        resuming-ends s _,
       )
 
   -- one that sends what the ordinary host does
-  plain-few : (s : UpState) (q : Q) (n : ℕ) (o : Procedure) → length o.acts ≤ n → Sends n s q (plain_job plan s o).routine
-  plain-few s q n o few = (omega (arith, few), tt)
+  plain-few : (s : UpState) (n : ℕ) (o : Procedure) → length o.acts ≤ n → Sends n (plain_job plan s o).routine
+  plain-few s n o few = (few, λ now outcome. tt)
 
-  control-few : (b : Bool) (s : UpState) (q : Q) (o : Procedure) → length o.acts ≤ 1200 → Sends 1200 s q (plain_job plan s (cond b o (unsent o))).routine
-  control-few true s q o few = plain-few s q 1200 o few
-  control-few false s q o few = plain-few s q 1200 (unsent o) (omega arith)
+  control-few : (b : Bool) (s : UpState) (o : Procedure) → length o.acts ≤ 1200 → Sends 1200 (plain_job plan s (cond b o (unsent o))).routine
+  control-few true s o few = plain-few s 1200 o few
+  control-few false s o few = plain-few s 1200 (unsent o) (omega arith)
 
 -- ---- commands
 
@@ -265,30 +245,27 @@ pub most-few : (command : Command) → up_most command ≤ 1200
 most-few (commands.Tick n) = omega arith
 most-few command = omega arith
 
-pub first-none : (a b : Option HostFault) → option_or a b ≡ None → a ≡ None
+first-none : (a b : Option HostFault) → option_or a b ≡ None → a ≡ None
 first-none None b none = refl
 first-none (Some fault) b none = absurd (cc none)
 
-module _ (plan : Plan) (sound : IsSound plan) (heap : ℕ) (s : UpState) (is : IsUpState plan s) {Q : Type 0} (next : Q → Meeting × Q) (q : Q) where
-  -- an ordinary order has few acts
-  order-few : (command : Command) → fault_of plan s.kept command ≡ None → length (order_of plan s.kept command).acts ≤ most_sent command
-  order-few command none = subst (λ (f : Option HostFault). length (due (order_of plan s.kept command) f) ≤ most_sent command) none (few-order plan sound command s.kept is.record_is)
+-- what passes the tests on use passes those of the record
+pub record-none : (plan : Plan) (s : UpState) (command : Command) → up_fault plan s command ≡ None → fault_of plan s.kept command ≡ None
+record-none plan s (commands.Read name) none = first-none _ _ none
+record-none plan s command none = none
 
-  pub up-few : (command : Command) → is_plan command ≡ false → up_fault plan s command ≡ None → SendsWithin (up_act_rules plan) next (up_most command) (up_job plan heap s command).from q (up_job plan heap s command).routine
-  up-few commands.Load plans none = tt
-  up-few commands.Unload plans none = tt
-  up-few commands.Resume plans none = resuming-few plan sound next heap s is q
-  up-few (commands.Open name) plans none = opening-few plan sound next s is.record_is q _ s.kept.power
-  up-few (commands.Close name) plans none = closing-few plan sound next s q _ _ s.kept.power
-  up-few (commands.Set name values) plans none =
-      let few = order-few (commands.Set name values) none in control-few plan sound next (is_control_up plan s.up name) s q (order_of plan s.kept (commands.Set name values)) (omega (arith, few))
-  up-few (commands.Bytes name blob) plans none =
-      let few = order-few (commands.Bytes name blob) none in control-few plan sound next (is_control_up plan s.up name) s q (order_of plan s.kept (commands.Bytes name blob)) (omega (arith, few))
-  up-few (commands.Read name) plans none = let few = order-few (commands.Read name) (first-none _ _ none) in plain-few plan sound next s q 1200 (order_of plan s.kept (commands.Read name)) (omega (arith, few))
-  up-few commands.Show plans none = plain-few plan sound next s q 1200 (order_of plan s.kept commands.Show) (omega arith)
-  up-few (commands.Tick n) plans none = plain-few plan sound next s q 0 (order_of plan s.kept (commands.Tick n)) (omega arith)
-  up-few (commands.Refuse k e) plans none = absurd (cc plans)
-  up-few (commands.Drop k) plans none = absurd (cc plans)
-  up-few (commands.Lose k) plans none = absurd (cc plans)
-  up-few (commands.Lag k ticks) plans none = absurd (cc plans)
-  up-few command plans none = let few = order-few command none in plain-few plan sound next s q 1200 (order_of plan s.kept command) (omega (arith, few))
+module _ (plan : Plan) (sound : IsSound plan) (heap : ℕ) (s : UpState) (is : IsUpState plan s) where
+  -- the ordinary order of a command has few acts
+  order-few : (command : Command) → up_fault plan s command ≡ None → length (order_of plan s.kept command).acts ≤ 1200
+  order-few command none = let few = few-tested plan sound command s.kept is.record_is (record-none plan s command none) in let most = few-most command in omega (arith, few, most)
+
+  pub up-few : (command : Command) → up_fault plan s command ≡ None → SendsWithin (up_most command) (up_job plan heap s command).routine
+  up-few commands.Load none = tt
+  up-few commands.Unload none = tt
+  up-few commands.Resume none = resuming-few plan sound heap s is
+  up-few (commands.Open name) none = opening-few plan sound s is.record_is _ s.kept.power
+  up-few (commands.Close name) none = closing-few plan sound s _ _ s.kept.power
+  up-few (commands.Set name values) none = control-few plan sound (is_control_up plan s.up name) s (order_of plan s.kept (commands.Set name values)) (order-few (commands.Set name values) none)
+  up-few (commands.Bytes name blob) none = control-few plan sound (is_control_up plan s.up name) s (order_of plan s.kept (commands.Bytes name blob)) (order-few (commands.Bytes name blob) none)
+  up-few (commands.Tick n) none = plain-few plan sound s 0 (order_of plan s.kept (commands.Tick n)) (omega arith)
+  up-few command none = plain-few plan sound s 1200 (order_of plan s.kept command) (order-few command none)

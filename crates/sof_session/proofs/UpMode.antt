@@ -1,9 +1,8 @@
 -- The mode in which pipelines are made on use keeps what written runs ask of a mode.
-use Rattle.std.proofs.Common.{◌≡◌, refl, sym, ap, ◌∙◌, subst, ℕ, List, [], Option, Some, None, true, false}
+use Rattle.std.proofs.Common.{◌≡◌, refl, sym, ap, ◌∙◌, subst, ℕ, List, [], Option, Some, None, true}
 use Rattle.std.specs.Prelude.{is_some, unwrap_or}
 use Rattle.std.proofs.lemmas.Bool.{false≢true}
 use Rattle.mbox_link.specs.Calls.{World, Meaning}
-use Rattle.mbox_link.specs.Meetings.{next_meeting}
 use Rattle.mbox_link.specs.Wire.{Wire}
 use Rattle.stream_law.specs.State.{FwState}
 use Rattle.tplg_plan.specs.declared.plans.Plan.{Plan}
@@ -24,8 +23,8 @@ use Rattle.sof_session.proofs.ModeLaws.{ModeLaws}
 use Rattle.sof_session.proofs.RoutineBoots.{inside-by, boots-by}
 use Rattle.sof_session.proofs.RoutineNumbers.{within-by, same-by}
 use Rattle.sof_session.proofs.UpFew.{up_most, most-few, up-few}
-use Rattle.sof_session.proofs.RoutineEnds.{up-none}
 use Rattle.sof_session.proofs.UpPaced.{up-paced}
+use Rattle.sof_session.proofs.UpPasses.{up-ends}
 
 module _ {P : Type 0} (means : Meaning P) where
   -- a session of this mode goes by its rules
@@ -77,9 +76,9 @@ module _ {P : Type 0} (means : Meaning P) where
     sees_first = λ p off. first-seen plan heap p off;
     stepped = up-stepped means;
     shows = shows-up;
-    within = λ known doing command is few. within-by (up_rules plan heap) known doing (up_most command) command (λ plans none doing'. up-few plan sound heap known.kept is (next_meeting doing') known.queue command plans none) few;
-    same = λ known d e command is few alike. same-by (up_rules plan heap) known d e (up_most command) command (λ plans none doing. up-few plan sound heap known.kept is (next_meeting doing) known.queue command plans none) few alike;
+    within = λ known doing command is few. within-by (up_rules plan heap) known doing (up_most command) command (λ plans none. up-few plan sound heap known.kept is command none) few;
+    same = λ known d e command is few alike. same-by (up_rules plan heap) known d e (up_most command) command (λ plans none. up-few plan sound heap known.kept is command none) few alike;
     inside = λ kept kept' w v answer command doing calls. inside-by means (up_rules plan heap) heap kept kept' w v answer command doing calls;
-    boots = λ kept kept' w v answer command doing calls. boots-by means (up_rules plan heap) heap kept kept' w v answer command doing calls (up-none plan heap kept command);
+    boots = λ kept kept' w v answer command doing calls. boots-by means (up_rules plan heap) heap kept kept' w v answer command doing calls (up-ends plan heap kept command);
     paced = λ known doing command is few. up-paced plan sound heap doing known is few command;
   }

@@ -3,7 +3,7 @@ use Rattle.std.proofs.Common.{◌≡◌, refl, sym, ap, ◌∙◌, subst, ℕ, z
 use Rattle.std.specs.Prelude.{ℤ, nat_le, option_map, option_and_then, if◌then◌else◌}
 use Rattle.std.specs.List.{list_all}
 use Rattle.std.specs.Option.{option_map_or}
-use Rattle.std.proofs.lemmas.Bool.{true≢false, false≢true, and_parts, and_from, or_right, eqb-true, eq-eqb, ne_eqb, leb-true, leb-false, false_from_ne_true}
+use Rattle.std.proofs.lemmas.Bool.{true≢false, false≢true, and_parts, and_from, or_right, eqb-true, eq-eqb, ne_eqb, leb-true, leb-false, false_from_ne_true, not-false}
 use Rattle.sof_base.specs.declared.format.Params.{Params}
 use Rattle.sof_base.specs.declared.part.Part.{Part as BlobPart}
 use Rattle.sof_base.specs.BlobFaults.{is_blob}
@@ -73,6 +73,7 @@ use Rattle.host_widgets.proofs.UpContext.{IsServing}
 use Rattle.host_widgets.proofs.UpStages.{StreamPair, stage_graph, up_stage}
 use Rattle.host_dynamic.proofs.UpStanding.{there-stage}
 use Rattle.host_widgets.specs.Indices.{is_up}
+use Rattle.host_widgets.proofs.RecordsStay.{none-left, none-right}
 
 -- ---- what a row that passed says
 
@@ -80,10 +81,6 @@ two-tests : (a b : Bool) (d e : ℤ) (left g : FwState) → ◌≡◌ {A = Resul
 two-tests true false d e left g is = (refl, cc is)
 two-tests true true d e left g is = absurd (cc is)
 two-tests false b d e left g is = absurd (cc is)
-
-not-false : (b : Bool) → not b ≡ false → b ≡ true
-not-false true is = refl
-not-false false is = absurd (true≢false is)
 
 -- of six that do not hold, the second, and the last
 six : (a b c d e h : Bool) → (a || b || c || d || e || h) ≡ false → (b ≡ false) × (h ≡ false)
@@ -175,14 +172,6 @@ module _ (f : FwState) (to : StreamView → StreamView) where
           (after_now changed_view None stood.past, refl, refl),
         )
 
-none-first : (o : Option Params) → same_shape None o ≡ true
-none-first None = refl
-none-first (Some p) = refl
-
-none-second : (o : Option Params) → same_shape o None ≡ true
-none-second None = refl
-none-second (Some p) = refl
-
 -- streams agree whose parameters stay, or go
 module _ (g : Graph) (to : StreamView → StreamView) (hosts : (s : StreamView) → (to s).host ≡ s.host) (params : (s : StreamView) → ((to s).params ≡ s.params) ⊎ ((to s).params ≡ None)) where
   fair : (x y : StreamView) → (not (touch g x.host y.host) || same_shape x.params y.params) ≡ true → (not (touch g (to x).host (to y).host) || same_shape (to x).params (to y).params) ≡ true
@@ -190,8 +179,8 @@ module _ (g : Graph) (to : StreamView → StreamView) (hosts : (s : StreamView) 
     where
       by : ((to x).params ≡ x.params) ⊎ ((to x).params ≡ None) → ((to y).params ≡ y.params) ⊎ ((to y).params ≡ None) → (not (touch g (to x).host (to y).host) || same_shape (to x).params (to y).params) ≡ true
       by (inl a) (inl b) = (λ i. not (touch g (hosts x i) (hosts y i)) || same_shape (a i) (b i)) ∙ is
-      by (inr a) b = or_right (not (touch g (to x).host (to y).host)) (same_shape (to x).params (to y).params) (ap (λ (o : Option Params). same_shape o (to y).params) a ∙ none-first (to y).params)
-      by (inl a) (inr b) = or_right (not (touch g (to x).host (to y).host)) (same_shape (to x).params (to y).params) (ap (λ (o : Option Params). same_shape (to x).params o) b ∙ none-second (to x).params)
+      by (inr a) b = or_right (not (touch g (to x).host (to y).host)) (same_shape (to x).params (to y).params) (ap (λ (o : Option Params). same_shape o (to y).params) a ∙ none-left (to y).params)
+      by (inl a) (inr b) = or_right (not (touch g (to x).host (to y).host)) (same_shape (to x).params (to y).params) (ap (λ (o : Option Params). same_shape (to x).params o) b ∙ none-right (to x).params)
 
   pub agree-less : (ss : List StreamView) → agree (record { graph = g; streams = ss }) ≡ true → agree (record { graph = g; streams = map to ss }) ≡ true
   unfolding agree

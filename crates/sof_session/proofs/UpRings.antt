@@ -1,5 +1,5 @@
 -- A device that is on has a ring for each buffer after a call, where it had one for each before it.
-use Rattle.std.proofs.Common.{◌≡◌, refl, sym, ap, ◌∙◌, subst, inl, inr, ℕ, zero, suc, ◌-◌, ◌==◌, Bool, true, false, not, cond, ◌||◌, ◌&&◌, List, [], ◌∷◌, map, Option, Some, None, Result, Ok, Err, ℤ}
+use Rattle.std.proofs.Common.{◌≡◌, refl, sym, ◌∙◌, subst, inl, inr, ℕ, zero, suc, ◌-◌, ◌==◌, Bool, true, false, not, cond, ◌||◌, ◌&&◌, List, [], ◌∷◌, map, Option, Some, None, Result, Ok, Err, ℤ}
 use Rattle.std.specs.Prelude.{is_some, option_and_then}
 use Rattle.sof_base.specs.declared.part.Part.{Part}
 use Rattle.sof_base.specs.BlobFaults.{is_blob}

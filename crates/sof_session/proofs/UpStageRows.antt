@@ -3,7 +3,7 @@ use Rattle.std.proofs.Common.{◌≡◌, refl, sym, ap, ◌∙◌, subst, ℕ, �
 use Rattle.std.specs.Prelude.{find, IsTrue}
 use Rattle.std.specs.List.{list_any, list_all}
 use Rattle.std.specs.Option.{option_map, option_and_then}
-use Rattle.std.proofs.lemmas.Bool.{true≢false, false≢true, or_parts, eq-eqb, ne_eqb, leb-true, leb-false}
+use Rattle.std.proofs.lemmas.Bool.{true≢false, or_parts, eq-eqb, ne_eqb, leb-true, leb-false, not-true}
 use Rattle.sof_base.specs.declared.format.Params.{Params}
 use Rattle.stream_law.specs.declared.graph.Comp.{Comp}
 use Rattle.stream_law.specs.declared.graph.Edge.{Edge}
@@ -58,17 +58,13 @@ none-found g x (s ∷ ss) still =
     let parts = or_parts (is_live_phase s.phase) (list_any (λ (t : StreamView). is_live_phase t.phase) ss) still in
     ap (λ (b : Bool). cond (b && on_way g s.host x) (Some s) (find (λ (t : StreamView). is_live_phase t.phase && on_way g t.host x) ss)) parts.0 ∙ none-found g x ss parts.1
 
-not-silent : (b : Bool) → not b ≡ true → b ≡ false
-not-silent true is = absurd (false≢true is)
-not-silent false is = refl
-
 -- two views in which nothing is Live have one life
 silent-life : (v w : View) → IsTrue (is_silent v) → IsTrue (is_silent w) → SameLife v w
 silent-life v w first second = record {
   lives = λ x. silent-dead v x first ∙ sym (silent-dead w x second);
   flowing = λ b. silent-flows v b first ∙ sym (silent-flows w b second);
-  params = λ x. ap (option_and_then (λ (s : StreamView). s.params)) (none-found v.graph x v.streams (not-silent (list_any (λ (s : StreamView). is_live_phase s.phase) v.streams) first)
-      ∙ sym (none-found w.graph x w.streams (not-silent (list_any (λ (s : StreamView). is_live_phase s.phase) w.streams) second)));
+  params = λ x. ap (option_and_then (λ (s : StreamView). s.params)) (none-found v.graph x v.streams (not-true (list_any (λ (s : StreamView). is_live_phase s.phase) v.streams) first)
+      ∙ sym (none-found w.graph x w.streams (not-true (list_any (λ (s : StreamView). is_live_phase s.phase) w.streams) second)));
   comps = λ c is. absurd (true≢false (sym is ∙ silent-dead w c second));
   edges = λ b is. absurd (true≢false (sym is ∙ silent-dead w b second));
 }

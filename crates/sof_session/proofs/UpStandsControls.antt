@@ -56,7 +56,8 @@ use Rattle.host_widgets.proofs.UpStages.{IsStage, at_stage, index_of_id, up_stag
 use Rattle.host_dynamic.proofs.UpStanding.{there-stage, stage-there}
 use Rattle.host_widgets.proofs.UpWalks.{Steps}
 use Rattle.sof_session.proofs.UpPlainRows.{IsPlainly}
-use Rattle.sof_session.proofs.UpStandsLists.{PlaysAtStages, RowsAtStages, all-mapped}
+use Rattle.sof_session.proofs.OrderActs.{all-each}
+use Rattle.sof_session.proofs.UpStandsLists.{PlaysAtStages, RowsAtStages}
 use Rattle.sof_session.proofs.UpStandsJobs.{PlainRows, IsThereSo, EndsThereSo, so-there}
 use Rattle.sof_session.proofs.UpStandsStreams.{Leads, sends-lead, unsent-leads}
 use Rattle.host_widgets.specs.Indices.{is_up}
@@ -196,7 +197,7 @@ module _ (plan : Plan) (sound : IsSound plan) (plays : PlaysAtStages plan) (stag
         where
           by : (b : Bool) → is_up plan.graph s.up k.comp ≡ b → LeadsSo (plain_job plan s (if b then bytes_order_at plan s.kept k.comp blob else unsent (bytes_order_at plan s.kept k.comp blob)))
           by true e = sends-lead plan sound plays stage-rows plain-rows heap device s is there_is on_device (part_acts k.comp blob) install answers.Done (λ on. record {
-            plainly = all-mapped IsPlainly (Part k.comp blob) (part_numbers blob) (λ j. tt);
+            plainly = all-each IsPlainly (Part k.comp blob) (λ j. tt) (part_numbers blob);
             answered = install-answered plan sound s is on i low (sym up-is ∙ e) blob may;
             loose = loose-parts;
             steps = all-steps on (sym up-is ∙ e);
@@ -217,7 +218,7 @@ module _ (plan : Plan) (sound : IsSound plan) (plays : PlaysAtStages plan) (stag
     asked-steps on kind = asks-steps on (0 ∷ [])
 
     plain-asks : (kind : ControlKind) → AllByRecursion IsPlainly (ask_acts k.comp kind r)
-    plain-asks (Blob most initial) = all-mapped IsPlainly (Ask k.comp) (part_numbers r.blob) (λ j. tt)
+    plain-asks (Blob most initial) = all-each IsPlainly (Ask k.comp) (λ j. tt) (part_numbers r.blob)
     plain-asks kind = (tt, tt)
 
     loose-asks : (kind : ControlKind) (f : FwState) → StagedFirst (ask_acts k.comp kind r) f

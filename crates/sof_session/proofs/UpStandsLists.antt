@@ -34,19 +34,20 @@ use Rattle.host_widgets.specs.Up.{buffer_joins, is_join_at}
 use Rattle.host_widgets.proofs.Needs.{flat-in, in-among}
 use Rattle.host_widgets.proofs.RowsTold.{told}
 use Rattle.host_widgets.proofs.StagePrepares.{up-amid}
-use Rattle.host_widgets.proofs.Sublists.{filter-append, filter-all, filter-none, flat-append, AreOnce}
+use Rattle.host_widgets.proofs.Sublists.{filter-append, filter-all, filter-none, AreOnce}
 use Rattle.host_widgets.proofs.UpContext.{IsServing, AreApart, among-both, join-at}
 use Rattle.host_widgets.proofs.UpExchanges.{SaysSo}
 use Rattle.host_widgets.proofs.UpMaking.{makes-up, makes-answered}
 use Rattle.host_widgets.proofs.UpSending.{AreAnswered}
 use Rattle.host_widgets.proofs.UpStages.{Stage, stage_graph, stage_streams, IsStage, index_of_id, is_join_of, up_stage, IsAmid}
-use Rattle.host_dynamic.proofs.UpUnmaking.{unmakes-answered}
+use Rattle.host_dynamic.proofs.UpUnmaking.{unmakes-amid, unmakes-answered}
 use Rattle.host_widgets.proofs.UpWalks.{Runs, with_there}
 use Rattle.sof_session.proofs.UpStageRows.{Builds}
 use Rattle.sof_session.proofs.UpStandsWalks.{AreLed}
-use Rattle.sof_session.proofs.UpUnmakeStages.{unmakes-amid}
 use Rattle.host_widgets.specs.ActMessages.{act_message}
 use Rattle.host_widgets.specs.Groups.{is_control_of, finish_ids}
+use Rattle.std.proofs.lemmas.Grind.{flat_map-append}
+use Rattle.host_widgets.proofs.BuildingActs.{all-both, all-flat, all-mapped}
 
 -- each stream may have the parameters that it has
 abbrev pub AllMay : Record → Type 0
@@ -66,18 +67,6 @@ RowsAtStages plan = (kept : Record) (up n : List ℕ) → IsServing plan kept up
     LeadsOn (Some f) (Some g) (Now (there_view (there_in g)) (fresh_in plan act) ∷ [])
 
 -- ---- lists
-
-pub all-both : {X : Type 0} (P : X → Type 0) (xs ys : List X) → AllByRecursion P xs → AllByRecursion P ys → AllByRecursion P (xs ++ ys)
-all-both P [] ys first second = second
-all-both P (x ∷ xs) ys first second = (first.0, all-both P xs ys first.1 second)
-
-pub all-mapped : {X Y : Type 0} (P : Y → Type 0) (f : X → Y) (xs : List X) → ((x : X) → P (f x)) → AllByRecursion P (map f xs)
-all-mapped P f [] each = tt
-all-mapped P f (x ∷ xs) each = (each x, all-mapped P f xs each)
-
-pub all-flat : {X Y : Type 0} (P : Y → Type 0) (f : X → List Y) (xs : List X) → ((x : X) → AllByRecursion P (f x)) → AllByRecursion P (flat_map f xs)
-all-flat P f [] each = tt
-all-flat P f (x ∷ xs) each = all-both P (f x) (flat_map f xs) (each x) (all-flat P f xs each)
 
 -- what the firmware does is what the rules say
 pub row-takes : (plan : Plan) (u : UpState) (act : Act) (f g : FwState) → SaysSo plan u act (up_own plan u act) (told (row f (act_message plan act))) → up_own plan u act ≡ None → row f (act_message plan act) ≡ Ok g → there_in g ≡ there_after plan act u.there
@@ -142,7 +131,7 @@ module _ (plan : Plan) (plays : PlaysAtStages plan) (rows : RowsAtStages plan) w
           only = λ id is. sym (among-both up n (index_of_id plan id)) ∙ is;
           joins = a.joins;
           rest =
-              ap (filter (is_join_of plan.graph up)) (flat-append (buffer_joins plan.graph) up n)
+              ap (filter (is_join_of plan.graph up)) (flat_map-append (buffer_joins plan.graph) up n)
               ∙ filter-append (is_join_of plan.graph up) (flat_map (buffer_joins plan.graph) up) (flat_map (buffer_joins plan.graph) n)
               ∙ (λ i. filter-all (is_join_of plan.graph up) (flat_map (buffer_joins plan.graph) up) (each true up (λ k there. in-among up k there) (flat_map (buffer_joins plan.graph) up) (λ j there. there)) i
               ++ filter-none (is_join_of plan.graph up) (flat_map (buffer_joins plan.graph) n) (each false n (λ k there. apart k (in-among n k there)) (flat_map (buffer_joins plan.graph) n) (λ j there. there)) i)

@@ -1,5 +1,5 @@
 -- A resume leads on: all that is up is made as if each stream were closed, and then each prepared stream has its parameters again.
-use Rattle.std.proofs.Common.{◌≡◌, refl, sym, ap, ◌∙◌, subst, ℕ, Bool, true, false, not, List, [], ◌∷◌, ◌++◌, map, filter, inl, inr, ◌⊎◌, ◌&&◌, Some, None, Ok, Err, append_assoc}
+use Rattle.std.proofs.Common.{◌≡◌, refl, sym, ap, ◌∙◌, subst, ℕ, Bool, true, false, not, List, [], ◌∷◌, ◌++◌, map, filter, inl, inr, ◌⊎◌, ◌&&◌, Some, None, Ok, Err}
 use Rattle.std.specs.Prelude.{Option, IsTrue}
 use Rattle.std.specs.List.{zip, flat_map, list_any, list_all, AllByRecursion}
 use Rattle.std.proofs.lemmas.Bool.{true≢false, false≢true, false_from_ne_true}
@@ -19,15 +19,14 @@ use Rattle.tplg_plan.specs.declared.plans.Plan.{Plan}
 use Rattle.tplg_plan.specs.declared.plans.StreamPlan.{StreamPlan}
 use Rattle.tplg_plan.specs.Sound.{IsSound}
 use Rattle.host_widgets.specs.declared.answers.HostFault.TheVariants as faults
-use Rattle.host_widgets.specs.declared.kept.Found.{Found}
 use Rattle.host_widgets.specs.declared.kept.Found.TheVariants as founds
 use Rattle.host_widgets.specs.declared.kept.Power.TheVariants as powers
 use Rattle.host_widgets.specs.declared.kept.Record.{Record}
 use Rattle.host_widgets.specs.declared.kept.StreamRec.{StreamRec}
 use Rattle.host_widgets.specs.ActCalls.{next_of}
-use Rattle.host_widgets.specs.ActLists.{prepare_acts, prepare_by}
+use Rattle.host_widgets.specs.ActLists.{prepare_acts}
 use Rattle.host_widgets.specs.ActMessages.{act_message}
-use Rattle.host_widgets.specs.Expected.{stream_view, phase_of}
+use Rattle.host_widgets.specs.Expected.{stream_view}
 use Rattle.host_widgets.specs.Host.{Outcome}
 use Rattle.host_widgets.specs.HostActs.{Act, Prepare}
 use Rattle.host_widgets.specs.HostRecord.{closed, may_have}
@@ -40,17 +39,19 @@ use Rattle.host_widgets.specs.There.{There, there_in, there_view, there_after, b
 use Rattle.host_dynamic.specs.Dynamic.{after_resuming, resuming_job}
 use Rattle.host_widgets.specs.UpState.{UpState, up_act_rules}
 use Rattle.host_dynamic.specs.UpStates.{IsUpState}
-use Rattle.host_widgets.proofs.Needs.{in-left, in-right, in-either}
+use Rattle.host_widgets.proofs.Needs.{in-left, in-either}
 use Rattle.host_widgets.proofs.StageStays.{from-map}
 use Rattle.host_widgets.proofs.UpContext.{IsServing}
-use Rattle.host_dynamic.proofs.UpLoading.{empty-stage}
+use Rattle.host_widgets.proofs.RestedRecords.{empty-stage}
 use Rattle.host_widgets.proofs.UpMaking.{IsMaking, makes-up}
-use Rattle.host_dynamic.proofs.UpResuming.{LeavesStreams, making-leaves, other, over, kept-over, own-over, prepares-loose, none-closed, none-open, serves, brought, amid, rested, bare, bare-serves, bare_at, apart, once, Made, left, partly, partly-in, some-agree, still, may-be, stays-idle, rest-shown, next-in, prepared-there, own-prepared, kept-same, real, resuming-loose}
+use Rattle.host_pm.proofs.ParamsAgain.{at_part, left, partly, partly-in, some-agree, still, next-in, prepared-there, own-prepared, kept-same, part-by-part-from, prepares-loose, rest-at}
+use Rattle.host_dynamic.proofs.UpResuming.{LeavesStreams, making-leaves, other, over, kept-over, own-over, serves, brought, resting, rested, bare, bare-serves, bare_at, apart, once, Made, real, resuming-loose}
 use Rattle.host_widgets.proofs.UpSending.{StagedFirst}
 use Rattle.host_widgets.proofs.UpStages.{StreamPair, stage_graph, stage_streams, IsStage, up_stage}
 use Rattle.host_widgets.proofs.UpWalks.{Runs}
 use Rattle.sof_session.proofs.UpStandsWalks.{AreLed, RowLeads, LeadsBy, IsCutThen, LeadsOver}
 use Rattle.sof_session.proofs.UpStandsLists.{PlaysAtStages, RowsAtStages, row-takes, making-led}
+use Rattle.host_widgets.proofs.StagePrepares.{up-amid}
 
 -- parameters that are given again while nothing is Live leave what stood standing
 abbrev pub QuietRows : Plan → Type 0
@@ -116,86 +117,72 @@ module _ (plan : Plan) (sound : IsSound plan) (s : UpState) (is : IsUpState plan
   k = stage_graph plan s.kept (up_stage plan s.up)
 
   abbrev some_of : List StreamPair → List StreamPair → List StreamView
-  some_of done rest = partly plan sound s is off done rest
+  some_of done rest = partly plan sound s.kept s.up (up_stage plan s.up) (resting plan sound s is off) done rest
 
   -- none of the streams moves
   some-still : (done rest : List StreamPair) → ((p : StreamPair) → IsIn p done → IsIn p ps) → (v : StreamView) → IsIn v (some_of done rest) → is_live_phase v.phase ≡ false
   some-still done rest within v there = by (in-either (map stream_view (filter left_now done)) (map (λ (q : StreamPair). idle_view q.0.host) (filter left_now rest)) v there)
     where
       left_now : StreamPair → Bool
-      left_now = left plan sound s is off
+      left_now = left plan sound s.kept s.up (up_stage plan s.up) (resting plan sound s is off)
 
       by : IsIn v (map stream_view (filter left_now done)) ⊎ IsIn v (map (λ (q : StreamPair). idle_view q.0.host) (filter left_now rest)) → is_live_phase v.phase ≡ false
-      by (inl a) = let r = from-map stream_view (filter left_now done) v a in ap (λ (x : StreamView). is_live_phase x.phase) r.2 ∙ still plan sound s is off r.0 (within r.0 (kept-in left_now done r.0 r.1).0)
+      by (inl a) = let r = from-map stream_view (filter left_now done) v a in ap (λ (x : StreamView). is_live_phase x.phase) r.2 ∙ still plan sound s.kept s.up (up_stage plan s.up) (resting plan sound s is off) r.0 (within r.0 (kept-in left_now done r.0 r.1).0)
       by (inr b) = let r = from-map (λ (q : StreamPair). idle_view q.0.host) (filter left_now rest) v b in ap (λ (x : StreamView). is_live_phase x.phase) r.2
 
   whole-plays : IsPlayable (record { graph = k; streams = stage_streams plan s.kept (up_stage plan s.up) })
-  whole-plays = plays s.kept s.up [] (serves plan sound s is off) is.record_is.each (up_stage plan s.up) (amid plan sound s is off)
+  whole-plays = plays s.kept s.up [] (serves plan sound s is off) is.record_is.each (up_stage plan s.up) (up-amid plan sound s.up (brought plan sound s is off))
 
   module _ (h : HeapView) where
-    abbrev at_part : List StreamPair → List StreamPair → There
-    at_part done rest = record { heap = h; graph = k; streams = some_of done rest }
+    abbrev now_at : List StreamPair → List StreamPair → There
+    now_at done rest = at_part plan sound s.kept s.up (up_stage plan s.up) (resting plan sound s is off) h done rest
 
-    part-plays : (done rest : List StreamPair) → ((p : StreamPair) → IsIn p done → IsIn p ps) → (t : There) → t ≡ at_part done rest → IsPlayable (there_view t)
+    part-plays : (done rest : List StreamPair) → ((p : StreamPair) → IsIn p done → IsIn p ps) → (t : There) → t ≡ now_at done rest → IsPlayable (there_view t)
     part-plays done rest within t at =
         subst IsPlayable (sym (ap there_view at)) (quiet-plays (stage_graph plan s.kept (up_stage plan s.up)) (stage_streams plan s.kept (up_stage plan s.up)) (some_of done rest) whole-plays (some-still done rest within))
 
-    part-silent : (done rest : List StreamPair) → ((p : StreamPair) → IsIn p done → IsIn p ps) → (f : FwState) → there_in f ≡ at_part done rest → IsTrue (is_silent (view_of f))
-    part-silent done rest within f at = subst (λ (t : There). IsTrue (is_silent (there_view t))) (sym at) (is-quiet (there_view (at_part done rest)) (some-still done rest within))
+    part-silent : (done rest : List StreamPair) → ((p : StreamPair) → IsIn p done → IsIn p ps) → (f : FwState) → there_in f ≡ now_at done rest → IsTrue (is_silent (view_of f))
+    part-silent done rest within f at = subst (λ (t : There). IsTrue (is_silent (there_view t))) (sym at) (is-quiet (there_view (now_at done rest)) (some-still done rest within))
 
-    part-agrees : (done rest : List StreamPair) → ((p : StreamPair) → IsIn p done → IsIn p ps) → (f : FwState) → there_in f ≡ at_part done rest → agree (view_of f) ≡ true
-    part-agrees done rest within f at = ap (λ (t : There). agree (there_view t)) at ∙ some-agree plan sound s is off (some_of done rest) (partly-in plan sound s is off done rest within)
+    part-agrees : (done rest : List StreamPair) → ((p : StreamPair) → IsIn p done → IsIn p ps) → (f : FwState) → there_in f ≡ now_at done rest → agree (view_of f) ≡ true
+    part-agrees done rest within f at = ap (λ (t : There). agree (there_view t)) at ∙ some-agree plan sound s.kept s.up (up_stage plan s.up) (resting plan sound s is off) (some_of done rest) (partly-in plan sound s.kept s.up (up_stage plan s.up) (resting plan sound s is off) done rest within)
 
-    abbrev Next : List StreamPair → List StreamPair → StreamPair → Type 0
-    Next done rest q = (x : There) → x ≡ at_part (done ++ q ∷ []) rest → AreLed plan false (real plan sound s is off x) (flat_map prepare_acts rest)
+    abbrev IsLed : There → List Act → Type 0
+    IsLed t acts = AreLed plan false (real plan sound s is off t) acts
 
-    prepares-led : (done rest : List StreamPair) (t : There) → zip plan.streams s.kept.streams ≡ done ++ rest → t ≡ at_part done rest → AreLed plan false (real plan sound s is off t) (flat_map prepare_acts rest)
-    prepares-led done [] t cut at = tt
-    prepares-led done (q ∷ rest) t cut at = by q.1.found q.1.params refl refl (λ x x_at. prepares-led (done ++ q ∷ []) rest x (cut ∙ sym (append_assoc done (q ∷ []) rest)) x_at)
+    one-led : (done rest : List StreamPair) (q : StreamPair) (cut : zip plan.streams s.kept.streams ≡ done ++ q ∷ rest) (params : Params) (found_is : q.1.found ≡ founds.Prepared) (params_are : q.1.params ≡ Some params) → IsLed (now_at (done ++ q ∷ []) rest) (flat_map prepare_acts rest) →
+        IsLed (now_at done (q ∷ rest)) (Prepare q.0.host params ∷ flat_map prepare_acts rest)
+    one-led done rest q cut params e p more = (
+      part-plays done (q ∷ rest) within (now_at done (q ∷ rest)) refl,
+      λ f g same staged free passed.
+          (let taken : there_in g ≡ there_after plan (Prepare q.0.host params) (now_at done (q ∷ rest)) = row-takes plan (real plan sound s is off (now_at done (q ∷ rest))) (Prepare q.0.host params) f g (own-prepared plan sound s.kept s.up (up_stage plan s.up) (resting plan sound s is off) done rest q cut params e p h f same) free passed in
+          let now : there_in g ≡ now_at (done ++ q ∷ []) rest = taken ∙ next-at in
+          record {
+            there = taken;
+            leads = subst (λ (x : There). LeadsOn (Some f) (Some g) (Now (there_view x) None ∷ [])) taken
+                (quiet-rows q.0.host params f g (part-silent done (q ∷ rest) within f same) (part-silent (done ++ q ∷ []) rest within-then g now) (part-agrees (done ++ q ∷ []) rest within-then g now) passed);
+            staged = prepares-loose rest g;
+          }),
+      λ free.
+          subst (λ (kept : Record). AreLed plan false (record { kept = kept; up = s.up; there = there_after plan (Prepare q.0.host params) (now_at done (q ∷ rest)) }) (flat_map prepare_acts rest)) (sym (kept-same plan sound s.kept s.up (up_stage plan s.up) (resting plan sound s is off) done rest q cut params e p))
+          (subst (λ (x : There). IsLed x (flat_map prepare_acts rest)) (sym next-at) more),
+      λ on. absurd (false≢true on),
+    )
       where
-        q-there : IsIn q ps
-        q-there = subst (IsIn q) (sym cut) (in-right done (q ∷ rest) q (inl refl))
+        within : (x : StreamPair) → IsIn x done → IsIn x ps
+        within x there = subst (IsIn x) (sym cut) (in-left done (q ∷ rest) x there)
 
-        within : (p : StreamPair) → IsIn p done → IsIn p ps
-        within p there = subst (IsIn p) (sym cut) (in-left done (q ∷ rest) p there)
+        within-then : (x : StreamPair) → IsIn x (done ++ q ∷ []) → IsIn x ps
+        within-then = next-in plan sound s.kept s.up (up_stage plan s.up) (resting plan sound s is off) done rest q cut params e p
 
-        idly : (f : Found) → q.1.found ≡ f → phase_of f ≡ phases.Idle → ((o : Option Params) → may_have f o ≡ true → o ≡ None) → Next done rest q → AreLed plan false (real plan sound s is off t) (flat_map prepare_acts rest)
-        idly f e at_rest none go =
-            let same : stream_view q ≡ idle_view q.0.host = λ i. record { host = q.0.host; phase = (ap phase_of e ∙ at_rest) i; params = none q.1.params (ap (λ (x : Found). may_have x q.1.params) (sym e) ∙ may-be plan sound s is off q q-there) i } in
-            go t (at ∙ (λ i. record { heap = h; graph = k; streams = stays-idle plan sound s is off done rest q same i }))
+        next-at : there_after plan (Prepare q.0.host params) (now_at done (q ∷ rest)) ≡ now_at (done ++ q ∷ []) rest
+        next-at = prepared-there plan sound s.kept s.up (up_stage plan s.up) (resting plan sound s is off) done rest q cut params e p h
 
-        by : (f : Found) (o : Option Params) → q.1.found ≡ f → q.1.params ≡ o → Next done rest q → AreLed plan false (real plan sound s is off t) (prepare_by q.0.host f o ++ flat_map prepare_acts rest)
-        by founds.Prepared (Some params) e p go = (
-          part-plays done (q ∷ rest) within t at,
-          λ f g same staged free passed.
-              (let taken : there_in g ≡ there_after plan (Prepare q.0.host params) t = row-takes plan (real plan sound s is off t) (Prepare q.0.host params) f g (own-prepared plan sound s is off done rest q cut params e p h t at f same) free passed in
-              let now : there_in g ≡ at_part (done ++ q ∷ []) rest = taken ∙ next-at in
-              record {
-                there = taken;
-                leads = subst (λ (x : There). LeadsOn (Some f) (Some g) (Now (there_view x) None ∷ [])) taken
-                    (quiet-rows q.0.host params f g (part-silent done (q ∷ rest) within f (same ∙ at)) (part-silent (done ++ q ∷ []) rest within-then g now) (part-agrees (done ++ q ∷ []) rest within-then g now) passed);
-                staged = prepares-loose rest g;
-              }),
-          λ free.
-              subst (λ (kept : Record). AreLed plan false (record { kept = kept; up = s.up; there = there_after plan (Prepare q.0.host params) t }) (flat_map prepare_acts rest)) (sym (kept-same plan sound s is off done rest q cut params e p))
-              (go (there_after plan (Prepare q.0.host params) t) next-at),
-          λ on. absurd (false≢true on),
-        )
-          where
-            within-then : (x : StreamPair) → IsIn x (done ++ q ∷ []) → IsIn x ps
-            within-then = next-in plan sound s is off done rest q cut params e p
-
-            next-at : there_after plan (Prepare q.0.host params) t ≡ at_part (done ++ q ∷ []) rest
-            next-at = ap (there_after plan (Prepare q.0.host params)) at ∙ prepared-there plan sound s is off done rest q cut params e p h
-        by founds.Prepared None e p go = absurd (false≢true ((λ i. may_have (sym e i) (sym p i)) ∙ may-be plan sound s is off q q-there))
-        by founds.Closed o e p go = idly founds.Closed e refl none-closed go
-        by founds.Open o e p go = idly founds.Open e refl none-open go
-        by founds.Running o e p go = absurd (true≢false (ap (λ (x : Found). is_live_phase (phase_of x)) (sym e) ∙ still plan sound s is off q q-there))
-        by founds.Paused o e p go = absurd (true≢false (ap (λ (x : Found). is_live_phase (phase_of x)) (sym e) ∙ still plan sound s is off q q-there))
-        by founds.On o e p go = absurd (false≢true (ap (λ (x : Found). may_have x q.1.params) (sym e) ∙ may-be plan sound s is off q q-there))
+    prepares-led : IsLed (now_at [] (zip plan.streams s.kept.streams)) (flat_map prepare_acts (zip plan.streams s.kept.streams))
+    prepares-led = part-by-part-from plan sound s.kept s.up (up_stage plan s.up) (resting plan sound s is off) h IsLed tt one-led
 
   ready-led : (t : There) → Made plan sound s is off t → AreLed plan false (real plan sound s is off t) (flat_map prepare_acts (zip plan.streams s.kept.streams))
-  ready-led t at = prepares-led t.heap [] ps t refl (at.is ∙ (λ i. record { heap = t.heap; graph = k; streams = rest-shown plan sound s is off plan.streams s.kept.streams is.record_is.streams i }))
+  ready-led t at = subst (λ (x : There). IsLed t.heap x (flat_map prepare_acts (zip plan.streams s.kept.streams))) (sym (at.is ∙ rest-at plan sound s.kept s.up (up_stage plan s.up) (resting plan sound s is off) t.heap)) (prepares-led t.heap)
 
   -- each stream may have no parameters
   all-closed : (ss : List StreamPlan) → list_all (λ (r : StreamRec). may_have r.found r.params) (map (λ (x : StreamPlan). closed) ss) ≡ true
@@ -217,7 +204,7 @@ module _ (plan : Plan) (sound : IsSound plan) (s : UpState) (is : IsUpState plan
       bare-now-serves = bare-serves plan sound s is off
 
       begun : IsStage plan (bare plan sound s is off) (up_stage plan []) (booted heap)
-      begun = empty-stage plan sound (bare plan sound s is off) heap
+      begun = empty-stage plan (bare plan sound s is off) heap
 
   -- it ends once all passed, or the device is cut
   resuming-ends : (now : UpState) (o : Outcome) → ByLink o (LeadsBy plan now (after_resuming s now o)) (IsCutThen (after_resuming s now o))

@@ -1,9 +1,9 @@
 -- Acts of a host that makes pipelines on use, over any device, one after another and routine by routine: what is there goes on to be what
 -- is kept of it, and what stood goes on standing.
 use Rattle.std.proofs.Common.{◌≡◌, inl, inr, ◌⊎◌, ⊎_elim, refl, sym, ap, ◌∙◌, subst, ℕ, ◌-◌, Bool, true, false, List, [], ◌∷◌, ◌++◌, Some, None, Ok, Err, replicate, append-nil}
-use Rattle.std.specs.Prelude.{Option, find, ◌==◌}
+use Rattle.std.specs.Prelude.{Option}
 use Rattle.sof_base.specs.Ports.{Io}
-use Rattle.stream_law.specs.State.{FwState, Staging, view_of}
+use Rattle.stream_law.specs.State.{FwState, view_of}
 use Rattle.stream_law.specs.Past.{Moment, Boot, Cut, Now, Tick, new_life}
 use Rattle.stream_law.specs.InputsRead.{Reads}
 use Rattle.stream_law.specs.Viewing.{IsPlayable}
@@ -16,7 +16,7 @@ use Rattle.mbox_link.specs.Meetings.{Meeting}
 use Rattle.tplg_plan.specs.declared.plans.Plan.{Plan}
 use Rattle.host_widgets.specs.declared.answers.HostFault.TheVariants.{Refused, LinkDown}
 use Rattle.host_widgets.specs.Host.{Outcome, verdict, errno}
-use Rattle.host_widgets.specs.HostActs.{Part, Act, fresh_in}
+use Rattle.host_widgets.specs.HostActs.{Act, fresh_in}
 use Rattle.host_widgets.specs.OneAct.{Performed, performed, lag_of, outcome_by}
 use Rattle.host_widgets.specs.Walk.{Walked, walk, followed_by, goes_past, first_of}
 use Rattle.host_widgets.specs.ActCalls.{ActDid, ActsDid, Onwards, next_of, calls_of, came_to}
@@ -29,7 +29,7 @@ use Rattle.host_widgets.proofs.DonePasses.{done-passes}
 use Rattle.host_widgets.specs.There.{there_in, there_view, there_after, booted}
 use Rattle.host_widgets.specs.UpState.{UpState, up_own, up_act_rules}
 use Rattle.host_widgets.proofs.UpExchanges.{ticks-there}
-use Rattle.host_widgets.proofs.UpSending.{Staged, StagedFirst}
+use Rattle.host_widgets.proofs.UpSending.{Staged, StagedFirst, staged-still}
 use Rattle.host_widgets.proofs.UpWalks.{passed-free}
 use Rattle.sof_session.proofs.JobWalks.{walk-front}
 use Rattle.host_widgets.specs.ActMessages.{act_message}
@@ -52,10 +52,6 @@ module _ (plan : Plan) (goes_on : Bool) where
       × ((f g : FwState) → there_in f ≡ u.there → Staged act f → up_own plan u act ≡ None → row f (act_message plan act) ≡ Ok g → RowLeads u act acts g f)
       × (up_own plan u act ≡ None → AreLed ((up_act_rules plan).after act u) acts)
       × (goes_on ≡ true → ((f : FwState) → Staged act f → StagedFirst acts f) × AreLed u acts)
-
-staged-still : (act : Act) (f g : FwState) → g.staging ≡ f.staging → Staged act f → Staged act g
-staged-still (Part id blob k) f g same staged = λ some. ap (λ (ss : List Staging). find (λ (s : Staging). s.eq == id) ss) same ∙ staged some
-staged-still act f g same staged = tt
 
 -- ---- outcomes
 

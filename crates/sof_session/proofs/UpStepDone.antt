@@ -4,10 +4,8 @@ use Rattle.std.specs.Prelude.{is_some, unwrap_or}
 use Rattle.std.proofs.lemmas.Bool.{false≢true}
 use Rattle.sof_base.specs.Ports.{Io}
 use Rattle.sof_base.specs.DrainedOutputs.{drained}
-use Rattle.sof_io.specs.Bound.{output_slots}
 use Rattle.mbox_link.specs.Calls.{Meaning, MovesBy}
 use Rattle.mbox_link.specs.Link.{link}
-use Rattle.mbox_link.specs.Meetings.{next_meeting}
 use Rattle.tplg_plan.specs.declared.plans.Plan.{Plan}
 use Rattle.host_widgets.specs.declared.answers.Answer.{Answer}
 use Rattle.host_widgets.specs.declared.answers.Answer.TheVariants.{Show}
@@ -17,13 +15,14 @@ use Rattle.sof_script.specs.declared.script.Command.{Command}
 use Rattle.sof_script.specs.declared.script.Command.TheVariants as commands
 use Rattle.sof_session.specs.Agreement.{AreAgreed}
 use Rattle.sof_session.specs.Commands.{Known, is_plan, is_tick}
-use Rattle.sof_session.specs.Fills.{input_ends}
-use Rattle.sof_session.specs.Modes.{CommandDoneIn, made_on_use, up_state_of, most_sent_by, lines_in}
+use Rattle.sof_session.specs.Modes.{up_state_of, most_sent_by, lines_in}
 use Rattle.sof_session.specs.SessionView.{SessionView}
-use Rattle.sof_session.specs.SessionCalls.{Stays, JobRan}
+use Rattle.sof_session.specs.SessionCalls.{IsStep, Stays}
+use Rattle.sof_session.proofs.CallsRan.{JobRan}
 use Rattle.sof_session.specs.SessionStep.{CommandDone, known_of}
 use Rattle.sof_session.specs.UpCommands.{up_fault, up_job, up_rules, up_show_lines}
 use Rattle.sof_session.proofs.Agreement.{at}
+use Rattle.sof_session.proofs.ModeSteps.{use-step}
 use Rattle.sof_session.proofs.RoutineNumbers.{within-by}
 use Rattle.sof_session.proofs.StillJobs.{job-still}
 use Rattle.sof_session.proofs.UpCalls.{quiet-done}
@@ -34,7 +33,7 @@ use Rattle.sof_session.proofs.UpStepping.{job_stepped}
 
 -- a tick sends none, and any other command no more than the most
 use-most-of : (up : List ℕ) (command : Command) → up_most command ≡ most_sent_by (Some up) command
-use-most-of up commands.Load = refl
+use-most-of up (commands.Tick t) = refl
 use-most-of up command = refl
 
 pub use-most : (up : Option (List ℕ)) → is_some up ≡ true → (command : Command) → up_most command ≡ most_sent_by up command
@@ -48,51 +47,37 @@ module _ {P : Type 0} (means : Meaning P) (old new : SessionView P) (before afte
   abbrev Done : Command → Type 0
   Done command = CommandDone means (up_rules old.plan old.heap) old.heap command s (up_state_of means new) (at old.link before) (at new.link after) answer
 
-  pub record UpStepDone (command : Command) : Type 0 where
-    pub stepped : CommandDoneIn means (made_on_use means) command old new (at old.link before) (at new.link after) answer
-    pub agreed : AreAgreed means new
-    pub plan : new.plan ≡ old.plan
-    pub heap : new.heap ≡ old.heap
-    pub slots : output_slots after.outputs ≡ output_slots before.outputs
-    pub ends : input_ends after.inputs ≡ input_ends before.inputs
-    pub moved : MovesBy 983040 before.inputs after.inputs
-    pub sent : new.link.sent ≤ old.link.sent + most_sent_by old.up command
-    pub still : is_tick command ≡ false → (link means).pending old.link ≡ 0 → (after.inputs ≡ before.inputs) × (after.outputs ≡ before.outputs)
-
   module _ (some : is_some old.up ≡ true) (stays : Stays means old new before after) (few : old.link.sent < 2 ^ 63) where
     step-sends : (command : Command) → Done command → new.link.sent ≤ old.link.sent + most_sent_by old.up command
     step-sends command done =
         let known : Known UpState = known_of old.link s in
         let within = within-by (up_rules old.plan old.heap) known done.doing (up_most command) command
-        (λ plans none doing. up-few old.plan stays.agreed.sound old.heap s (up-kept means old stays.agreed some) (next_meeting doing) known.queue command plans none) (omega (arith, few, most-few command)) in
+        (λ plans none. up-few old.plan stays.agreed.sound old.heap s (up-kept means old stays.agreed some) command none) (omega (arith, few, most-few command)) in
         omega (arith, within.1, use-most old.up some command, ap (λ (k : Known UpState). k.queue.sent) done.known_is)
 
-    -- by what the command is
-    pub use-done : (command other : Command) → command ≡ other → MovesBy 983040 before.inputs after.inputs → Done other → UpStepDone command
-    use-done command other is moved done =
-        let now : Done command = subst Done (sym is) done in
-        record {
-          stepped = record { done = now; stays = stays.mode ∙ some };
-          agreed = stays.later;
-          plan = stays.plan;
-          heap = stays.heap;
-          slots = stays.slots;
-          ends = stays.ends;
-          moved = moved;
-          sent = step-sends command now;
-          still = λ own none. (ap (λ (io : Io). io.inputs) (stays.still none), ap (λ (io : Io). io.outputs) (stays.still none));
-        }
+    pub use-done : (command : Command) → MovesBy 983040 before.inputs after.inputs → Done command → IsStep means command old new before after answer
+    use-done command moved done = record {
+      stepped = use-step means command old new (at old.link before) (at new.link after) answer some (record { done = done; stays = stays.mode ∙ some });
+      agreed = stays.later;
+      plan = stays.plan;
+      heap = stays.heap;
+      slots = stays.slots;
+      ends = stays.ends;
+      moved = moved;
+      sent = step-sends command done;
+      still = λ own none. (ap (λ (io : Io). io.inputs) (stays.still none), ap (λ (io : Io). io.outputs) (stays.still none));
+    }
 
     -- where a job was done
-    pub job-done : drained before.outputs ≡ before.outputs → (command other : Command) → command ≡ other → is_plan other ≡ false → is_tick other ≡ false → JobRan means (up_fault old.plan s other) (up_job old.plan old.heap s other) old new before after answer → UpStepDone command
-    job-done empty command other is plans own ran =
-        use-done command other is
-        (use-moves means old new.link before after stays.agreed some new.kept [] (Some []) refl (up_fault old.plan s other) (up_job old.plan old.heap s other) s (up_state_of means new) ran.outcome ran.tested (job-still (link means) old.plan old.heap s other own))
-        (job_stepped means old new before after stays.agreed some few empty other plans answer ran)
+    pub job-done : drained before.outputs ≡ before.outputs → (command : Command) → is_plan command ≡ false → is_tick command ≡ false → JobRan means (up_fault old.plan s command) (up_job old.plan old.heap s command) old new before after answer → IsStep means command old new before after answer
+    job-done empty command plans own ran =
+        use-done command
+        (use-moves means old new.link before after stays.agreed some new.kept [] (Some []) refl (up_fault old.plan s command) (up_job old.plan old.heap s command) s (up_state_of means new) ran.outcome ran.tested (job-still (link means) old.plan old.heap s command own))
+        (job_stepped means old new before after stays.agreed some few empty command plans answer ran)
 
     -- where the endpoints stay
-    pub same-done : (command other : Command) → command ≡ other → after ≡ before → Done other → UpStepDone command
-    same-done command other is same done = use-done command other is (subst (λ (x : Io). MovesBy 983040 before.inputs x.inputs) (sym same) (λ slot. omega arith)) done
+    pub same-done : (command : Command) → after ≡ before → Done command → IsStep means command old new before after answer
+    same-done command same done = use-done command (subst (λ (x : Io). MovesBy 983040 before.inputs x.inputs) (sym same) (λ slot. omega arith)) done
 
 -- ---- a show
 

@@ -8,7 +8,6 @@ use Rattle.mbox_link.specs.Link.{link}
 use Rattle.mbox_link.specs.Wire.{Wire}
 use Rattle.host_widgets.specs.declared.answers.Answer.{Answer}
 use Rattle.host_widgets.specs.declared.answers.HostFault.{HostFault}
-use Rattle.host_widgets.specs.ActCalls.{next_of}
 use Rattle.host_widgets.specs.Host.{Outcome}
 use Rattle.host_widgets.specs.Routines.{JobDone}
 use Rattle.host_widgets.specs.UpState.{UpState, up_act_rules}
@@ -18,7 +17,7 @@ use Rattle.sof_session.specs.Agreement.{AreAgreed}
 use Rattle.sof_session.specs.Commands.{answer_by, is_plan}
 use Rattle.sof_session.specs.Modes.{up_state_of}
 use Rattle.sof_session.specs.SessionView.{SessionView}
-use Rattle.sof_session.specs.SessionCalls.{JobRan}
+use Rattle.sof_session.proofs.CallsRan.{JobRan}
 use Rattle.sof_session.specs.SessionStep.{CommandDone, known_of}
 use Rattle.sof_session.specs.UpCommands.{up_fault, up_job, up_rules}
 use Rattle.sof_session.proofs.Agreement.{at}
@@ -49,7 +48,7 @@ module _ {P : Type 0} (means : Meaning P) (old new : SessionView P) (io io' : Io
     few-sent : (result : Outcome) (none : up_fault old.plan s command ≡ None) (j : JobDone (link means) (up_act_rules old.plan) old.heap (up_job old.plan old.heap s command) s' w v result) → old.link.sent + length j.meetings < 2 ^ 64 - 1
     few-sent result none j =
         let met = few-met (link means) (up_act_rules old.plan) old.heap (up_most command) (up_job old.plan old.heap s command).routine (up_job old.plan old.heap s command).from j.meetings j.begun v
-        (up-few old.plan agreed.sound old.heap s is next_of j.meetings command plans none) j.did in
+        (up-few old.plan agreed.sound old.heap s is command none) j.did in
         omega (arith, few, met, most-few command)
 
     pub job_stepped : (answer : Answer) → JobRan means (up_fault old.plan s command) (up_job old.plan old.heap s command) old new io io' answer → CommandDone means (up_rules old.plan old.heap) old.heap command s s' w v answer

@@ -1,8 +1,8 @@
--- What the calls of a session do, each by its own test and calls on the link, and what each leaves as it was.
-use Rattle.std.specs.Prelude.{◌≡◌, ℕ, List, Option, is_some, Result, Ok, Err}
+-- What the calls of a session do, and what each leaves as it was.
+use Rattle.std.specs.Prelude.{◌≡◌, ℕ, ◌+◌, ◌≤◌, Bool, true, false, List, Option, Some, None, is_some, Result, Ok, Err}
 use Rattle.sof_base.specs.Ports.{Io, InputView, OutputView}
 use Rattle.sof_io.specs.Bound.{output_slots}
-use Rattle.mbox_link.specs.Calls.{Meaning}
+use Rattle.mbox_link.specs.Calls.{Meaning, MovesBy}
 use Rattle.mbox_link.specs.declared.fates.Fate.{Fate}
 use Rattle.mbox_link.specs.declared.fates.PlanFull.{PlanFull}
 use Rattle.mbox_link.specs.Link.{link}
@@ -10,21 +10,18 @@ use Rattle.mbox_link.specs.Planned.{Planned, LagPlanned}
 use Rattle.host_widgets.specs.declared.answers.Answer.{Answer}
 use Rattle.host_widgets.specs.declared.answers.Answer.TheVariants as answers
 use Rattle.host_widgets.specs.declared.answers.HostFault.{HostFault}
-use Rattle.host_widgets.specs.Host.{Outcome}
-use Rattle.host_widgets.specs.Bringing.{BroughtUp}
-use Rattle.host_widgets.specs.Kept.{first_record}
-use Rattle.host_widgets.specs.Orders.{Procedure, fault_of_load, loading, resuming}
-use Rattle.host_widgets.specs.TestedOrders.{Tested}
-use Rattle.host_widgets.specs.Routines.{Job, JobTested}
-use Rattle.host_widgets.specs.UpState.{UpState, up_act_rules}
-use Rattle.host_pm.specs.PowerTests.{resume_fault}
-use Rattle.host_pm.specs.Resumed.{ResumeLeft}
+use Rattle.host_widgets.specs.declared.trigger.Trigger.TheVariants as triggers
+use Rattle.host_pcm.specs.declared.asking.Ask.{Ask}
+use Rattle.host_pcm.specs.declared.asking.Ask.TheVariants.{Opening, Preparing, Triggering, Closing}
+use Rattle.host_dynamic.specs.Dynamic.{is_control_up}
+use Rattle.tplg_plan.specs.declared.plans.Plan.{Plan}
+use Rattle.sof_script.specs.declared.script.Command.{Command}
+use Rattle.sof_script.specs.declared.script.Command.TheVariants as commands
 use Rattle.sof_session.specs.Agreement.{AreAgreed}
-use Rattle.sof_session.specs.Commands.{answer_by}
+use Rattle.sof_session.specs.Commands.{is_tick}
 use Rattle.sof_session.specs.Fills.{input_ends}
-use Rattle.sof_session.specs.Modes.{up_state_of}
+use Rattle.sof_session.specs.Modes.{SteppedBy, most_sent_by}
 use Rattle.sof_session.specs.SessionView.{SessionView}
-use Rattle.host_widgets.specs.HostActs.{Act}
 
 -- the endpoints' bytes
 abbrev pub ports : List InputView → List OutputView → Io
@@ -42,30 +39,32 @@ pub record Stays {P : Type 0} (means : Meaning P) (old new : SessionView P) (bef
   pub ends : input_ends after.inputs ≡ input_ends before.inputs
   pub still : (link means).pending old.link ≡ 0 → after ≡ before
 
--- what a call did, by its test and its order: its calls on the link, its result, and its order's answer
-pub record CallRan {P : Type 0} (means : Meaning P) (test : Option HostFault) (o : Procedure) (old new : SessionView P) (before after : Io) (answer : Answer) : Type 0 where
-  pub outcome : Outcome
-  pub tested : Tested (link means) old.plan old.heap test o old.kept new.kept (record { device = old.link; io = before }) (record { device = new.link; io = after }) outcome
-  pub said : answer ≡ answer_by o.answer outcome
-  pub up : new.up ≡ old.up
+-- All that a step of a session says of a command, over the endpoints' bytes before and after it.
+pub record IsStep {P : Type 0} (means : Meaning P) (command : Command) (old new : SessionView P) (before after : Io) (answer : Answer) : Type 0 where
+  pub stepped : SteppedBy means command old new (record { device = old.link; io = before }) (record { device = new.link; io = after }) answer
+  pub agreed : AreAgreed means new
+  pub plan : new.plan ≡ old.plan
+  pub heap : new.heap ≡ old.heap
+  pub slots : output_slots after.outputs ≡ output_slots before.outputs
+  pub ends : input_ends after.inputs ≡ input_ends before.inputs
+  pub moved : MovesBy 983040 before.inputs after.inputs
+  pub sent : new.link.sent ≤ old.link.sent + most_sent_by old.up command
+  pub still : is_tick command ≡ false → (link means).pending old.link ≡ 0 → (after.inputs ≡ before.inputs) × (after.outputs ≡ before.outputs)
 
--- what a call did that makes pipelines on use, by its test and its job, and its job's answer
-pub record JobRan {P : Type 0} (means : Meaning P) (test : Option HostFault) (job : Job UpState Act) (old new : SessionView P) (before after : Io) (answer : Answer) : Type 0 where
-  pub outcome : Outcome
-  pub tested : JobTested (link means) (up_act_rules old.plan) old.heap test job (up_state_of means old) (up_state_of means new) (record { device = old.link; io = before }) (record { device = new.link; io = after }) outcome
-  pub said : answer ≡ answer_by job.answer outcome
+-- the command that asks this of a stream
+abbrev pub asking_command : List ℕ → Ask → Command
+asking_command name Opening = commands.Open name
+asking_command name (Preparing params) = commands.Params name params
+asking_command name (Triggering triggers.Start) = commands.Start name
+asking_command name (Triggering triggers.Stop) = commands.Stop name
+asking_command name (Triggering triggers.Pause) = commands.Pause name
+asking_command name (Triggering triggers.Release) = commands.Release name
+asking_command name Closing = commands.Close name
 
--- what a load did, and how it left the device; the endpoints are as they were
-pub record LoadRan {P : Type 0} (means : Meaning P) (old new : SessionView P) (before after : Io) (answer : Answer) : Type 0 where
-  pub call : CallRan means (fault_of_load old.kept.power) (loading old.plan old.kept) old new before after answer
-  pub left : BroughtUp (link means) old.plan old.heap (first_record old.plan) old.link call.outcome new.link
-  pub same : after ≡ before
-
--- what a resume did, and how it left the device; the endpoints are as they were
-pub record ResumeRan {P : Type 0} (means : Meaning P) (old new : SessionView P) (before after : Io) (answer : Answer) : Type 0 where
-  pub call : CallRan means (resume_fault old.kept.power) (resuming old.plan old.kept) old new before after answer
-  pub left : ResumeLeft (link means) old.plan old.heap old.kept old.link call.outcome new.link
-  pub same : after ≡ before
+-- the component of a control is up, where there is one: where all pipelines are made at a load, it is
+abbrev pub is_control_in : Option (List ℕ) → Plan → List ℕ → Bool
+is_control_in None plan name = true
+is_control_in (Some up) plan name = is_control_up plan up name
 
 -- the answer of a call that tells something once it is done
 abbrev pub told_answer : Result Answer HostFault → Answer

@@ -1,32 +1,24 @@
 // A host with its device after a link.
-ghost use Rattle.std.specs.Prelude.{◌≡◌, ℕ, ◌+◌, ◌<◌, ◌≤◌, ◌^◌, [], None, true, false, length, is_some, unwrap_or, option_map, MatchResult};
-ghost use Rattle.sof_base.specs.Ports.{Io, HasRoom};
+ghost use Rattle.std.specs.Prelude.{◌≡◌, ℕ, ◌+◌, ◌<◌, ◌≤◌, ◌^◌, None, true, false, length, option_map, MatchResult};
+ghost use Rattle.sof_base.specs.Ports.{Io};
 ghost use Rattle.sof_base.specs.DrainedOutputs.{drained};
 ghost use Rattle.mbox_link.specs.Calls.{MovesBy, world};
 ghost use Rattle.mbox_link.specs.Drained.{Drained};
 ghost use Rattle.mbox_link.specs.Fates.{IsMeant};
 ghost use Rattle.mbox_link.specs.Link.{link};
 ghost use Rattle.tplg_plan.specs.Sound.{IsSound};
-ghost use Rattle.host_widgets.specs.Orders.{fault_of_load, unload_fault, unloading, suspending};
-ghost use Rattle.host_pcm.specs.Asks.{early_fault, asks_for_power};
-ghost use Rattle.host_pcm.specs.StreamOrders.{stream_order};
-ghost use Rattle.host_pm.specs.PowerTests.{suspend_fault, resume_fault};
-ghost use Rattle.host_ctl.specs.ControlAsks.{set_fault, bytes_fault, get_fault, read_fault};
-ghost use Rattle.host_ctl.specs.ControlOrders.{set_order, bytes_order, get_order, read_order};
-ghost use Rattle.host_dynamic.specs.Dynamic.{loading_job, unloading_job, resuming_job, plain_job, is_control_up, read_up_fault};
+ghost use Rattle.host_pcm.specs.Asks.{asks_for_power};
 ghost use Rattle.sof_io.specs.Bound.{output_slots};
 ghost use Rattle.sof_session.specs.Agreement.{AreAgreed};
-ghost use Rattle.sof_session.specs.CommandRanges.{is_in_range, most_sent};
-ghost use Rattle.sof_session.specs.Commands.{is_tick, command_rules};
+ghost use Rattle.sof_session.specs.CommandRanges.{is_in_range};
+ghost use Rattle.sof_session.specs.Commands.{is_tick};
 ghost use Rattle.sof_session.specs.Fills.{input_ends};
-ghost use Rattle.sof_session.specs.Modes.{SteppedBy, CommandDoneIn, made_on_use, up_state_of, lines_in, most_sent_by};
+ghost use Rattle.sof_session.specs.Modes.{SteppedBy, lines_in, most_sent_by};
 ghost use Rattle.sof_session.specs.SessionView as seats;
 ghost use Rattle.sof_session.specs.SessionView.{new_seat, seat_in, with_device};
-ghost use Rattle.sof_session.specs.SessionCalls.{Stays, CallRan, JobRan, LoadRan, ResumeRan, PlanRan, LagRan, ports};
-ghost use Rattle.sof_session.specs.SessionStep.{CommandDone};
+ghost use Rattle.sof_session.specs.SessionCalls.{IsStep, asking_command, is_control_in, Stays, PlanRan, LagRan, ports};
 ghost use Rattle.sof_session.specs.ShownLines.{IsLineAt};
 ghost use Rattle.sof_session.specs.UpCommands as ups;
-ghost use Rattle.sof_session.specs.UpCommands.{up_job};
 
 use crate::answers::{answer_of, plan_answer, told_answer};
 use crate::show::{show_line, show_up_line};
@@ -50,11 +42,10 @@ fn first_up(on_use: bool) -> Option<Bounded<u32, 32>>
     if on_use { Some(Bounded::empty()) } else { None }
 }
 
-// Whether the component of the control of this name is up, where there is one.
+// Whether the component of the control of this name is up, where there is one: where all pipelines are made at a load, it is.
 fn is_up(plan: &Plan, up: &Option<Bounded<u32, 32>>, name: &Name44) -> bool
-    requires plan { IsSound plan.now }
-    requires mode { is_some up.now ≡ true }
-    ensures { result ≡ is_control_up plan.now (unwrap_or up.now []) name.now }
+    requires { IsSound plan.now }
+    ensures { result ≡ is_control_in up.now plan.now name.now }
 {
     match up {
         Some(up) => is_control_up(plan, up.items(), name),
@@ -212,29 +203,6 @@ impl<P: Dsp> Session<P> {
         ensures sent { self.new.link.sent ≤ self.old.link.sent + most_sent_by self.old.up command.now }
         ensures still { is_tick command.now ≡ false → (link P.means).pending self.old.link ≡ 0 → (io.new ≡ io.old) × (out.new ≡ out.old) }
     {
-        if self.up.is_some() {
-            return self.step_on_use(command, io, out);
-        }
-        self.step_at_load(command, io, out)
-    }
-
-    // Where all pipelines are made at a load.
-    fn step_at_load(&mut self, command: &Command, io: &mut Inputs, out: &mut Outputs) -> Answer
-        requires mode { self.old.up ≡ None }
-        requires numbers { is_in_range command.now ≡ true }
-        requires few { self.old.link.sent < 2 ^ 63 }
-        requires empty { drained out.old ≡ out.old }
-        ensures stepped { CommandDone P.means (command_rules self.old.plan self.old.heap) self.old.heap command.now self.old.kept self.new.kept (world self.old.link io.old out.old) (world self.new.link io.new out.new) result }
-        ensures agreed { AreAgreed P.means self.new }
-        ensures plan { self.new.plan ≡ self.old.plan }
-        ensures heap { self.new.heap ≡ self.old.heap }
-        ensures mode { self.new.up ≡ None }
-        ensures slots { output_slots out.new ≡ output_slots out.old }
-        ensures ends { input_ends io.new ≡ input_ends io.old }
-        ensures moved { MovesBy 983040 io.old io.new }
-        ensures sent { self.new.link.sent ≤ self.old.link.sent + most_sent command.now }
-        ensures still { is_tick command.now ≡ false → (link P.means).pending self.old.link ≡ 0 → (io.new ≡ io.old) × (out.new ≡ out.old) }
-    {
         match command {
             Command::Load => self.load(io, out),
             Command::Unload => self.unload(io, out),
@@ -247,72 +215,18 @@ impl<P: Dsp> Session<P> {
                 self.tick(io, out);
                 Answer::Done
             }
-            Command::Open(name) => self.ask(name, Ask::Opening, io, out),
+            Command::Open(name) => self.open(name, io, out),
             Command::Params(name, params) => self.ask(name, Ask::Preparing(*params), io, out),
             Command::Start(name) => self.ask(name, Ask::Triggering(Trigger::Start), io, out),
             Command::Stop(name) => self.ask(name, Ask::Triggering(Trigger::Stop), io, out),
             Command::Pause(name) => self.ask(name, Ask::Triggering(Trigger::Pause), io, out),
             Command::Release(name) => self.ask(name, Ask::Triggering(Trigger::Release), io, out),
-            Command::Close(name) => self.ask(name, Ask::Closing, io, out),
+            Command::Close(name) => self.close(name, io, out),
             Command::Set(name, values) => self.set(name, values, io, out),
             Command::Bytes(name, blob) => self.set_bytes(name, blob, io, out),
             Command::Get(name) => self.get(name, io, out),
             Command::Read(name) => self.read(name, io, out),
             Command::Lag(k, ticks) => self.plan_lag(*k, *ticks),
-            Command::Show => self.show(),
-        }
-    }
-
-    // Where they are made on use.
-    fn step_on_use(&mut self, command: &Command, io: &mut Inputs, out: &mut Outputs) -> Answer
-        requires mode { is_some self.old.up ≡ true }
-        requires numbers { is_in_range command.now ≡ true }
-        requires few { self.old.link.sent < 2 ^ 63 }
-        requires empty { drained out.old ≡ out.old }
-        ensures stepped { CommandDoneIn P.means (made_on_use P.means) command.now self.old self.new (world self.old.link io.old out.old) (world self.new.link io.new out.new) result }
-        ensures agreed { AreAgreed P.means self.new }
-        ensures plan { self.new.plan ≡ self.old.plan }
-        ensures heap { self.new.heap ≡ self.old.heap }
-        ensures slots { output_slots out.new ≡ output_slots out.old }
-        ensures ends { input_ends io.new ≡ input_ends io.old }
-        ensures moved { MovesBy 983040 io.old io.new }
-        ensures sent { self.new.link.sent ≤ self.old.link.sent + most_sent_by self.old.up command.now }
-        ensures still { is_tick command.now ≡ false → (link P.means).pending self.old.link ≡ 0 → (io.new ≡ io.old) × (out.new ≡ out.old) }
-    {
-        match command {
-            Command::Load => self.load_on_use(io, out),
-            Command::Unload => self.unload_on_use(io, out),
-            Command::Resume => self.resume_on_use(io, out),
-            Command::Open(name) => self.open_on_use(name, io, out),
-            Command::Close(name) => self.close_on_use(name, io, out),
-            Command::Set(name, values) => self.set_on_use(name, values, io, out),
-            Command::Bytes(name, blob) => self.set_bytes_on_use(name, blob, io, out),
-            Command::Read(name) => self.read_on_use(name, io, out),
-            Command::Suspend => self.suspend_on_use(io, out),
-            Command::Get(name) => self.get_on_use(name, io, out),
-            Command::Params(name, params) => self.ask_on_use(
-                name,
-                Ask::Preparing(*params),
-                io,
-                out,
-            ),
-            Command::Start(name) => self.ask_on_use(name, Ask::Triggering(Trigger::Start), io, out),
-            Command::Stop(name) => self.ask_on_use(name, Ask::Triggering(Trigger::Stop), io, out),
-            Command::Pause(name) => self.ask_on_use(name, Ask::Triggering(Trigger::Pause), io, out),
-            Command::Release(name) => self.ask_on_use(
-                name,
-                Ask::Triggering(Trigger::Release),
-                io,
-                out,
-            ),
-            Command::Refuse(ahead, error) => self.plan_fate(*ahead, Fate::Refuse(*error)),
-            Command::Drop(ahead) => self.plan_fate(*ahead, Fate::Drop),
-            Command::Lose(ahead) => self.plan_fate(*ahead, Fate::Lose),
-            Command::Lag(ahead, ticks) => self.plan_lag(*ahead, *ticks),
-            Command::Tick(_) => {
-                self.tick(io, out);
-                Answer::Done
-            }
             Command::Show => self.show(),
         }
     }
@@ -346,47 +260,77 @@ impl<P: Dsp> Session<P> {
         Answer::Show
     }
 
-    // Boots the device and loads the plan, where it is not loaded.
+    // Boots the device, where nothing is loaded, and loads the plan where all pipelines are made then.
     fn load(&mut self, io: &mut Inputs, out: &mut Outputs) -> Answer
-        requires mode { self.old.up ≡ None }
-        requires room { HasRoom 983040 out.old }
-        ensures ran { LoadRan P.means self.old self.new (ports io.old out.old) (ports io.new out.new) result }
-        ensures stays { Stays P.means self.old self.new (ports io.old out.old) (ports io.new out.new) }
+        requires few { self.old.link.sent < 2 ^ 63 }
+        requires empty { drained out.old ≡ out.old }
+        ensures { IsStep P.means Command.Load self.old self.new (ports io.old out.old) (ports io.new out.new) result }
     {
-        let loaded = load(
-            &self.plan,
-            &mut self.kept,
-            self.heap,
-            &mut self.link,
-            io,
-            out,
-        );
-        answer_of(loaded)
+        match &mut self.up {
+            None => {
+                let loaded = load(
+                    &self.plan,
+                    &mut self.kept,
+                    self.heap,
+                    &mut self.link,
+                    io,
+                    out,
+                );
+                answer_of(loaded)
+            }
+            Some(up) => {
+                let booted = host_dynamic::load(
+                    &self.plan,
+                    &mut self.kept,
+                    up,
+                    self.heap,
+                    &mut self.link,
+                    io,
+                    out,
+                );
+                answer_of(booted)
+            }
+        }
     }
 
     // Cuts the device and forgets what was loaded.
     fn unload(&mut self, io: &mut Inputs, out: &mut Outputs) -> Answer
-        requires mode { self.old.up ≡ None }
-        ensures ran { CallRan P.means (unload_fault self.old.kept.power) (unloading self.old.plan self.old.kept) self.old self.new (ports io.old out.old) (ports io.new out.new) result }
-        ensures stays { Stays P.means self.old self.new (ports io.old out.old) (ports io.new out.new) }
+        requires few { self.old.link.sent < 2 ^ 63 }
+        requires empty { drained out.old ≡ out.old }
+        ensures { IsStep P.means Command.Unload self.old self.new (ports io.old out.old) (ports io.new out.new) result }
     {
-        let unloaded = unload(
-            &self.plan,
-            &mut self.kept,
-            self.heap,
-            &mut self.link,
-            io,
-            out,
-        );
-        answer_of(unloaded)
+        match &mut self.up {
+            None => {
+                let unloaded = unload(
+                    &self.plan,
+                    &mut self.kept,
+                    self.heap,
+                    &mut self.link,
+                    io,
+                    out,
+                );
+                answer_of(unloaded)
+            }
+            Some(up) => {
+                let dropped = host_dynamic::unload(
+                    &self.plan,
+                    &mut self.kept,
+                    up,
+                    self.heap,
+                    &mut self.link,
+                    io,
+                    out,
+                );
+                answer_of(dropped)
+            }
+        }
     }
 
     // Stops all that moves, and cuts the device.
     fn suspend(&mut self, io: &mut Inputs, out: &mut Outputs) -> Answer
-        requires mode { self.old.up ≡ None }
-        requires room { HasRoom 983040 out.old }
-        ensures ran { CallRan P.means (suspend_fault self.old.kept.power) (suspending self.old.plan self.old.kept) self.old self.new (ports io.old out.old) (ports io.new out.new) result }
-        ensures stays { Stays P.means self.old self.new (ports io.old out.old) (ports io.new out.new) }
+        requires few { self.old.link.sent < 2 ^ 63 }
+        requires empty { drained out.old ≡ out.old }
+        ensures { IsStep P.means Command.Suspend self.old self.new (ports io.old out.old) (ports io.new out.new) result }
     {
         let suspended = suspend(
             &self.plan,
@@ -399,25 +343,133 @@ impl<P: Dsp> Session<P> {
         answer_of(suspended)
     }
 
-    // Boots the device and brings it back to what the record says.
+    // Boots the device and brings it back to what the record says, or makes what is up.
     fn resume(&mut self, io: &mut Inputs, out: &mut Outputs) -> Answer
-        requires mode { self.old.up ≡ None }
-        requires room { HasRoom 983040 out.old }
-        ensures ran { ResumeRan P.means self.old self.new (ports io.old out.old) (ports io.new out.new) result }
-        ensures stays { Stays P.means self.old self.new (ports io.old out.old) (ports io.new out.new) }
+        requires few { self.old.link.sent < 2 ^ 63 }
+        requires empty { drained out.old ≡ out.old }
+        ensures { IsStep P.means Command.Resume self.old self.new (ports io.old out.old) (ports io.new out.new) result }
     {
-        let resumed = resume(
+        match &self.up {
+            None => {
+                let resumed = resume(
+                    &self.plan,
+                    &mut self.kept,
+                    self.heap,
+                    &mut self.link,
+                    io,
+                    out,
+                );
+                answer_of(resumed)
+            }
+            Some(up) => {
+                let remade = host_dynamic::resume(
+                    &self.plan,
+                    &mut self.kept,
+                    up,
+                    self.heap,
+                    &mut self.link,
+                    io,
+                    out,
+                );
+                answer_of(remade)
+            }
+        }
+    }
+
+    // Opens the stream of this name; where pipelines are made on use, what it needs is made first.
+    fn open(&mut self, name: &Name44, io: &mut Inputs, out: &mut Outputs) -> Answer
+        requires few { self.old.link.sent < 2 ^ 63 }
+        requires empty { drained out.old ≡ out.old }
+        ensures { IsStep P.means (Command.Open name.now) self.old self.new (ports io.old out.old) (ports io.new out.new) result }
+    {
+        match &mut self.up {
+            None => {
+                let opened = host_pcm::ask(
+                    &self.plan,
+                    &mut self.kept,
+                    self.heap,
+                    &mut self.link,
+                    io,
+                    out,
+                    name,
+                    Ask::Opening,
+                );
+                answer_of(opened)
+            }
+            Some(up) => {
+                let made = host_dynamic::open(
+                    &self.plan,
+                    &mut self.kept,
+                    up,
+                    self.heap,
+                    &mut self.link,
+                    io,
+                    out,
+                    name,
+                );
+                answer_of(made)
+            }
+        }
+    }
+
+    // Closes the stream of this name; where pipelines are made on use, what no other needs is unmade then.
+    fn close(&mut self, name: &Name44, io: &mut Inputs, out: &mut Outputs) -> Answer
+        requires few { self.old.link.sent < 2 ^ 63 }
+        requires empty { drained out.old ≡ out.old }
+        ensures { IsStep P.means (Command.Close name.now) self.old self.new (ports io.old out.old) (ports io.new out.new) result }
+    {
+        match &mut self.up {
+            None => {
+                let closed = host_pcm::ask(
+                    &self.plan,
+                    &mut self.kept,
+                    self.heap,
+                    &mut self.link,
+                    io,
+                    out,
+                    name,
+                    Ask::Closing,
+                );
+                answer_of(closed)
+            }
+            Some(up) => {
+                let unmade = host_dynamic::close(
+                    &self.plan,
+                    &mut self.kept,
+                    up,
+                    self.heap,
+                    &mut self.link,
+                    io,
+                    out,
+                    name,
+                );
+                answer_of(unmade)
+            }
+        }
+    }
+
+    // Gives the stream of this name parameters, or starts, stops, pauses or releases it.
+    fn ask(&mut self, name: &Name44, ask: Ask, io: &mut Inputs, out: &mut Outputs) -> Answer
+        requires sends { asks_for_power ask ≡ true }
+        requires few { self.old.link.sent < 2 ^ 63 }
+        requires empty { drained out.old ≡ out.old }
+        ensures { IsStep P.means (asking_command name.now ask) self.old self.new (ports io.old out.old) (ports io.new out.new) result }
+    {
+        let asked = host_pcm::ask(
             &self.plan,
             &mut self.kept,
             self.heap,
             &mut self.link,
             io,
             out,
+            name,
+            ask,
         );
-        answer_of(resumed)
+        answer_of(asked)
     }
 
-    // The control of this name has these values, or this one value for all its channels.
+    // The control of this name has these values, or this one value for all its channels; where its component is not up, the record alone
+    // changes.
     fn set(
         &mut self,
         name: &Name44,
@@ -425,11 +477,13 @@ impl<P: Dsp> Session<P> {
         io: &mut Inputs,
         out: &mut Outputs,
     ) -> Answer
-        requires mode { self.old.up ≡ None }
-        requires room { HasRoom 983040 out.old }
-        ensures ran { CallRan P.means (set_fault self.old.plan self.old.kept name.now values.now) (set_order self.old.plan self.old.kept name.now values.now) self.old self.new (ports io.old out.old) (ports io.new out.new) result }
-        ensures stays { Stays P.means self.old self.new (ports io.old out.old) (ports io.new out.new) }
+        requires few { self.old.link.sent < 2 ^ 63 }
+        requires empty { drained out.old ≡ out.old }
+        ensures { IsStep P.means (Command.Set name.now values.now) self.old self.new (ports io.old out.old) (ports io.new out.new) result }
     {
+        if !is_up(&self.plan, &self.up, name) {
+            return answer_of(keep_values(&self.plan, &mut self.kept, name, values.items()));
+        }
         let done = set(
             &self.plan,
             &mut self.kept,
@@ -443,7 +497,7 @@ impl<P: Dsp> Session<P> {
         answer_of(done)
     }
 
-    // The equaliser of this name has this blob.
+    // The equaliser of this name has this blob; where it is not up, the record alone changes.
     fn set_bytes(
         &mut self,
         name: &Name44,
@@ -451,11 +505,13 @@ impl<P: Dsp> Session<P> {
         io: &mut Inputs,
         out: &mut Outputs,
     ) -> Answer
-        requires mode { self.old.up ≡ None }
-        requires room { HasRoom 983040 out.old }
-        ensures ran { CallRan P.means (bytes_fault self.old.plan self.old.kept name.now blob.now) (bytes_order self.old.plan self.old.kept name.now blob.now) self.old self.new (ports io.old out.old) (ports io.new out.new) result }
-        ensures stays { Stays P.means self.old self.new (ports io.old out.old) (ports io.new out.new) }
+        requires few { self.old.link.sent < 2 ^ 63 }
+        requires empty { drained out.old ≡ out.old }
+        ensures { IsStep P.means (Command.Bytes name.now blob.now) self.old self.new (ports io.old out.old) (ports io.new out.new) result }
     {
+        if !is_up(&self.plan, &self.up, name) {
+            return answer_of(keep_bytes(&self.plan, &mut self.kept, name, blob.items()));
+        }
         let done = set_bytes(
             &self.plan,
             &mut self.kept,
@@ -471,9 +527,9 @@ impl<P: Dsp> Session<P> {
 
     // What the record says of the control of this name.
     fn get(&mut self, name: &Name44, io: &mut Inputs, out: &mut Outputs) -> Answer
-        requires mode { self.old.up ≡ None }
-        ensures ran { CallRan P.means (get_fault self.old.plan self.old.kept name.now) (get_order self.old.plan self.old.kept name.now) self.old self.new (ports io.old out.old) (ports io.new out.new) result }
-        ensures stays { Stays P.means self.old self.new (ports io.old out.old) (ports io.new out.new) }
+        requires few { self.old.link.sent < 2 ^ 63 }
+        requires empty { drained out.old ≡ out.old }
+        ensures { IsStep P.means (Command.Get name.now) self.old self.new (ports io.old out.old) (ports io.new out.new) result }
     {
         let told = get(
             &self.plan,
@@ -487,13 +543,15 @@ impl<P: Dsp> Session<P> {
         told_answer(told)
     }
 
-    // What the firmware says of the control of this name.
+    // What the firmware says of the control of this name, where its component is up.
     fn read(&mut self, name: &Name44, io: &mut Inputs, out: &mut Outputs) -> Answer
-        requires mode { self.old.up ≡ None }
-        requires room { HasRoom 983040 out.old }
-        ensures ran { CallRan P.means (read_fault self.old.plan self.old.kept name.now) (read_order self.old.plan self.old.kept name.now) self.old self.new (ports io.old out.old) (ports io.new out.new) result }
-        ensures stays { Stays P.means self.old self.new (ports io.old out.old) (ports io.new out.new) }
+        requires few { self.old.link.sent < 2 ^ 63 }
+        requires empty { drained out.old ≡ out.old }
+        ensures { IsStep P.means (Command.Read name.now) self.old self.new (ports io.old out.old) (ports io.new out.new) result }
     {
+        if !is_up(&self.plan, &self.up, name) {
+            return Answer::Fault(down_fault(self.kept.power));
+        }
         let told = read(
             &self.plan,
             &mut self.kept,
@@ -528,275 +586,6 @@ impl<P: Dsp> Session<P> {
     {
         let planned = self.link.lag(k, ticks);
         plan_answer(planned)
-    }
-
-    // Makes the host's call for what is asked of the stream of this name.
-    fn ask(&mut self, name: &Name44, ask: Ask, io: &mut Inputs, out: &mut Outputs) -> Answer
-        requires mode { self.old.up ≡ None }
-        requires room { HasRoom 983040 out.old }
-        ensures ran { CallRan P.means (early_fault self.old.plan self.old.kept name.now ask) (stream_order self.old.plan self.old.kept name.now ask) self.old self.new (ports io.old out.old) (ports io.new out.new) result }
-        ensures stays { Stays P.means self.old self.new (ports io.old out.old) (ports io.new out.new) }
-    {
-        let asked = host_pcm::ask(
-            &self.plan,
-            &mut self.kept,
-            self.heap,
-            &mut self.link,
-            io,
-            out,
-            name,
-            ask,
-        );
-        answer_of(asked)
-    }
-
-    // ---- where pipelines are made on use
-
-    // Boots the device, where nothing is loaded.
-    fn load_on_use(&mut self, io: &mut Inputs, out: &mut Outputs) -> Answer
-        requires mode { is_some self.old.up ≡ true }
-        ensures ran { JobRan P.means (fault_of_load self.old.kept.power) (loading_job self.old.heap (up_state_of P.means self.old)) self.old self.new (ports io.old out.old) (ports io.new out.new) result }
-        ensures stays { Stays P.means self.old self.new (ports io.old out.old) (ports io.new out.new) }
-    {
-        let Some(up) = &mut self.up else {
-            return Answer::Done;
-        };
-        let loaded = host_dynamic::load(
-            &self.plan,
-            &mut self.kept,
-            up,
-            self.heap,
-            &mut self.link,
-            io,
-            out,
-        );
-        answer_of(loaded)
-    }
-
-    // Cuts the device and forgets what was loaded.
-    fn unload_on_use(&mut self, io: &mut Inputs, out: &mut Outputs) -> Answer
-        requires mode { is_some self.old.up ≡ true }
-        ensures ran { JobRan P.means (unload_fault self.old.kept.power) (unloading_job self.old.plan (up_state_of P.means self.old)) self.old self.new (ports io.old out.old) (ports io.new out.new) result }
-        ensures stays { Stays P.means self.old self.new (ports io.old out.old) (ports io.new out.new) }
-    {
-        let Some(up) = &mut self.up else {
-            return Answer::Done;
-        };
-        let unloaded = host_dynamic::unload(
-            &self.plan,
-            &mut self.kept,
-            up,
-            self.heap,
-            &mut self.link,
-            io,
-            out,
-        );
-        answer_of(unloaded)
-    }
-
-    // Boots the device and makes what is up.
-    fn resume_on_use(&mut self, io: &mut Inputs, out: &mut Outputs) -> Answer
-        requires mode { is_some self.old.up ≡ true }
-        requires room { HasRoom 983040 out.old }
-        ensures ran { JobRan P.means (resume_fault self.old.kept.power) (resuming_job self.old.plan self.old.heap (up_state_of P.means self.old)) self.old self.new (ports io.old out.old) (ports io.new out.new) result }
-        ensures stays { Stays P.means self.old self.new (ports io.old out.old) (ports io.new out.new) }
-    {
-        let Some(up) = &self.up else {
-            return Answer::Done;
-        };
-        let done = host_dynamic::resume(
-            &self.plan,
-            &mut self.kept,
-            up,
-            self.heap,
-            &mut self.link,
-            io,
-            out,
-        );
-        answer_of(done)
-    }
-
-    // Makes what the stream of this name needs, and opens it.
-    fn open_on_use(&mut self, name: &Name44, io: &mut Inputs, out: &mut Outputs) -> Answer
-        requires mode { is_some self.old.up ≡ true }
-        requires room { HasRoom 983040 out.old }
-        ensures ran { JobRan P.means (early_fault self.old.plan self.old.kept name.now Ask.Opening) (up_job self.old.plan self.old.heap (up_state_of P.means self.old) (Command.Open name.now)) self.old self.new (ports io.old out.old) (ports io.new out.new) result }
-        ensures stays { Stays P.means self.old self.new (ports io.old out.old) (ports io.new out.new) }
-    {
-        let Some(up) = &mut self.up else {
-            return Answer::Done;
-        };
-        let opened = host_dynamic::open(
-            &self.plan,
-            &mut self.kept,
-            up,
-            self.heap,
-            &mut self.link,
-            io,
-            out,
-            name,
-        );
-        answer_of(opened)
-    }
-
-    // Closes the stream of this name, and unmakes what no other needs.
-    fn close_on_use(&mut self, name: &Name44, io: &mut Inputs, out: &mut Outputs) -> Answer
-        requires mode { is_some self.old.up ≡ true }
-        requires room { HasRoom 983040 out.old }
-        ensures ran { JobRan P.means (early_fault self.old.plan self.old.kept name.now Ask.Closing) (up_job self.old.plan self.old.heap (up_state_of P.means self.old) (Command.Close name.now)) self.old self.new (ports io.old out.old) (ports io.new out.new) result }
-        ensures stays { Stays P.means self.old self.new (ports io.old out.old) (ports io.new out.new) }
-    {
-        let Some(up) = &mut self.up else {
-            return Answer::Done;
-        };
-        let closed = host_dynamic::close(
-            &self.plan,
-            &mut self.kept,
-            up,
-            self.heap,
-            &mut self.link,
-            io,
-            out,
-            name,
-        );
-        answer_of(closed)
-    }
-
-    // The control of this name has these values; where its component is not up, the record alone changes.
-    fn set_on_use(
-        &mut self,
-        name: &Name44,
-        values: &Bounded<u32, 8>,
-        io: &mut Inputs,
-        out: &mut Outputs,
-    ) -> Answer
-        requires mode { is_some self.old.up ≡ true }
-        requires room { HasRoom 983040 out.old }
-        ensures ran { JobRan P.means (set_fault self.old.plan self.old.kept name.now values.now) (up_job self.old.plan self.old.heap (up_state_of P.means self.old) (Command.Set name.now values.now)) self.old self.new (ports io.old out.old) (ports io.new out.new) result }
-        ensures stays { Stays P.means self.old self.new (ports io.old out.old) (ports io.new out.new) }
-    {
-        if !is_up(&self.plan, &self.up, name) {
-            return answer_of(keep_values(&self.plan, &mut self.kept, name, values.items()));
-        }
-        let done = set(
-            &self.plan,
-            &mut self.kept,
-            self.heap,
-            &mut self.link,
-            io,
-            out,
-            name,
-            values.items(),
-        );
-        answer_of(done)
-    }
-
-    // The equaliser of this name has this blob; where it is not up, the record alone changes.
-    fn set_bytes_on_use(
-        &mut self,
-        name: &Name44,
-        blob: &Bounded<u8, 1024>,
-        io: &mut Inputs,
-        out: &mut Outputs,
-    ) -> Answer
-        requires mode { is_some self.old.up ≡ true }
-        requires room { HasRoom 983040 out.old }
-        ensures ran { JobRan P.means (bytes_fault self.old.plan self.old.kept name.now blob.now) (up_job self.old.plan self.old.heap (up_state_of P.means self.old) (Command.Bytes name.now blob.now)) self.old self.new (ports io.old out.old) (ports io.new out.new) result }
-        ensures stays { Stays P.means self.old self.new (ports io.old out.old) (ports io.new out.new) }
-    {
-        if !is_up(&self.plan, &self.up, name) {
-            return answer_of(keep_bytes(&self.plan, &mut self.kept, name, blob.items()));
-        }
-        let done = set_bytes(
-            &self.plan,
-            &mut self.kept,
-            self.heap,
-            &mut self.link,
-            io,
-            out,
-            name,
-            blob.items(),
-        );
-        answer_of(done)
-    }
-
-    // What the firmware says of the control of this name, where its component is up.
-    fn read_on_use(&mut self, name: &Name44, io: &mut Inputs, out: &mut Outputs) -> Answer
-        requires mode { is_some self.old.up ≡ true }
-        requires room { HasRoom 983040 out.old }
-        ensures ran { JobRan P.means (read_up_fault self.old.plan (up_state_of P.means self.old) name.now) (up_job self.old.plan self.old.heap (up_state_of P.means self.old) (Command.Read name.now)) self.old self.new (ports io.old out.old) (ports io.new out.new) result }
-        ensures stays { Stays P.means self.old self.new (ports io.old out.old) (ports io.new out.new) }
-    {
-        if !is_up(&self.plan, &self.up, name) {
-            return Answer::Fault(down_fault(self.kept.power));
-        }
-        let told = read(
-            &self.plan,
-            &mut self.kept,
-            self.heap,
-            &mut self.link,
-            io,
-            out,
-            name,
-        );
-        told_answer(told)
-    }
-
-    // What the record says of the control of this name.
-    fn get_on_use(&mut self, name: &Name44, io: &mut Inputs, out: &mut Outputs) -> Answer
-        requires mode { is_some self.old.up ≡ true }
-        ensures ran { JobRan P.means (get_fault self.old.plan self.old.kept name.now) (up_job self.old.plan self.old.heap (up_state_of P.means self.old) (Command.Get name.now)) self.old self.new (ports io.old out.old) (ports io.new out.new) result }
-        ensures stays { Stays P.means self.old self.new (ports io.old out.old) (ports io.new out.new) }
-    {
-        let told = get(
-            &self.plan,
-            &mut self.kept,
-            self.heap,
-            &mut self.link,
-            io,
-            out,
-            name,
-        );
-        told_answer(told)
-    }
-
-    // Stops all that moves, and cuts the device.
-    fn suspend_on_use(&mut self, io: &mut Inputs, out: &mut Outputs) -> Answer
-        requires mode { is_some self.old.up ≡ true }
-        requires room { HasRoom 983040 out.old }
-        ensures ran { JobRan P.means (suspend_fault self.old.kept.power) (up_job self.old.plan self.old.heap (up_state_of P.means self.old) Command.Suspend) self.old self.new (ports io.old out.old) (ports io.new out.new) result }
-        ensures stays { Stays P.means self.old self.new (ports io.old out.old) (ports io.new out.new) }
-    {
-        let suspended = suspend(
-            &self.plan,
-            &mut self.kept,
-            self.heap,
-            &mut self.link,
-            io,
-            out,
-        );
-        answer_of(suspended)
-    }
-
-    // Gives the stream of this name parameters, or starts, stops, pauses or releases it.
-    fn ask_on_use(&mut self, name: &Name44, ask: Ask, io: &mut Inputs, out: &mut Outputs) -> Answer
-        requires mode { is_some self.old.up ≡ true }
-        requires sends { asks_for_power ask ≡ true }
-        requires room { HasRoom 983040 out.old }
-        ensures ran { JobRan P.means (early_fault self.old.plan self.old.kept name.now ask) (plain_job self.old.plan (up_state_of P.means self.old) (stream_order self.old.plan self.old.kept name.now ask)) self.old self.new (ports io.old out.old) (ports io.new out.new) result }
-        ensures stays { Stays P.means self.old self.new (ports io.old out.old) (ports io.new out.new) }
-    {
-        let answered = host_pcm::ask(
-            &self.plan,
-            &mut self.kept,
-            self.heap,
-            &mut self.link,
-            io,
-            out,
-            name,
-            ask,
-        );
-        answer_of(answered)
     }
 
     /// Writes the k-th of the lines that say how everything stands, from 0, and answers whether there is one.

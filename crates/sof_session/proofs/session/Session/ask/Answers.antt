@@ -1,10 +1,8 @@
-use Rattle.std.proofs.Common.{refl, ◌∙◌, ap, sym}
-use Rattle.host_widgets.specs.declared.answers.Answer.{Answer}
-use Rattle.sof_session.specs.Commands.{answer_by}
+use Rattle.std.proofs.Common.{arith}
 use Rattle.sof_session.specs.SessionCalls.{ports}
-use Rattle.sof_session.proofs.Agreement.{pending-room, same-up, seat-agrees, is-on}
-use Rattle.sof_session.proofs.CallStays.{sent-stays}
-use Rattle.sof_session.proofs.SentOrders.{stream-call, stream-done}
+use Rattle.sof_session.proofs.Agreement.{pending-room, is-on}
+use Rattle.sof_session.proofs.ModeCalls.{same-sent, ask-steps}
+use Rattle.sof_session.proofs.Writings.{all-room}
 use Rattle.sof_session.proofs.session.Session.ask.Goals as goal
 
 pub ask-asked-requires-clause-on : goal.ask-asked-requires-clause-on
@@ -18,34 +16,17 @@ ask-asked-requires-clause-kept g c = c.self.invariant.agree.record_is
 pub ask-asked-requires-clause-room : goal.ask-asked-requires-clause-room
 ask-asked-requires-clause-room g c =
     let inside = c.self.inside in
-    pending-room g.P.Dsp.means (record { link = inside.link; kept = inside.kept; plan = inside.plan; heap = inside.heap; up = inside.up }) c.self.invariant c.args.out.now c.requires.room
+    pending-room g.P.Dsp.means (record { link = inside.link; kept = inside.kept; plan = inside.plan; heap = inside.heap; up = inside.up }) c.self.invariant c.args.out.now (all-room c.args.out.now c.requires.empty 983040 (omega arith))
 
-pub returns-clause-ran : goal.returns-clause-ran
-returns-clause-ran g c =
+pub returns : goal.returns
+returns g c =
     let inside = c.self.inside in
     let done = c.ask-asked in
-    let agrees = seat-agrees g.P.Dsp.means (record { link = inside.link; kept = inside.kept; plan = inside.plan; heap = inside.heap; up = inside.up }) (same-up c.self.view_is c.requires.mode) c.self.invariant in
-    rw (← c.self.view_is) record {
-      outcome = done.result;
-      tested = record { early = (done.ensures.asked agrees).early; late = (done.ensures.asked agrees).late };
-      said = c.answer_of.ensures ∙ ap (λ (a : Answer). answer_by a done.result) (sym (stream-done inside.plan inside.kept c.args.name.now c.args.ask));
-      up = refl;
-    }
-
-pub returns-clause-stays : goal.returns-clause-stays
-returns-clause-stays g c =
-    let inside = c.self.inside in
-    let done = c.ask-asked in
-    let agrees = seat-agrees g.P.Dsp.means (record { link = inside.link; kept = inside.kept; plan = inside.plan; heap = inside.heap; up = inside.up }) (same-up c.self.view_is c.requires.mode) c.self.invariant in
-    rw (← c.self.view_is)
-    (sent-stays g.P.Dsp.means (record { link = inside.link; kept = inside.kept; plan = inside.plan; heap = inside.heap; up = inside.up }) done.new.dsp (ports c.args.io.now c.args.out.now) (ports done.new.io done.new.out) c.self.invariant (same-up c.self.view_is c.requires.mode) done.new.kept (done.ensures.agree agrees) done.result
-    (stream-call inside.plan c.self.invariant.sound inside.kept c.self.invariant.agree.record_is c.args.name.now c.args.ask) (record { early = (done.ensures.asked agrees).early; late = (done.ensures.asked agrees).late }))
+    rw (← c.self.view_is) (ask-steps g.P.Dsp.means (record { link = inside.link; kept = inside.kept; plan = inside.plan; heap = inside.heap; up = inside.up }) c.self.invariant (same-sent c.self.view_is c.requires.few) done.new.dsp (ports c.args.io.now c.args.out.now) (ports done.new.io done.new.out) c.requires.empty done.new.kept c.answer_of.result done.result c.answer_of.ensures c.args.name.now c.args.ask c.requires.sends done.ensures.answered done.ensures.asked done.ensures.agree)
 
 pub invariant_of-self : goal.invariant_of-self
 invariant_of-self g c =
     let inside = c.self.inside in
     let done = c.ask-asked in
-    let agrees = seat-agrees g.P.Dsp.means (record { link = inside.link; kept = inside.kept; plan = inside.plan; heap = inside.heap; up = inside.up }) (same-up c.self.view_is c.requires.mode) c.self.invariant in
-    let stays = sent-stays g.P.Dsp.means (record { link = inside.link; kept = inside.kept; plan = inside.plan; heap = inside.heap; up = inside.up }) done.new.dsp (ports c.args.io.now c.args.out.now) (ports done.new.io done.new.out) c.self.invariant (same-up c.self.view_is c.requires.mode) done.new.kept (done.ensures.agree agrees) done.result
-    (stream-call inside.plan c.self.invariant.sound inside.kept c.self.invariant.agree.record_is c.args.name.now c.args.ask) (record { early = (done.ensures.asked agrees).early; late = (done.ensures.asked agrees).late }) in
-    stays.later
+    let step = ask-steps g.P.Dsp.means (record { link = inside.link; kept = inside.kept; plan = inside.plan; heap = inside.heap; up = inside.up }) c.self.invariant (same-sent c.self.view_is c.requires.few) done.new.dsp (ports c.args.io.now c.args.out.now) (ports done.new.io done.new.out) c.requires.empty done.new.kept c.answer_of.result done.result c.answer_of.ensures c.args.name.now c.args.ask c.requires.sends done.ensures.answered done.ensures.asked done.ensures.agree in
+    step.agreed

@@ -1,12 +1,10 @@
-use Rattle.std.proofs.Common.{refl, ◌∙◌}
-use Rattle.mbox_link.specs.Link.{link}
-use Rattle.host_ctl.specs.ControlOrders.{read_order}
-use Rattle.host_ctl.specs.ControlAnswers.{outcome_of}
-use Rattle.host_ctl.proofs.ControlShown.{set-for}
+use Rattle.std.proofs.Common.{refl, sym, ap, ◌∙◌, arith}
+use Rattle.host_widgets.specs.declared.answers.Answer.TheVariants.{Fault}
+use Rattle.host_widgets.specs.declared.answers.HostFault.{HostFault}
 use Rattle.sof_session.specs.SessionCalls.{ports}
-use Rattle.sof_session.proofs.Agreement.{pending-room, same-up, seat-agrees, is-on}
-use Rattle.sof_session.proofs.CallStays.{sent-stays}
-use Rattle.sof_session.proofs.ControlCalls.{read-call, told-answers}
+use Rattle.sof_session.proofs.Agreement.{pending-room, is-on}
+use Rattle.sof_session.proofs.ModeCalls.{same-sent, read-steps, read-alone-steps}
+use Rattle.sof_session.proofs.Writings.{all-room}
 use Rattle.sof_session.proofs.session.Session.read.Goals as goal
 
 pub read-told-requires-clause-on : goal.read-told-requires-clause-on
@@ -20,29 +18,30 @@ read-told-requires-clause-kept g c = c.self.invariant.agree.record_is
 pub read-told-requires-clause-room : goal.read-told-requires-clause-room
 read-told-requires-clause-room g c =
     let inside = c.self.inside in
-    pending-room g.P.Dsp.means (record { link = inside.link; kept = inside.kept; plan = inside.plan; heap = inside.heap; up = inside.up }) c.self.invariant c.args.out.now c.requires.room
+    pending-room g.P.Dsp.means (record { link = inside.link; kept = inside.kept; plan = inside.plan; heap = inside.heap; up = inside.up }) c.self.invariant c.args.out.now (all-room c.args.out.now c.requires.empty 983040 (omega arith))
 
-pub returns-clause-ran : goal.returns-clause-ran
-returns-clause-ran g c =
-    let inside = c.self.inside in
-    let done = c.read-told in
-    let agrees = seat-agrees g.P.Dsp.means (record { link = inside.link; kept = inside.kept; plan = inside.plan; heap = inside.heap; up = inside.up }) (same-up c.self.view_is c.requires.mode) c.self.invariant in
-    rw (← c.self.view_is) record { outcome = outcome_of done.result; tested = (done.ensures.asked agrees); said = c.told_answer.ensures ∙ told-answers done.result (read_order inside.plan inside.kept c.args.name.now).answer (done.ensures.told (set-for (link g.P.Dsp.means) inside.plan inside.kept inside.link agrees c.args.name.now)); up = refl }
+-- ---- where it is not up
 
-pub returns-clause-stays : goal.returns-clause-stays
-returns-clause-stays g c =
+pub returns-then-not-is_up : goal.returns-then-not-is_up
+returns-then-not-is_up g c =
     let inside = c.self.inside in
-    let done = c.read-told in
-    let agrees = seat-agrees g.P.Dsp.means (record { link = inside.link; kept = inside.kept; plan = inside.plan; heap = inside.heap; up = inside.up }) (same-up c.self.view_is c.requires.mode) c.self.invariant in
+    let down = sym c.is_up.ensures ∙ c.if-not-is_up.true in
     rw (← c.self.view_is)
-    (sent-stays g.P.Dsp.means (record { link = inside.link; kept = inside.kept; plan = inside.plan; heap = inside.heap; up = inside.up }) done.new.dsp (ports c.args.io.now c.args.out.now) (ports done.new.io done.new.out) c.self.invariant (same-up c.self.view_is c.requires.mode) done.new.kept (done.ensures.agree agrees) (outcome_of done.result)
-    (read-call inside.plan c.self.invariant.sound inside.kept c.self.invariant.agree.record_is c.args.name.now) (done.ensures.asked agrees))
+    (read-alone-steps g.P.Dsp.means (record { link = inside.link; kept = inside.kept; plan = inside.plan; heap = inside.heap; up = inside.up }) c.self.invariant (same-sent c.self.view_is c.requires.few) (ports c.args.io.now c.args.out.now) c.requires.empty inside.kept (Fault c.down_fault.result) c.args.name.now down refl (ap (λ (f : HostFault). Fault f) c.down_fault.ensures))
+
+-- ---- and where it is
+
+pub returns : goal.returns
+returns g c =
+    let inside = c.self.inside in
+    let up = sym c.is_up.ensures ∙ c.if-not-is_up.false in
+    let done = c.read-told in
+    rw (← c.self.view_is) (read-steps g.P.Dsp.means (record { link = inside.link; kept = inside.kept; plan = inside.plan; heap = inside.heap; up = inside.up }) c.self.invariant (same-sent c.self.view_is c.requires.few) done.new.dsp (ports c.args.io.now c.args.out.now) (ports done.new.io done.new.out) c.requires.empty done.new.kept c.told_answer.result c.args.name.now done.result c.told_answer.ensures up done.ensures.answered done.ensures.asked done.ensures.told done.ensures.agree)
 
 pub invariant_of-self : goal.invariant_of-self
 invariant_of-self g c =
     let inside = c.self.inside in
+    let up = sym c.is_up.ensures ∙ c.if-not-is_up.false in
     let done = c.read-told in
-    let agrees = seat-agrees g.P.Dsp.means (record { link = inside.link; kept = inside.kept; plan = inside.plan; heap = inside.heap; up = inside.up }) (same-up c.self.view_is c.requires.mode) c.self.invariant in
-    let stays = sent-stays g.P.Dsp.means (record { link = inside.link; kept = inside.kept; plan = inside.plan; heap = inside.heap; up = inside.up }) done.new.dsp (ports c.args.io.now c.args.out.now) (ports done.new.io done.new.out) c.self.invariant (same-up c.self.view_is c.requires.mode) done.new.kept (done.ensures.agree agrees) (outcome_of done.result)
-    (read-call inside.plan c.self.invariant.sound inside.kept c.self.invariant.agree.record_is c.args.name.now) (done.ensures.asked agrees) in
-    stays.later
+    let step = read-steps g.P.Dsp.means (record { link = inside.link; kept = inside.kept; plan = inside.plan; heap = inside.heap; up = inside.up }) c.self.invariant (same-sent c.self.view_is c.requires.few) done.new.dsp (ports c.args.io.now c.args.out.now) (ports done.new.io done.new.out) c.requires.empty done.new.kept c.told_answer.result c.args.name.now done.result c.told_answer.ensures up done.ensures.answered done.ensures.asked done.ensures.told done.ensures.agree in
+    step.agreed

@@ -1,41 +1,68 @@
-use Rattle.std.proofs.Common.{refl}
+use Rattle.std.proofs.Common.{refl, arith}
+use Rattle.sof_script.specs.declared.script.Command.TheVariants as commands
+use Rattle.sof_session.specs.CommandTests.{fault_of}
 use Rattle.sof_session.specs.SessionCalls.{ports}
-use Rattle.sof_session.proofs.Agreement.{pending-room, same-up, seat-agrees}
-use Rattle.sof_session.proofs.CallStays.{resume-stays}
+use Rattle.sof_session.proofs.Agreement.{pending-room, seat-agrees}
+use Rattle.sof_session.proofs.ModeCalls.{same-sent, resume-steps, left-steps}
 use Rattle.sof_session.proofs.Stepping.{same-ports}
+use Rattle.sof_session.proofs.UpMakes.{made-state, made-agrees}
+use Rattle.sof_session.proofs.Writings.{all-room}
 use Rattle.sof_session.proofs.session.Session.resume.Goals as goal
+
+-- ---- all pipelines are made at a load
 
 pub resume-resumed-requires-clause-agree : goal.resume-resumed-requires-clause-agree
 resume-resumed-requires-clause-agree g c =
     let inside = c.self.inside in
-    seat-agrees g.P.Dsp.means (record { link = inside.link; kept = inside.kept; plan = inside.plan; heap = inside.heap; up = inside.up }) (same-up c.self.view_is c.requires.mode) c.self.invariant
+    seat-agrees g.P.Dsp.means (record { link = inside.link; kept = inside.kept; plan = inside.plan; heap = inside.heap; up = inside.up }) c.in-None.is c.self.invariant
 
 pub resume-resumed-requires-clause-room : goal.resume-resumed-requires-clause-room
 resume-resumed-requires-clause-room g c =
     let inside = c.self.inside in
-    pending-room g.P.Dsp.means (record { link = inside.link; kept = inside.kept; plan = inside.plan; heap = inside.heap; up = inside.up }) c.self.invariant c.args.out.now c.requires.room
+    pending-room g.P.Dsp.means (record { link = inside.link; kept = inside.kept; plan = inside.plan; heap = inside.heap; up = inside.up }) c.self.invariant c.args.out.now (all-room c.args.out.now c.requires.empty 983040 (omega arith))
 
-pub returns-clause-ran : goal.returns-clause-ran
-returns-clause-ran g c =
-    let done = c.resume-resumed in
-    rw (← c.self.view_is) record {
-      call = record { outcome = done.result; tested = done.ensures.carried; said = c.answer_of.ensures; up = refl };
-      left = done.ensures.left;
-      same = same-ports c.args.io.now done.new.io c.args.out.now done.new.out done.ensures.inputs done.ensures.outputs;
-    }
-
-pub returns-clause-stays : goal.returns-clause-stays
-returns-clause-stays g c =
+pub returns-in-None : goal.returns-in-None
+returns-in-None g c =
     let inside = c.self.inside in
     let done = c.resume-resumed in
-    rw (← c.self.view_is)
-    (resume-stays g.P.Dsp.means (record { link = inside.link; kept = inside.kept; plan = inside.plan; heap = inside.heap; up = inside.up }) done.new.dsp (ports c.args.io.now c.args.out.now) (ports done.new.io done.new.out) c.self.invariant (same-up c.self.view_is c.requires.mode) done.new.kept done.ensures.agree done.result done.ensures.carried done.ensures.left
-    (same-ports c.args.io.now done.new.io c.args.out.now done.new.out done.ensures.inputs done.ensures.outputs))
+    rw (← c.self.view_is) (resume-steps g.P.Dsp.means (record { link = inside.link; kept = inside.kept; plan = inside.plan; heap = inside.heap; up = inside.up }) c.self.invariant (same-sent c.self.view_is c.requires.few) done.new.dsp (ports c.args.io.now c.args.out.now) (ports done.new.io done.new.out) c.requires.empty done.new.kept c.answer_of.result done.result c.answer_of.ensures c.in-None.is done.ensures.agree (same-ports c.args.io.now done.new.io c.args.out.now done.new.out done.ensures.inputs done.ensures.outputs) done.ensures.carried done.ensures.left)
 
 pub invariant_of-self : goal.invariant_of-self
 invariant_of-self g c =
     let inside = c.self.inside in
     let done = c.resume-resumed in
-    let stays = resume-stays g.P.Dsp.means (record { link = inside.link; kept = inside.kept; plan = inside.plan; heap = inside.heap; up = inside.up }) done.new.dsp (ports c.args.io.now c.args.out.now) (ports done.new.io done.new.out) c.self.invariant (same-up c.self.view_is c.requires.mode) done.new.kept done.ensures.agree done.result done.ensures.carried done.ensures.left
-    (same-ports c.args.io.now done.new.io c.args.out.now done.new.out done.ensures.inputs done.ensures.outputs) in
-    stays.later
+    let step = resume-steps g.P.Dsp.means (record { link = inside.link; kept = inside.kept; plan = inside.plan; heap = inside.heap; up = inside.up }) c.self.invariant (same-sent c.self.view_is c.requires.few) done.new.dsp (ports c.args.io.now c.args.out.now) (ports done.new.io done.new.out) c.requires.empty done.new.kept c.answer_of.result done.result c.answer_of.ensures c.in-None.is done.ensures.agree (same-ports c.args.io.now done.new.io c.args.out.now done.new.out done.ensures.inputs done.ensures.outputs) done.ensures.carried done.ensures.left in
+    step.agreed
+
+-- ---- they are made on use
+
+pub resume-remade-requires-clause-state : goal.resume-remade-requires-clause-state
+resume-remade-requires-clause-state g c =
+    let inside = c.self.inside in
+    made-state g.P.Dsp.means (record { link = inside.link; kept = inside.kept; plan = inside.plan; heap = inside.heap; up = inside.up }) c.self.invariant c.in-Some.up c.in-Some.is
+
+pub resume-remade-requires-clause-agree : goal.resume-remade-requires-clause-agree
+resume-remade-requires-clause-agree g c =
+    let inside = c.self.inside in
+    made-agrees g.P.Dsp.means (record { link = inside.link; kept = inside.kept; plan = inside.plan; heap = inside.heap; up = inside.up }) c.self.invariant c.in-Some.up c.in-Some.is
+
+pub resume-remade-requires-clause-heap : goal.resume-remade-requires-clause-heap
+resume-remade-requires-clause-heap g c = c.self.invariant.room
+
+pub resume-remade-requires-clause-room : goal.resume-remade-requires-clause-room
+resume-remade-requires-clause-room g c =
+    let inside = c.self.inside in
+    pending-room g.P.Dsp.means (record { link = inside.link; kept = inside.kept; plan = inside.plan; heap = inside.heap; up = inside.up }) c.self.invariant c.args.out.now (all-room c.args.out.now c.requires.empty 983040 (omega arith))
+
+pub returns-in-Some : goal.returns-in-Some
+returns-in-Some g c =
+    let inside = c.self.inside in
+    let done = c.resume-remade in
+    rw (← c.self.view_is) (left-steps g.P.Dsp.means (record { link = inside.link; kept = inside.kept; plan = inside.plan; heap = inside.heap; up = inside.up }) c.self.invariant (same-sent c.self.view_is c.requires.few) done.new.dsp (ports c.args.io.now c.args.out.now) (ports done.new.io done.new.out) c.requires.empty done.new.kept c.answer_of-in-Some.result c.in-Some.up c.in-Some.up c.in-Some.is commands.Resume refl refl done.result c.answer_of-in-Some.ensures (fault_of inside.plan inside.kept commands.Resume) refl done.ensures.done done.ensures.state done.ensures.agree)
+
+pub invariant_of-self-in-Some : goal.invariant_of-self-in-Some
+invariant_of-self-in-Some g c =
+    let inside = c.self.inside in
+    let done = c.resume-remade in
+    let step = left-steps g.P.Dsp.means (record { link = inside.link; kept = inside.kept; plan = inside.plan; heap = inside.heap; up = inside.up }) c.self.invariant (same-sent c.self.view_is c.requires.few) done.new.dsp (ports c.args.io.now c.args.out.now) (ports done.new.io done.new.out) c.requires.empty done.new.kept c.answer_of-in-Some.result c.in-Some.up c.in-Some.up c.in-Some.is commands.Resume refl refl done.result c.answer_of-in-Some.ensures (fault_of inside.plan inside.kept commands.Resume) refl done.ensures.done done.ensures.state done.ensures.agree in
+    step.agreed

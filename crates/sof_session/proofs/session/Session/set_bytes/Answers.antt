@@ -1,11 +1,12 @@
-use Rattle.std.proofs.Common.{refl, ◌∙◌, ap, sym}
-use Rattle.host_widgets.specs.declared.answers.Answer.{Answer}
-use Rattle.sof_session.specs.Commands.{answer_by}
+use Rattle.std.proofs.Common.{sym, ◌∙◌, arith}
 use Rattle.sof_session.specs.SessionCalls.{ports}
-use Rattle.sof_session.proofs.Agreement.{pending-room, same-up, seat-agrees, is-on}
-use Rattle.sof_session.proofs.CallStays.{sent-stays}
-use Rattle.sof_session.proofs.ControlCalls.{bytes-call, bytes-answers}
+use Rattle.sof_session.proofs.Agreement.{pending-room, is-on}
+use Rattle.sof_session.proofs.ModeCalls.{same-sent, bytes-steps, bytes-alone-steps}
+use Rattle.sof_session.proofs.Writings.{all-room}
 use Rattle.sof_session.proofs.session.Session.set_bytes.Goals as goal
+
+pub keep_bytes-requires-clause-kept : goal.keep_bytes-requires-clause-kept
+keep_bytes-requires-clause-kept g c = c.self.invariant.agree.record_is
 
 pub set_bytes-done-requires-clause-on : goal.set_bytes-done-requires-clause-on
 set_bytes-done-requires-clause-on g c =
@@ -18,29 +19,38 @@ set_bytes-done-requires-clause-kept g c = c.self.invariant.agree.record_is
 pub set_bytes-done-requires-clause-room : goal.set_bytes-done-requires-clause-room
 set_bytes-done-requires-clause-room g c =
     let inside = c.self.inside in
-    pending-room g.P.Dsp.means (record { link = inside.link; kept = inside.kept; plan = inside.plan; heap = inside.heap; up = inside.up }) c.self.invariant c.args.out.now c.requires.room
+    pending-room g.P.Dsp.means (record { link = inside.link; kept = inside.kept; plan = inside.plan; heap = inside.heap; up = inside.up }) c.self.invariant c.args.out.now (all-room c.args.out.now c.requires.empty 983040 (omega arith))
 
-pub returns-clause-ran : goal.returns-clause-ran
-returns-clause-ran g c =
-    let inside = c.self.inside in
-    let done = c.set_bytes-done in
-    let agrees = seat-agrees g.P.Dsp.means (record { link = inside.link; kept = inside.kept; plan = inside.plan; heap = inside.heap; up = inside.up }) (same-up c.self.view_is c.requires.mode) c.self.invariant in
-    rw (← c.self.view_is, ← c.items.ensures.value) record { outcome = done.result; tested = (done.ensures.asked agrees); said = c.answer_of.ensures ∙ ap (λ (a : Answer). answer_by a done.result) (sym (bytes-answers inside.plan inside.kept c.args.name.now c.items.result.now)); up = refl }
+-- ---- in the record alone
 
-pub returns-clause-stays : goal.returns-clause-stays
-returns-clause-stays g c =
+pub returns-then-not-is_up : goal.returns-then-not-is_up
+returns-then-not-is_up g c =
     let inside = c.self.inside in
-    let done = c.set_bytes-done in
-    let agrees = seat-agrees g.P.Dsp.means (record { link = inside.link; kept = inside.kept; plan = inside.plan; heap = inside.heap; up = inside.up }) (same-up c.self.view_is c.requires.mode) c.self.invariant in
-    rw (← c.self.view_is)
-    (sent-stays g.P.Dsp.means (record { link = inside.link; kept = inside.kept; plan = inside.plan; heap = inside.heap; up = inside.up }) done.new.dsp (ports c.args.io.now c.args.out.now) (ports done.new.io done.new.out) c.self.invariant (same-up c.self.view_is c.requires.mode) done.new.kept (done.ensures.agree agrees) done.result
-    (bytes-call inside.plan c.self.invariant.sound inside.kept c.self.invariant.agree.record_is c.args.name.now c.items.result.now) (done.ensures.asked agrees))
+    let down = sym c.is_up.ensures ∙ c.if-not-is_up.true in
+    let done = c.keep_bytes in
+    rw (← c.self.view_is, ← c.items.ensures.value) (bytes-alone-steps g.P.Dsp.means (record { link = inside.link; kept = inside.kept; plan = inside.plan; heap = inside.heap; up = inside.up }) c.self.invariant (same-sent c.self.view_is c.requires.few) (ports c.args.io.now c.args.out.now) c.requires.empty done.new.kept c.answer_of.result c.args.name.now down done.result c.answer_of.ensures c.items.result.now done.ensures.kept)
 
 pub invariant_of-self : goal.invariant_of-self
 invariant_of-self g c =
     let inside = c.self.inside in
+    let down = sym c.is_up.ensures ∙ c.if-not-is_up.true in
+    let done = c.keep_bytes in
+    let step = bytes-alone-steps g.P.Dsp.means (record { link = inside.link; kept = inside.kept; plan = inside.plan; heap = inside.heap; up = inside.up }) c.self.invariant (same-sent c.self.view_is c.requires.few) (ports c.args.io.now c.args.out.now) c.requires.empty done.new.kept c.answer_of.result c.args.name.now down done.result c.answer_of.ensures c.items.result.now done.ensures.kept in
+    step.agreed
+
+-- ---- and where it is up
+
+pub returns : goal.returns
+returns g c =
+    let inside = c.self.inside in
+    let up = sym c.is_up.ensures ∙ c.if-not-is_up.false in
     let done = c.set_bytes-done in
-    let agrees = seat-agrees g.P.Dsp.means (record { link = inside.link; kept = inside.kept; plan = inside.plan; heap = inside.heap; up = inside.up }) (same-up c.self.view_is c.requires.mode) c.self.invariant in
-    let stays = sent-stays g.P.Dsp.means (record { link = inside.link; kept = inside.kept; plan = inside.plan; heap = inside.heap; up = inside.up }) done.new.dsp (ports c.args.io.now c.args.out.now) (ports done.new.io done.new.out) c.self.invariant (same-up c.self.view_is c.requires.mode) done.new.kept (done.ensures.agree agrees) done.result
-    (bytes-call inside.plan c.self.invariant.sound inside.kept c.self.invariant.agree.record_is c.args.name.now c.items.result.now) (done.ensures.asked agrees) in
-    stays.later
+    rw (← c.self.view_is, ← c.items-2.ensures.value) (bytes-steps g.P.Dsp.means (record { link = inside.link; kept = inside.kept; plan = inside.plan; heap = inside.heap; up = inside.up }) c.self.invariant (same-sent c.self.view_is c.requires.few) done.new.dsp (ports c.args.io.now c.args.out.now) (ports done.new.io done.new.out) c.requires.empty done.new.kept c.answer_of-2.result done.result c.answer_of-2.ensures c.args.name.now c.items-2.result.now up done.ensures.answered done.ensures.asked done.ensures.agree)
+
+pub invariant_of-self-2 : goal.invariant_of-self-2
+invariant_of-self-2 g c =
+    let inside = c.self.inside in
+    let up = sym c.is_up.ensures ∙ c.if-not-is_up.false in
+    let done = c.set_bytes-done in
+    let step = bytes-steps g.P.Dsp.means (record { link = inside.link; kept = inside.kept; plan = inside.plan; heap = inside.heap; up = inside.up }) c.self.invariant (same-sent c.self.view_is c.requires.few) done.new.dsp (ports c.args.io.now c.args.out.now) (ports done.new.io done.new.out) c.requires.empty done.new.kept c.answer_of-2.result done.result c.answer_of-2.ensures c.args.name.now c.items-2.result.now up done.ensures.answered done.ensures.asked done.ensures.agree in
+    step.agreed

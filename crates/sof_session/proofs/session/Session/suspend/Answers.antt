@@ -1,7 +1,8 @@
-use Rattle.std.proofs.Common.{refl}
+use Rattle.std.proofs.Common.{arith}
 use Rattle.sof_session.specs.SessionCalls.{ports}
-use Rattle.sof_session.proofs.Agreement.{pending-room, same-up, seat-agrees, is-on}
-use Rattle.sof_session.proofs.CallStays.{suspend-stays}
+use Rattle.sof_session.proofs.Agreement.{pending-room, is-on}
+use Rattle.sof_session.proofs.ModeCalls.{same-sent, suspend-steps}
+use Rattle.sof_session.proofs.Writings.{all-room}
 use Rattle.sof_session.proofs.session.Session.suspend.Goals as goal
 
 pub suspend-suspended-requires-clause-on : goal.suspend-suspended-requires-clause-on
@@ -15,27 +16,17 @@ suspend-suspended-requires-clause-kept g c = c.self.invariant.agree.record_is
 pub suspend-suspended-requires-clause-room : goal.suspend-suspended-requires-clause-room
 suspend-suspended-requires-clause-room g c =
     let inside = c.self.inside in
-    pending-room g.P.Dsp.means (record { link = inside.link; kept = inside.kept; plan = inside.plan; heap = inside.heap; up = inside.up }) c.self.invariant c.args.out.now c.requires.room
+    pending-room g.P.Dsp.means (record { link = inside.link; kept = inside.kept; plan = inside.plan; heap = inside.heap; up = inside.up }) c.self.invariant c.args.out.now (all-room c.args.out.now c.requires.empty 983040 (omega arith))
 
-pub returns-clause-ran : goal.returns-clause-ran
-returns-clause-ran g c =
+pub returns : goal.returns
+returns g c =
     let inside = c.self.inside in
     let done = c.suspend-suspended in
-    let agrees = seat-agrees g.P.Dsp.means (record { link = inside.link; kept = inside.kept; plan = inside.plan; heap = inside.heap; up = inside.up }) (same-up c.self.view_is c.requires.mode) c.self.invariant in
-    rw (← c.self.view_is) record { outcome = done.result; tested = (done.ensures.carried agrees); said = c.answer_of.ensures; up = refl }
-
-pub returns-clause-stays : goal.returns-clause-stays
-returns-clause-stays g c =
-    let inside = c.self.inside in
-    let done = c.suspend-suspended in
-    let agrees = seat-agrees g.P.Dsp.means (record { link = inside.link; kept = inside.kept; plan = inside.plan; heap = inside.heap; up = inside.up }) (same-up c.self.view_is c.requires.mode) c.self.invariant in
-    rw (← c.self.view_is)
-    (suspend-stays g.P.Dsp.means (record { link = inside.link; kept = inside.kept; plan = inside.plan; heap = inside.heap; up = inside.up }) done.new.dsp (ports c.args.io.now c.args.out.now) (ports done.new.io done.new.out) c.self.invariant (same-up c.self.view_is c.requires.mode) done.new.kept (done.ensures.agree agrees) done.result (done.ensures.carried agrees))
+    rw (← c.self.view_is) (suspend-steps g.P.Dsp.means (record { link = inside.link; kept = inside.kept; plan = inside.plan; heap = inside.heap; up = inside.up }) c.self.invariant (same-sent c.self.view_is c.requires.few) done.new.dsp (ports c.args.io.now c.args.out.now) (ports done.new.io done.new.out) c.requires.empty done.new.kept c.answer_of.result done.result c.answer_of.ensures done.ensures.early done.ensures.down done.ensures.carried done.ensures.agree)
 
 pub invariant_of-self : goal.invariant_of-self
 invariant_of-self g c =
     let inside = c.self.inside in
     let done = c.suspend-suspended in
-    let agrees = seat-agrees g.P.Dsp.means (record { link = inside.link; kept = inside.kept; plan = inside.plan; heap = inside.heap; up = inside.up }) (same-up c.self.view_is c.requires.mode) c.self.invariant in
-    let stays = suspend-stays g.P.Dsp.means (record { link = inside.link; kept = inside.kept; plan = inside.plan; heap = inside.heap; up = inside.up }) done.new.dsp (ports c.args.io.now c.args.out.now) (ports done.new.io done.new.out) c.self.invariant (same-up c.self.view_is c.requires.mode) done.new.kept (done.ensures.agree agrees) done.result (done.ensures.carried agrees) in
-    stays.later
+    let step = suspend-steps g.P.Dsp.means (record { link = inside.link; kept = inside.kept; plan = inside.plan; heap = inside.heap; up = inside.up }) c.self.invariant (same-sent c.self.view_is c.requires.few) done.new.dsp (ports c.args.io.now c.args.out.now) (ports done.new.io done.new.out) c.requires.empty done.new.kept c.answer_of.result done.result c.answer_of.ensures done.ensures.early done.ensures.down done.ensures.carried done.ensures.agree in
+    step.agreed

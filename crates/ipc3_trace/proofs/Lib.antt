@@ -1,4 +1,6 @@
 pub mod Stands
+pub mod HeadLaws
+pub mod WrittenParts
 pub mod RecordLaws
 pub mod WholeLaws
 pub mod WordLines

@@ -10,11 +10,13 @@ mod kind;
 mod laws;
 mod reading;
 mod tracer;
+mod writing;
 
 pub use describing::describe;
 pub use entry::{Entry, Next};
 pub use fault::TraceFault;
 pub use kind::RecordKind;
 pub use laws::{alike_laws, held_law, leading_laws, traces_are_read};
-pub use reading::{first_fault, record_at};
+pub use reading::{first_fault, record_at, size_after};
 pub use tracer::Tracer;
+pub use writing::put_record;

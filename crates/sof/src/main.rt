@@ -1,13 +1,18 @@
-//! The program: does what the words of its command line ask for, over the files of this machine and a firmware of its own.
-//! Standard output has what was asked for, and standard error why the system did not let it be done.
+//! The program: does what its words ask for, over this machine's files and a firmware of its own. Standard error says what went wrong.
 #![tactic(auto)]
 
+ghost use Rattle.std.specs.Prelude.{◌≡◌, None};
+
+mod driving;
 mod reasons;
 mod warnings;
 
-use crate::reasons::reason;
+use crate::driving::{drive, drive_words};
+use crate::reasons::{reason, stopped_reason};
 use crate::warnings::{plays, tell_warnings};
 use fw_core::Firmware;
+use mbox_link::Dsp;
+use run_serve::{ServeFiles, serve, serve_files};
 use sof_base::NoMemory;
 use sof_desk::Desk;
 use sof_faults::{ShownName, words_fault};
@@ -38,6 +43,9 @@ Forms:
                                   plays a script, and keeps the device's messages in TRACE
   sof decode TRACE                tells the records of a trace in words, one a line
   sof replay TRACE                gives the records of a trace to a device, and judges its replies
+  sof serve REQUESTS REPLIES      gives a driver's records to a device, and writes what comes back
+  sof drive HEAP TOPOLOGY SCRIPT REQUESTS REPLIES
+                                  plays a script against a firmware of your own, and judges its replies
   sof --help, sof -h              prints this text
   sof --version, sof -V           prints the version
 
@@ -48,7 +56,7 @@ Statuses:
   0  all was carried out; the transcript tells which commands were refused
   1  the words have none of the forms
   2  TOPOLOGY is no topology file, it breaks a rule, or no source carries it; or
-     TRACE has a fault, or a record of it is not what the device does
+     TRACE or REQUESTS has a fault, or a record is not what the device does
   3  a file or standard output failed; standard error tells which and why
   4  a line of SCRIPT or an entry of SOURCE is at fault
   5  a file is longer than its limit
@@ -126,8 +134,8 @@ fn is_reader_gone(trouble: &Trouble) -> bool {
     }
 }
 
-// Tells a trouble, where somebody is there whom it troubles.
-fn tell_trouble(rt: &HostRuntime, trouble: &Trouble) {
+/// Tells a trouble, where somebody is there whom it troubles.
+pub fn tell_trouble(rt: &HostRuntime, trouble: &Trouble) {
     if !is_reader_gone(trouble) {
         tell(rt, ShownTrouble(trouble));
     }
@@ -166,12 +174,35 @@ fn explain(
     Ok(())
 }
 
-// The top call over real files and a firmware.
-fn play(rt: &HostRuntime, words: &[String]) -> Result<u8, NoMemory> {
+// A firmware serves a driver over real files.
+fn serve_driver(rt: &HostRuntime, files: ServeFiles<'_>) -> Result<u8, NoMemory> {
     let dsp = Firmware::new(rt.alloc(), ROOM)?;
-    let real = OsDesk::new(rt, rt.alloc())?;
+    let mut desk = OsDesk::new(rt, rt.alloc())?;
+    let served = serve(rt.alloc(), files, &mut desk, dsp);
+    if let Some(trouble) = desk.trouble() {
+        tell_trouble(rt, trouble);
+    }
+    if served.status == 2
+        && let Some(stopped) = &served.stopped
+    {
+        let _ = stopped_reason(rt, files.requests, stopped);
+    }
+    Ok(served.status)
+}
+
+/// The top call over a desk of real files and a device that is off, which is handed back. `NoMemory` does not come.
+pub fn play_over<'a, P: Dsp>(
+    rt: &'a HostRuntime,
+    words: &[String],
+    real: OsDesk<&'a HostRuntime>,
+    dsp: P,
+) -> Result<(u8, P), NoMemory>
+    requires off { P.means.on dsp ≡ None }
+    requires pending { P.means.pending dsp ≡ 0 }
+{
     let mut desk = Listener::new(rt.alloc(), real, plays(words));
-    let mut status = run(rt.alloc(), words, &mut desk, dsp).status;
+    let ended = run(rt.alloc(), words, &mut desk, dsp);
+    let mut status = ended.status;
     // A run that said no line has its files emptied at its end.
     if status == 0 && desk.say(b"").is_err() {
         status = 3;
@@ -180,6 +211,14 @@ fn play(rt: &HostRuntime, words: &[String]) -> Result<u8, NoMemory> {
         tell_trouble(rt, trouble);
     }
     let _ = explain(rt, words, status, desk.answers());
+    Ok((status, ended.dsp))
+}
+
+// The top call over real files and a firmware.
+fn play(rt: &HostRuntime, words: &[String]) -> Result<u8, NoMemory> {
+    let dsp = Firmware::new(rt.alloc(), ROOM)?;
+    let desk = OsDesk::new(rt, rt.alloc())?;
+    let (status, _dsp) = play_over(rt, words, desk, dsp)?;
     Ok(status)
 }
 
@@ -192,7 +231,12 @@ fn status(rt: &HostRuntime, words: &[String]) -> u8 {
             _ => {}
         }
     }
-    match play(rt, words) {
+    let ended = match (serve_files(words), drive_words(words)) {
+        (Some(files), _) => serve_driver(rt, files),
+        (None, Some(words)) => drive(rt, words),
+        (None, None) => play(rt, words),
+    };
+    match ended {
         Ok(status) => status,
         Err(NoMemory) => no_memory(rt),
     }

@@ -1,18 +1,22 @@
 // The reason for a run's status, read off its files once more.
 ghost use Rattle.std.specs.Prelude.{◌≤◌, length, IfOk, IfSome};
 
-use crate::ROOM;
+use crate::{ROOM, tell};
 use fw_core::Firmware;
-use sof_base::NoMemory;
+use ipc3_trace::{Entry, Next, record_at};
+use run_serve::{Stopped, last_reply};
+use sof_base::{Bounded, NoMemory};
 use sof_desk::{Desk, LoadFault};
 use sof_faults::{
-    Misfit, binding_sentence, misfit_sentence, no_source_sentence, script_sentence,
-    source_sentence, topology_sentence, trace_sentence,
+    binding_sentence, no_source_sentence, script_sentence, source_sentence, topology_sentence,
 };
 use sof_files::OsDesk;
 use sof_run::{ReplayFault, record_at_fault};
 use sof_warnings::{text_sentence, ticks_sentence};
 use std::fs;
+use trace_faults::{
+    Misfit, loss_misfit, misfit_sentence, record_sentence, reply_misfit, trace_sentence,
+};
 
 /// The most bytes of a topology, a script and a source that the top call loads.
 pub const LIMIT: usize = 1048576;
@@ -73,6 +77,35 @@ fn trace_reason(rt: &HostRuntime, name: &str) -> Result<Option<String>, NoMemory
     }
 }
 
+// What a new device answers to the message in front of a place of a trace.
+fn given_reply(
+    rt: &HostRuntime,
+    bytes: &[u8],
+    at: usize,
+) -> Result<Option<Bounded<u8, 384>>, NoMemory> {
+    let Some((before, _)) = bytes.split_at_checked(at) else {
+        return Ok(None);
+    };
+    let dsp = Firmware::new(rt.alloc(), ROOM)?;
+    last_reply(rt.alloc(), before, dsp)
+}
+
+// How the reply or the loss at a place of a trace differs from the reply that a new device gives.
+fn reply_reason(rt: &HostRuntime, bytes: &[u8], at: usize) -> Result<Option<Misfit>, NoMemory> {
+    let Some(given) = given_reply(rt, bytes, at)? else {
+        return Ok(None);
+    };
+    let Some((_, rest)) = bytes.split_at_checked(at) else {
+        return Ok(None);
+    };
+    if let Ok(Next::One { entry, next: _next }) = record_at(rest, 0)
+        && let Entry::Reply(recorded) = entry
+    {
+        return Ok(reply_misfit(recorded.items(), given.items()));
+    }
+    Ok(loss_misfit(given.items()))
+}
+
 // What is wrong with a record of the trace of a name that is given to a device.
 fn replay_reason(rt: &HostRuntime, name: &str) -> Result<Option<String>, NoMemory> {
     let Some(bytes) = loaded(rt, name, TRACE_LIMIT)? else {
@@ -81,13 +114,32 @@ fn replay_reason(rt: &HostRuntime, name: &str) -> Result<Option<String>, NoMemor
     let dsp = Firmware::new(rt.alloc(), ROOM)?;
     let (misfit, at) = match record_at_fault(rt.alloc(), &bytes, dsp)? {
         Some(ReplayFault::Broken(_)) => return trace_sentence(rt.alloc(), name, &bytes),
-        Some(ReplayFault::Order(at)) if at == bytes.len() => (Misfit::End, at),
-        Some(ReplayFault::Order(at)) => (Misfit::Order, at),
-        Some(ReplayFault::Lost(at)) => (Misfit::Lost, at),
-        Some(ReplayFault::Replied(at)) => (Misfit::Reply, at),
+        Some(ReplayFault::Order(at)) if at == bytes.len() => (Some(Misfit::End), at),
+        Some(ReplayFault::Order(at)) => (Some(Misfit::Order), at),
+        Some(ReplayFault::Lost(at) | ReplayFault::Replied(at)) => {
+            (reply_reason(rt, &bytes, at)?, at)
+        }
         None => return Ok(None),
     };
-    Ok(Some(misfit_sentence(rt.alloc(), name, at, misfit)?))
+    match misfit {
+        Some(misfit) => Ok(Some(misfit_sentence(rt.alloc(), name, &bytes, at, misfit)?)),
+        None => Ok(None),
+    }
+}
+
+/// Tells what is wrong with the record of the file of a name at which serving stopped.
+///
+/// `NoMemory` where there is none for the sentence.
+pub fn stopped_reason(rt: &HostRuntime, name: &str, stopped: &Stopped) -> Result<(), NoMemory> {
+    let sentence = record_sentence(
+        rt.alloc(),
+        name,
+        stopped.before,
+        stopped.at,
+        stopped.record.items(),
+    )?;
+    tell(rt, sentence.as_str());
+    Ok(())
 }
 
 // What is wrong with the source of a name.

@@ -1,4 +1,4 @@
-//! Says in words what is wrong with a command line, a topology, a script, a source or a trace: what, where, and by name.
+//! Says in words what is wrong with a command line, a topology, a script or a source: what, where, and by name.
 //!
 //! A sentence has no newline. Names stand in it as they are, but for what a terminal would not show, which stands as `\xNN`.
 #![tactic(auto)]
@@ -8,7 +8,6 @@ mod script_fault;
 mod shown;
 mod source_fault;
 mod topology_fault;
-mod trace_fault;
 mod usage;
 mod words;
 
@@ -16,5 +15,4 @@ pub use script_fault::{binding_sentence, script_sentence};
 pub use shown::{Shown, ShownName};
 pub use source_fault::source_sentence;
 pub use topology_fault::{no_source_sentence, topology_in, topology_sentence};
-pub use trace_fault::{Misfit, misfit_sentence, trace_sentence};
 pub use words::{WordsFault, words_fault};

@@ -60,7 +60,7 @@ impl Display for Takes {
 }
 
 // Each form's word, and the words that it takes.
-const FORMS: [(&str, Takes); 10] = [
+const FORMS: [(&str, Takes); 12] = [
     ("play", Takes(&["HEAP", "TOPOLOGY", "SCRIPT"])),
     ("dynamic", Takes(&["HEAP", "TOPOLOGY", "SCRIPT"])),
     ("check", Takes(&["TOPOLOGY"])),
@@ -71,6 +71,11 @@ const FORMS: [(&str, Takes); 10] = [
     ("trace", Takes(&["HEAP", "TOPOLOGY", "SCRIPT", "TRACE"])),
     ("decode", Takes(&["TRACE"])),
     ("replay", Takes(&["TRACE"])),
+    ("serve", Takes(&["REQUESTS", "REPLIES"])),
+    (
+        "drive",
+        Takes(&["HEAP", "TOPOLOGY", "SCRIPT", "REQUESTS", "REPLIES"]),
+    ),
 ];
 
 // The form of a word, and the words that it takes.

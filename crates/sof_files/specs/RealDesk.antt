@@ -6,10 +6,11 @@ use Rattle.sof_desk.specs.declared.calls.TheConstants.{SLOTS}
 use Rattle.sof_desk.specs.Counts.{one_more}
 use Rattle.sof_desk.specs.Desk.{DeskMeaning, DeskAct, Create, Put, Open, Heard}
 use Rattle.sof_files.specs.OutFiles.{OutView, slots_of, GivesFiles}
+use Rattle.sof_desk.specs.declared.calls.FileUse.{FileUse}
 use Rattle.sof_desk.specs.declared.calls.FileUse.TheVariants.{ToRead}
 use Rattle.sof_files.specs.declared.file_use.FileId.{FileId}
 use Rattle.sof_files.specs.declared.file_use.UsedFile.{UsedFile}
-use Rattle.sof_files.specs.UsedFiles.{use_in, TakesFile, TakesForCall}
+use Rattle.sof_files.specs.UsedFiles.{use_in, TakesFile, TakesWhere, TakesForCall}
 use Rattle.sof_files.specs.InFiles.{InView, opens_of, left_in_file, SameLeftBeside, KeepsLeft, LeavesOf}
 
 -- the files of the slots that were created and of those that are open, the files that were taken, and how many calls failed
@@ -64,6 +65,13 @@ pub record RealLoads (name : List ℕ) (limit : ℕ) (heard : Heard) (old new : 
   pub files : new.files ≡ old.files
   pub inputs : new.inputs ≡ old.inputs
   pub takes : TakesFile ToRead old.uses new.uses
+
+-- a file that is handed out is taken for its use, and a failure is counted; no other file is touched
+pub record HandsOut (usage : FileUse) (done : Bool) (old new : RealDesk) : Type 0 where
+  pub faults : new.faults ≡ (if done then old.faults else one_more old.faults)
+  pub files : new.files ≡ old.files
+  pub inputs : new.inputs ≡ old.inputs
+  pub takes : TakesWhere usage done old.uses new.uses
 
 -- a read takes its bytes from the file of its slot, keeps all other files and counts a failure
 pub record RealReads (slot size : ℕ) (got : Option (List ℕ)) (old new : RealDesk) : Type 0 where

@@ -33,6 +33,11 @@ IsTaken usage file old new = MayTake usage file old × (new ≡ used_with usage 
 abbrev pub TakesFile : FileUse → (old new : List UsedFile) → Type 0
 TakesFile usage old new = (file : Option FileId) × IsTaken usage file old new
 
+-- where a call was done, some file is taken for a use, and else none
+abbrev pub TakesWhere : FileUse → (done : Bool) → (old new : List UsedFile) → Type 0
+TakesWhere usage true old new = TakesFile usage old new
+TakesWhere usage false old new = new ≡ old
+
 -- what a call takes: a create a file to be written, an open one to be read, and any other call none
 abbrev pub TakesForCall : DeskAct → (done : Bool) → (old new : List UsedFile) → Type 0
 TakesForCall (Create slot name) true old new = TakesFile ToWrite old new

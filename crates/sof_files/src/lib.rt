@@ -12,4 +12,5 @@ mod trouble;
 mod troubles;
 
 pub use os::OsDesk;
+pub use sink::Sink;
 pub use trouble::{Subject, Trouble};

@@ -2,15 +2,16 @@
 ghost use Rattle.std.specs.Prelude.{◌≡◌, ◌≤◌, length, [], is_ok, is_some, nat_lt, IfOk, OnErr, if◌then◌else◌};
 ghost use Rattle.sof_desk.specs.declared.calls.FileUse.TheVariants.{ToRead, ToWrite};
 ghost use Rattle.sof_desk.specs.Desk.{Create, Open};
-ghost use Rattle.sof_files.specs.UsedFiles.{TakesFile, TakesForCall, IsTaken};
+ghost use Rattle.sof_files.specs.UsedFiles.{TakesFile, TakesWhere, TakesForCall, IsTaken};
 ghost use Rattle.sof_files.specs.OutFiles.{slots_of, SameBeside};
 ghost use Rattle.sof_files.specs.InFiles.{opens_of, KeepsLeft};
-ghost use Rattle.sof_files.specs.RealDesk.{real, slots_with};
+ghost use Rattle.sof_files.specs.RealDesk.{real, slots_with, HandsOut};
 
 use crate::file_use::{FileId, UsedFile, id_of, take};
 use crate::in_file;
 use crate::in_file::InFile;
 use crate::out_file::{OutFile, append_in, place_of, write_kept_of};
+use crate::sink::Sink;
 use crate::transfer::{ReadFault, read_all, write_all};
 use crate::trouble::{Subject, Trouble};
 use crate::troubles::Troubles;
@@ -24,7 +25,7 @@ use std::{fs, io};
 
 /// A desk over the files and the standard output of a runtime. It has room for 130 slots to append to and 130 to read. It keeps up
 /// to 256 KiB of what is appended to each, and writes them before a line is said. A file that it created a slot for is emptied when
-/// its first bytes go out or the next line is said. It tells no content; what it gives and takes is what the runtime does. By device and
+/// its first bytes go out or the next line is said, and one that it hands out before its first bytes. It tells no content; what it gives and takes is what the runtime does. By device and
 /// number it tells whether two names are one file, but for special files.
 #[derive(Drop)]
 pub struct OsDesk<R: Files> {
@@ -76,6 +77,35 @@ impl<R: Files + Print + Drop> OsDesk<R> {
         ensures { is_some result ≡ nat_lt 0 self.now.faults }
     {
         self.troubles.first()
+    }
+
+    /// Opens a file to be written and hands it out, made where there is none. It stands as it was until bytes go out. Fails, which is
+    /// counted, where the file was not opened, or where this run reads it or writes it already.
+    pub fn file_to_write(&mut self, name: &str) -> Result<Sink<R::File>, DeskFailed>
+        ensures { HandsOut ToWrite (is_ok result) self.old self.new }
+    {
+        match sink_of(&self.rt, name, &mut self.uses) {
+            Ok(sink) => Ok(sink),
+            Err(reason) => {
+                self.troubles
+                    .note(Trouble::with_file(self.alloc, name, reason));
+                Err(DeskFailed)
+            }
+        }
+    }
+
+    /// Opens a file to be read and hands it out. Fails, which is counted, where the file was not opened, or where this run writes it.
+    pub fn file_to_read(&mut self, name: &str) -> Result<R::File, DeskFailed>
+        ensures { HandsOut ToRead (is_ok result) self.old self.new }
+    {
+        match source_of(&self.rt, name, &mut self.uses) {
+            Ok(file) => Ok(file),
+            Err(reason) => {
+                self.troubles
+                    .note(Trouble::with_file(self.alloc, name, reason));
+                Err(DeskFailed)
+            }
+        }
     }
 
     /// Opens a file to be written, made where there is none, and keeps it under a slot. It stands as it was until bytes go out. Fails
@@ -157,6 +187,26 @@ fn input_of<R: Files>(
     let kept = String::from_str(alloc, name)?;
     let (file, _) = open_to_read(rt, name, uses)?;
     Ok(InFile::new(slot, kept, file))
+}
+
+/// The file of a name, to be written, which stands as it was until bytes go out.
+fn sink_of<R: Files>(rt: &R, name: &str, uses: &mut Vec<UsedFile>) -> io::Result<Sink<R::File>>
+    ensures { TakesWhere ToWrite (is_ok result) uses.old.items uses.new.items }
+{
+    uses.reserve(1)?;
+    let (file, id) = open_to_write(rt, name, uses)?;
+    let mut sink = Sink::new();
+    sink.hold(file, id.is_some());
+    Ok(sink)
+}
+
+/// The file of a name, to be read.
+fn source_of<R: Files>(rt: &R, name: &str, uses: &mut Vec<UsedFile>) -> io::Result<R::File>
+    ensures { TakesWhere ToRead (is_ok result) uses.old.items uses.new.items }
+{
+    uses.reserve(1)?;
+    let (file, _) = open_to_read(rt, name, uses)?;
+    Ok(file)
 }
 
 /// Opens a file to be written as it stands, made where there is none, and takes it, where it has no use yet.

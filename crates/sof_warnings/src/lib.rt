@@ -1,6 +1,5 @@
-//! Says in words what the status of a run does not: a buffer that is too small for its stream, a heap that is too small for a load,
-//! an input that is a WAV, and also a text for a topology and a limit that was passed. A desk of its own keeps how a script's commands
-//! were answered.
+//! Says in words what the status of a run does not: a buffer too small for its stream, a heap too small for a load, an input that is a
+//! WAV, a text for a topology, and a limit that was passed. A desk of its own keeps the answers of a script's commands.
 #![tactic(auto)]
 
 mod buffers;

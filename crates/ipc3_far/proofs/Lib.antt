@@ -1,0 +1,4 @@
+pub mod FarReads
+pub mod FarExchanges
+pub mod AgreedLaws
+pub mod TracedLaws

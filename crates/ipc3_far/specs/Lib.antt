@@ -1,0 +1,3 @@
+pub mod FarEnds
+pub mod FarDevices
+pub mod FarCalls

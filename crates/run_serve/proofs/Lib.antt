@@ -1,0 +1,14 @@
+pub mod CallParts
+pub mod RecordReads
+pub mod ReadLaws
+pub mod OpenedFiles
+pub mod WholeRecords
+pub mod GivenCalls
+pub mod Rounds
+pub mod ServedRecords
+pub mod WrittenReplies
+pub mod FailedCalls
+pub mod FirmwareReplies
+pub mod ServeEnds
+pub mod MergedRecords
+pub mod ServedTraces

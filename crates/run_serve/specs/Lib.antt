@@ -1,0 +1,10 @@
+pub mod ServeWords
+pub mod AnyCalls
+pub mod Reads
+pub mod Placed
+pub mod Serving
+pub mod Opened
+pub mod Sent
+pub mod Halted
+pub mod Served
+pub mod ServeLaws

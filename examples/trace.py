@@ -2,6 +2,7 @@
 """Makes a trace of a driver's log, for `sof decode` and `sof replay`, or makes what `decode` says shorter. It needs Python alone.
 
   trace.py LOG OUT.trace [HEAP]    '-' is standard input or standard output
+  trace.py requests TRACE OUT      the records of a trace that a driver makes, for `sof serve`: all but replies and losses
   trace.py short [LINES]           what `sof decode` said, with a line for each run of ticks and the time in ms
 
 A line of LOG is a record, or a line of the kernel's log:
@@ -142,6 +143,17 @@ def short(lines):
             yield f"{at:8} ms  {line}"
 
 
+def requests(data):
+    """The records of a trace but replies and losses."""
+    kept, at = [], 0
+    while at < len(data):
+        kind, size = struct.unpack_from("<II", data, at)
+        if kind not in (KINDS["reply"], KINDS["lost"]):
+            kept.append(data[at : at + 8 + size])
+        at += 8 + size
+    return b"".join(kept)
+
+
 def opened(name, mode, standard):
     return standard if name == "-" else open(name, mode)
 
@@ -151,6 +163,12 @@ def main(given):
         with opened((given + ["-"])[1], "r", sys.stdin) as lines:
             for line in short(lines):
                 print(line)
+        return
+    if given[:1] == ["requests"] and len(given) == 3:
+        with opened(given[1], "rb", sys.stdin.buffer) as file:
+            data = file.read()
+        with opened(given[2], "wb", sys.stdout.buffer) as out:
+            out.write(requests(data))
         return
     if len(given) not in (2, 3) or not all(heap.isdigit() for heap in given[2:]):
         sys.exit(__doc__)

@@ -2,3 +2,4 @@
 pub mod Rows
 pub mod TraceRows
 pub mod CheckRows
+pub mod LawRows

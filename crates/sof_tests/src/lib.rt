@@ -1,5 +1,4 @@
-//! Tests that cross crates: runs of the top call over a desk that fails, and worked rows of the written run. Whole runs over
-//! real files are the cases of tests/, at the top.
+//! Tests that cross crates: runs of the top call over a desk that fails, and worked rows of the written run and its laws.
 #![tactic(auto)]
 
 #[cfg(test)]
@@ -11,6 +10,7 @@ mod failing;
 mod given;
 #[cfg(test)]
 mod graphs;
+mod law_rows;
 #[cfg(test)]
 mod played;
 mod rows;
@@ -23,5 +23,6 @@ mod sounds;
 mod trace_rows;
 
 pub use counted::check_rows;
+pub use law_rows::{boot_rows, load_success_rows, open_success_rows, place_rows};
 pub use rows::load_and_show_rows;
 pub use trace_rows::{fated_rows, load_rows};

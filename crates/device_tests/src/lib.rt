@@ -1,4 +1,4 @@
-//! Tests of the firmware as a device, by its public calls.
+//! Tests of the firmware as a device, by its public calls, and of a tick by itself.
 #![tactic(auto)]
 
 #[cfg(test)]
@@ -21,3 +21,5 @@ mod small;
 mod steps;
 #[cfg(test)]
 mod streams;
+#[cfg(test)]
+mod ticks;

@@ -1,0 +1,2 @@
+-- What tests of a device rest on.
+mod OneStream

@@ -1,91 +1,12 @@
 // Runs over a device that fails of its own accord: a firmware after a link of its own, which refuses a message or loses it.
-ghost use Rattle.std.specs.Prelude.{◌≡◌, None, IfOk};
-ghost use Rattle.fw_core.specs.Device.{firmware};
-ghost use Rattle.mbox_link.specs.Link.{link as linked_by};
-
+use crate::device::{Failing, device, run_over};
 use crate::same::same;
 use crate::thin::thin;
-use fw_core::Firmware;
-use mbox_link::{Dsp, Fate, FaultLink};
+use mbox_link::Dsp;
+use run_serve::{ServeFiles, serve};
 use sof_desk::MemDesk;
-use sof_run::run;
 use std::alloc::Global;
 use std::process::Abort;
-
-/// The greatest heap of the firmware, in bytes; it is small, since many runs are made.
-const ROOM: u32 = 4096;
-
-/// The message that its link refuses with -5, drops or loses the reply of.
-#[derive(Clone, Copy)]
-enum Failing {
-    RefusesFirst,
-    DropsFirst,
-    LosesSeventh,
-    RefusesEighth,
-    DropsNinth,
-    DropsTenth,
-}
-
-// A firmware after a link that has a fate for one message.
-fn fated(alloc: Global, failing: Failing) -> Result<FaultLink<Firmware>, &'static str>
-    ensures off { IfOk result (λ l. (linked_by firmware).on l ≡ None) }
-    ensures pending { IfOk result (λ l. (linked_by firmware).pending l ≡ 0) }
-{
-    let Ok(dsp) = Firmware::new(alloc, ROOM) else {
-        return Err("there is no memory");
-    };
-    let mut link = FaultLink::new(dsp);
-    let planned = match failing {
-        Failing::RefusesFirst => link.plan(1, Fate::Refuse(-5)),
-        Failing::DropsFirst => link.plan(1, Fate::Drop),
-        Failing::LosesSeventh => link.plan(7, Fate::Lose),
-        Failing::RefusesEighth => link.plan(8, Fate::Refuse(-5)),
-        Failing::DropsNinth => link.plan(9, Fate::Drop),
-        Failing::DropsTenth => link.plan(10, Fate::Drop),
-    };
-    match planned {
-        Ok(()) => Ok(link),
-        Err(_) => Err("no room for a plan"),
-    }
-}
-
-/// How a run ended: its status, whether the device is on, and what its link still holds.
-#[derive(Clone, Copy)]
-struct Ending {
-    status: u8,
-    on: bool,
-    held: u32,
-}
-
-// Words that own their texts.
-fn owned(rt: &impl Abort, alloc: Global, words: &[&str]) -> Vec<String> {
-    let mut texts = Vec::new(alloc);
-    for word in words {
-        let text = String::from_str(alloc, word).expect(rt, "there is memory");
-        texts.push(text).expect(rt, "there is memory");
-    }
-    texts
-}
-
-// A run of these words over a desk and this device. Every test calls `run` through here, so its contract is read once.
-fn run_over(
-    rt: &impl Abort,
-    alloc: Global,
-    words: &[&str],
-    failing: Failing,
-    desk: &mut MemDesk,
-) -> Ending {
-    let texts = owned(rt, alloc, words);
-    let Ok(dsp) = fated(alloc, failing) else {
-        panic!(rt; "there is no memory")
-    };
-    let ended = run(alloc, &texts, desk, dsp);
-    Ending {
-        status: ended.status,
-        on: ended.dsp.on(),
-        held: ended.dsp.held(),
-    }
-}
 
 const SCRIPT: &[u8] = b"load
 open PCM0P
@@ -101,10 +22,10 @@ fn expect(rt: &impl Abort, alloc: Global, failing: Failing, on: bool, held: u32,
         .expect(rt, "there is memory");
     desk.put_file("s.txt", SCRIPT).expect(rt, "there is memory");
     let words = ["play", "992", "a.tplg", "s.txt"];
-    let ending = run_over(rt, alloc, &words, failing, &mut desk);
-    same(rt, &"a status", &ending.status, &0);
-    same(rt, &"the power", &ending.on, &on);
-    same(rt, &"what is planned", &ending.held, &held);
+    let (status, dsp) = run_over(rt, alloc, &words, failing, &mut desk);
+    same(rt, &"a status", &status, &0);
+    same(rt, &"the power", &dsp.on(), &on);
+    same(rt, &"what is planned", &dsp.into_dsp().held(), &held);
     same(rt, &"what is said", &desk.said(), &said);
 }
 
@@ -115,15 +36,15 @@ fn a_device_refuses_and_loses_messages(rt: HostRuntime) {
     let alloc = rt.alloc();
     let refused = b"1 refused -5\n2 not loaded\n3 not loaded\n4 not loaded\n";
     let down = b"1 link down\n2 not loaded\n3 not loaded\n4 not loaded\n";
-    expect(&rt, alloc, Failing::RefusesFirst, false, 0, refused);
-    expect(&rt, alloc, Failing::DropsFirst, false, 0, down);
-    expect(&rt, alloc, Failing::LosesSeventh, false, 0, down);
+    expect(&rt, alloc, Failing::Refuses(1), false, 0, refused);
+    expect(&rt, alloc, Failing::Drops(1), false, 0, down);
+    expect(&rt, alloc, Failing::Loses(7), false, 0, down);
     let said = b"1 ok\n2 ok\n3 refused -5\n4 state open\n";
-    expect(&rt, alloc, Failing::RefusesEighth, true, 0, said);
+    expect(&rt, alloc, Failing::Refuses(8), true, 0, said);
     let said = b"1 ok\n2 ok\n3 ok\n4 link down\n";
-    expect(&rt, alloc, Failing::DropsNinth, false, 0, said);
+    expect(&rt, alloc, Failing::Drops(9), false, 0, said);
     let said = b"1 ok\n2 ok\n3 ok\n4 ok\n";
-    expect(&rt, alloc, Failing::DropsTenth, true, 1, said);
+    expect(&rt, alloc, Failing::Drops(10), true, 1, said);
 }
 
 // A boot with 992 bytes, and an empty message with its reply of -22.
@@ -138,8 +59,8 @@ fn expect_replay(rt: &impl Abort, alloc: Global, failing: Failing, status: u8, s
     desk.put_file("x.trace", &TRACE)
         .expect(rt, "there is memory");
     let words = ["replay", "x.trace"];
-    let ending = run_over(rt, alloc, &words, failing, &mut desk);
-    same(rt, &"a status", &ending.status, &status);
+    let (ended, _) = run_over(rt, alloc, &words, failing, &mut desk);
+    same(rt, &"a status", &ended, &status);
     same(rt, &"what is said", &desk.said(), &said);
 }
 
@@ -147,9 +68,102 @@ fn expect_replay(rt: &impl Abort, alloc: Global, failing: Failing, status: u8, s
 #[test]
 fn a_device_that_fails_ends_a_replay(rt: HostRuntime) {
     let alloc = rt.alloc();
-    expect_replay(&rt, alloc, Failing::DropsFirst, 10, b"device\n");
+    expect_replay(&rt, alloc, Failing::Drops(1), 10, b"device\n");
     let said = b"trace reply 20\n";
-    expect_replay(&rt, alloc, Failing::RefusesFirst, 2, said);
+    expect_replay(&rt, alloc, Failing::Refuses(1), 2, said);
     let said = b"boots 1\nmessages 1\nticks 0\npower on\n";
-    expect_replay(&rt, alloc, Failing::DropsTenth, 0, said);
+    expect_replay(&rt, alloc, Failing::Drops(10), 0, said);
+}
+
+// A boot with 992 bytes, two empty messages and a tick.
+const REQUESTS: [u8; 36] = [
+    1, 0, 0, 0, 4, 0, 0, 0, 0xE0, 3, 0, 0, 3, 0, 0, 0, 0, 0, 0, 0, 3, 0, 0, 0, 0, 0, 0, 0, 5, 0, 0,
+    0, 0, 0, 0, 0,
+];
+
+// A loss, and a reply of -22.
+const LOST_FIRST: [u8; 28] = [
+    6, 0, 0, 0, 0, 0, 0, 0, 4, 0, 0, 0, 12, 0, 0, 0, 12, 0, 0, 0, 0, 0, 0, 0x10, 0xEA, 0xFF, 0xFF,
+    0xFF,
+];
+
+// Replies of -5 and of -22.
+const REFUSED_FIRST: [u8; 40] = [
+    4, 0, 0, 0, 12, 0, 0, 0, 12, 0, 0, 0, 0, 0, 0, 0x10, 0xFB, 0xFF, 0xFF, 0xFF, 4, 0, 0, 0, 12, 0,
+    0, 0, 12, 0, 0, 0, 0, 0, 0, 0x10, 0xEA, 0xFF, 0xFF, 0xFF,
+];
+
+// Serves the records over such a device and a desk whose reads give at most so many bytes, and whose call of a number fails, if any
+// does, once so many bytes passed: it ends with this status, and the file of replies has these bytes.
+fn expect_served(
+    rt: &impl Abort,
+    alloc: Global,
+    failing: Failing,
+    most: u32,
+    fails: Option<(u32, u32)>,
+    status: u8,
+    replies: &[u8],
+) {
+    let mut desk = MemDesk::new(alloc, 4096).expect(rt, "there is memory");
+    desk.put_file("requests", REQUESTS.as_slice())
+        .expect(rt, "there is memory");
+    desk.put_out("replies", 4096).expect(rt, "there is memory");
+    desk.read_at_most(most.max(1));
+    let mut at = 0;
+    if let Some((call, passes)) = fails {
+        desk.fail_call(call, passes).expect(rt, "there is memory");
+        at = call;
+    }
+    let Ok(dsp) = device(alloc, failing) else {
+        panic!(rt; "there is no memory")
+    };
+    let files = ServeFiles {
+        requests: "requests",
+        replies: "replies",
+    };
+    let served = serve(alloc, files, &mut desk, dsp);
+    same(rt, &at, &served.status, &status);
+    same(rt, &at, &desk.file("replies"), &Some(replies));
+    same(rt, &at, &desk.said(), &b"".as_slice());
+}
+
+// A message that the device drops has a loss, and the next one its reply. However few bytes a read gives, the replies are the same.
+#[test]
+fn a_device_that_fails_serves_on(rt: HostRuntime) {
+    let alloc = rt.alloc();
+    for most in [1u32, 3, 392] {
+        let lost = LOST_FIRST.as_slice();
+        expect_served(&rt, alloc, Failing::Drops(1), most, None, 0, lost);
+        let refused = REFUSED_FIRST.as_slice();
+        expect_served(&rt, alloc, Failing::Refuses(1), most, None, 0, refused);
+    }
+}
+
+// The calls in their order: the file of the records is opened (1), that of the replies made (2) and emptied (3). Kind and size of the boot
+// are read (4), then its heap (5). The first message is read (6), its loss appended (7) and let out (8). Then come those of the second message
+// (9 to 11), the tick (12) and the end (13).
+#[test]
+fn each_call_of_serving_that_fails_leaves_a_front(rt: HostRuntime) {
+    let alloc = rt.alloc();
+    for (call, passes, status, length) in [
+        (1u32, 0u32, 3u8, 0usize),
+        (2, 0, 3, 0),
+        (3, 0, 3, 0),
+        (4, 0, 3, 0),
+        (5, 0, 3, 0),
+        (6, 0, 3, 0),
+        (7, 0, 3, 0),
+        (7, 5, 3, 5),
+        (8, 0, 3, 8),
+        (9, 0, 3, 8),
+        (10, 7, 3, 15),
+        (11, 0, 3, 28),
+        (12, 0, 3, 28),
+        (13, 0, 3, 28),
+        (14, 0, 0, 28),
+    ] {
+        let replies = LOST_FIRST.get(..length).unwrap_or(&[]);
+        let fails = Some((call, passes));
+        expect_served(&rt, alloc, Failing::Drops(1), 392, fails, status, replies);
+    }
 }

@@ -1,10 +1,11 @@
-//! Traces: what a device was sent and what it answered, as records in bytes; how bytes are read as records, what is said of a record,
-//! and a device that keeps the records of its calls.
+//! Traces: what a device was sent and what it answered, as records in bytes; how they are read, what is said of them, and a device that
+//! keeps those of its calls.
 #![tactic(auto)]
 
 mod describing;
 mod entry;
 mod fault;
+mod fault_lines;
 mod held;
 mod kind;
 mod laws;
@@ -14,7 +15,8 @@ mod writing;
 
 pub use describing::describe;
 pub use entry::{Entry, Next};
-pub use fault::TraceFault;
+pub use fault::{ReplayFault, TraceFault};
+pub use fault_lines::write_replay_fault;
 pub use kind::RecordKind;
 pub use laws::{alike_laws, held_law, leading_laws, traces_are_read};
 pub use reading::{first_fault, record_at, size_after};

@@ -11,4 +11,3 @@ pub mod BindingParts
 pub mod LinesTodo
 pub mod OpeningCalls
 pub mod SaidText
-pub mod TraceFaults

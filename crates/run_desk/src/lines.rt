@@ -1,10 +1,8 @@
-// The lines that are said where files make no run, and where a trace is at fault.
+// The lines that are said where files make no run.
 ghost use Rattle.std.specs.Prelude.{◌≡◌, ◌+◌, ◌≤◌, ◌++◌, [], ◌∷◌, length, decimal};
 ghost use Rattle.run_desk.specs.Lines.{fault_line, topology_fault_words, script_line, halt_line, halt_status, with_newline};
-ghost use Rattle.run_desk.specs.TraceFaults.{trace_fault_words};
 
 use crate::preparing::Halt;
-use ipc3_trace::TraceFault;
 use itoa::Buffer;
 use sof_script::{Line, cause_word};
 use tplg_read::TplgFault;
@@ -19,8 +17,8 @@ pub fn say_digits(number: u64, line: &mut Line)
     line.say(digits.format(number).as_bytes());
 }
 
-/// A word and a place, after the bytes of the line.
-pub fn say_at(word: &[u8], at: usize, line: &mut Line)
+// A word and a place, after the bytes of the line.
+fn say_at(word: &[u8], at: usize, line: &mut Line)
     requires { length line.old + length word.now + 40 ≤ 2304 }
     ensures said { line.new ≡ line.old ++ word.now ++ decimal at }
     ensures longer { length line.new ≤ length line.old + length word.now + 40 }
@@ -121,19 +119,6 @@ pub fn write_halt(halt: Halt, line: &mut Line)
             line.clear();
             line.say(b"no memory\n");
         }
-    }
-}
-
-/// The first fault of a trace, after the bytes of the line.
-pub fn say_trace_fault(fault: TraceFault, line: &mut Line)
-    requires { length line.old ≤ 20 }
-    ensures said { line.new ≡ line.old ++ trace_fault_words fault }
-    ensures longer { length line.new ≤ 100 }
-{
-    match fault {
-        TraceFault::Short(at) => say_at(b"short ", at, line),
-        TraceFault::Kind(at, number) => say_found(b"kind ", at, number, line),
-        TraceFault::Size(at) => say_at(b"size ", at, line),
     }
 }
 

@@ -13,6 +13,8 @@ use Rattle.host_widgets.specs.declared.answers.Answer.TheVariants.{Done}
 use Rattle.ipc3_trace.specs.declared.entry.Entry.{Entry}
 use Rattle.ipc3_trace.specs.declared.entry.Entry.TheVariants.{Boot, Cut, Request, Reply, Tick, Lost}
 use Rattle.ipc3_trace.specs.declared.fault.TraceFault.{TraceFault}
+use Rattle.ipc3_trace.specs.declared.fault.ReplayFault.{ReplayFault}
+use Rattle.ipc3_trace.specs.declared.fault.ReplayFault.TheVariants as faults
 use Rattle.ipc3_trace.specs.Reading.{trace_in}
 use Rattle.ipc3_trace.specs.Steps.{no_ports, quiescent, AreAlike, step_by}
 use Rattle.ipc3_trace.specs.RecordsAt.{IsRecordAt}
@@ -24,8 +26,6 @@ use Rattle.sof_script.specs.Tasks.{Give, Turn}
 use Rattle.sof_session.specs.SessionStep.{Calm}
 use Rattle.sof_session.proofs.LinkFates.{Steady-none}
 use Rattle.sof_session.proofs.StepCounts.{Calm-between}
-use Rattle.run_replay.specs.declared.replay_fault.ReplayFault.{ReplayFault}
-use Rattle.run_replay.specs.declared.replay_fault.ReplayFault.TheVariants as faults
 use Rattle.run_replay.specs.declared.replay_fault.Stopped.{Stopped}
 use Rattle.run_replay.specs.declared.replay_fault.Stopped.TheVariants.{At, Device}
 use Rattle.run_replay.specs.declared.replay_fault.Tally.{Tally}

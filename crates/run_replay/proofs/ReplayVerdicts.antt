@@ -10,22 +10,22 @@ use Rattle.mbox_link.specs.Exchange.{Rose}
 use Rattle.mbox_link.specs.Calls.{Meaning}
 use Rattle.ipc3_trace.specs.declared.entry.Entry.{Entry}
 use Rattle.ipc3_trace.specs.declared.fault.TraceFault.{TraceFault}
+use Rattle.ipc3_trace.specs.declared.fault.ReplayFault.{ReplayFault}
 use Rattle.ipc3_trace.specs.Reading.{trace_in}
 use Rattle.ipc3_trace.specs.Steps.{quiescent, step_by, steps_of}
 use Rattle.ipc3_trace.specs.WholeTraces.{IsTraceOf}
+use Rattle.ipc3_trace.specs.FaultLines.{replay_fault_line}
 use Rattle.ipc3_trace.proofs.WholeLaws.{one-trace, has-trace}
 use Rattle.sof_session.specs.Lives.{Life, Bare, Turns, device_of}
 use Rattle.sof_script.specs.Tasks.{Turn}
 use Rattle.sof_session.specs.SessionStep.{Calm}
 use Rattle.sof_session.specs.Written.{raised}
-use Rattle.run_replay.specs.declared.replay_fault.ReplayFault.{ReplayFault}
 use Rattle.run_desk.specs.Todo.{Todo, End, Says, DoneBy}
 use Rattle.run_desk.specs.TopologyBytes.{AreBytes, BringsBytes}
 use Rattle.run_desk.specs.Lines.{no_memory_line, with_newline}
 use Rattle.run_desk.specs.LinesTodo.{lines_todo}
 use Rattle.run_desk.specs.DeskCalls.{heard_in, saying}
 use Rattle.run_words.specs.TraceForms.{replay_of}
-use Rattle.run_replay.specs.ReplayLines.{replay_fault_line}
 use Rattle.run_replay.specs.Replaying.{next_place, record_fault, tally_of, replay_lines}
 use Rattle.run_replay.specs.ReplayTodo.{replayed_todo, replay}
 use Rattle.run_replay.specs.Replays.{reply_after, fault_from, replay_fault, replayed_lines, ReplayVerdict, Replays}

@@ -10,15 +10,15 @@ use Rattle.mbox_link.specs.Calls.{Meaning}
 use Rattle.ipc3_trace.specs.declared.entry.Entry.{Entry}
 use Rattle.ipc3_trace.specs.declared.entry.Entry.TheVariants.{Boot, Cut, Request, Reply, Tick, Lost}
 use Rattle.ipc3_trace.specs.declared.fault.TraceFault.{TraceFault}
+use Rattle.ipc3_trace.specs.declared.fault.ReplayFault.{ReplayFault}
 use Rattle.ipc3_trace.specs.Steps.{quiescent, AreAlike, step_by, steps_from}
+use Rattle.ipc3_trace.specs.FaultLines.{replay_fault_line}
 use Rattle.sof_session.specs.Lives.{Life, Bare, Turns, device_of}
 use Rattle.sof_script.specs.Tasks.{Turn}
 use Rattle.sof_session.specs.SessionStep.{Calm}
-use Rattle.run_replay.specs.declared.replay_fault.ReplayFault.{ReplayFault}
 use Rattle.run_replay.specs.declared.replay_fault.Stopped.TheVariants.{At}
 use Rattle.run_desk.specs.Todo.{Todo, DoneBy}
 use Rattle.run_desk.specs.DeskCalls.{answer_in}
-use Rattle.run_replay.specs.ReplayLines.{replay_fault_line}
 use Rattle.run_replay.specs.Replaying.{next_place, record_fault, end_fault, on_after}
 use Rattle.run_replay.specs.ReplayTodo.{stopped_todo, without_fault, replied_todo, give_todo, given_todo}
 use Rattle.run_replay.specs.Replays.{reply_after, fault_from}

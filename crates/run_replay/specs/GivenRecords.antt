@@ -6,10 +6,10 @@ use Rattle.mbox_link.specs.Calls.{Meaning, Did, world}
 use Rattle.ipc3_trace.specs.declared.entry.Entry.{Entry}
 use Rattle.ipc3_trace.specs.declared.entry.Entry.TheVariants.{Boot, Cut, Request, Reply, Tick, Lost}
 use Rattle.ipc3_trace.specs.declared.fault.TraceFault.{TraceFault}
+use Rattle.ipc3_trace.specs.declared.fault.ReplayFault.{ReplayFault}
 use Rattle.sof_session.specs.Lives.{Life, Bare, Turns}
 use Rattle.sof_session.specs.SessionStep.{Calm}
 use Rattle.sof_script.specs.Tasks.{Turn}
-use Rattle.run_replay.specs.declared.replay_fault.ReplayFault.{ReplayFault}
 use Rattle.run_replay.specs.declared.replay_fault.Stopped.{Stopped}
 use Rattle.run_replay.specs.declared.replay_fault.Stopped.TheVariants.{At, Device}
 use Rattle.run_replay.specs.declared.replay_fault.Tally.{Tally}

@@ -4,14 +4,14 @@ use Rattle.mbox_link.specs.Calls as calls
 use Rattle.ipc3_trace.specs.declared.entry.Entry.{Entry}
 use Rattle.ipc3_trace.specs.declared.entry.Entry.TheVariants.{Boot, Cut, Request, Reply, Tick, Lost}
 use Rattle.ipc3_trace.specs.declared.fault.TraceFault.{TraceFault}
+use Rattle.ipc3_trace.specs.declared.fault.ReplayFault.{ReplayFault}
 use Rattle.ipc3_trace.specs.Reading.{trace_in}
+use Rattle.ipc3_trace.specs.FaultLines.{replay_fault_line}
 use Rattle.sof_script.specs.Tasks.{Give}
-use Rattle.run_replay.specs.declared.replay_fault.ReplayFault.{ReplayFault}
 use Rattle.run_replay.specs.declared.replay_fault.Stopped.{Stopped}
 use Rattle.run_replay.specs.declared.replay_fault.Stopped.TheVariants.{At, Device}
 use Rattle.run_desk.specs.Todo.{Todo, End, Stop, Ask, Step, Send, Free}
 use Rattle.run_desk.specs.LinesTodo.{lines_todo}
-use Rattle.run_replay.specs.ReplayLines.{replay_fault_line}
 use Rattle.run_replay.specs.Replaying.{next_place, record_fault, end_fault, on_after, tally_of, replay_lines, device_line}
 
 -- why no more records are given is reported

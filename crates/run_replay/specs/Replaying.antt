@@ -4,11 +4,11 @@ use Rattle.std.specs.Str.{bytes_eq}
 use Rattle.ipc3_trace.specs.declared.entry.Entry.{Entry}
 use Rattle.ipc3_trace.specs.declared.entry.Entry.TheVariants.{Boot, Cut, Request, Reply, Tick, Lost}
 use Rattle.ipc3_trace.specs.declared.fault.TraceFault.{TraceFault}
+use Rattle.ipc3_trace.specs.declared.fault.ReplayFault.{ReplayFault}
+use Rattle.ipc3_trace.specs.declared.fault.ReplayFault.TheVariants as faults
 use Rattle.ipc3_trace.specs.Records.{record_bytes}
 use Rattle.host_widgets.specs.declared.kept.Power.TheVariants.{On, Off}
 use Rattle.sof_session.specs.Show.{power_words}
-use Rattle.run_replay.specs.declared.replay_fault.ReplayFault.{ReplayFault}
-use Rattle.run_replay.specs.declared.replay_fault.ReplayFault.TheVariants as faults
 use Rattle.run_replay.specs.declared.replay_fault.Tally.{Tally}
 use Rattle.run_desk.specs.Lines.{count_line}
 

@@ -10,16 +10,16 @@ use Rattle.mbox_link.specs.Calls.{Meaning}
 use Rattle.ipc3_trace.specs.declared.entry.Entry.{Entry}
 use Rattle.ipc3_trace.specs.declared.entry.Entry.TheVariants.{Request}
 use Rattle.ipc3_trace.specs.declared.fault.TraceFault.{TraceFault}
+use Rattle.ipc3_trace.specs.declared.fault.ReplayFault.{ReplayFault}
 use Rattle.ipc3_trace.specs.Steps.{step_by, steps_of}
 use Rattle.ipc3_trace.specs.WholeTraces.{IsTraceOf}
+use Rattle.ipc3_trace.specs.FaultLines.{replay_fault_line}
 use Rattle.sof_session.specs.Lives.{Life, Bare, device_of}
 use Rattle.sof_session.specs.SessionStep.{Calm}
 use Rattle.sof_session.specs.Written.{raised}
-use Rattle.run_replay.specs.declared.replay_fault.ReplayFault.{ReplayFault}
 use Rattle.run_desk.specs.DeskCalls.{heard_in, saying}
 use Rattle.run_desk.specs.Lines.{with_newline}
 use Rattle.run_words.specs.TraceForms.{replay_of}
-use Rattle.run_replay.specs.ReplayLines.{replay_fault_line}
 use Rattle.run_replay.specs.Replaying.{next_place, record_fault, end_fault, tally_of, replay_lines}
 
 -- ---- the first record at fault, where the device does nothing of its own accord

@@ -3,7 +3,5 @@
 
 mod replay;
 mod replay_fault;
-mod replay_lines;
 
 pub use replay::{do_replay, record_at_fault};
-pub use replay_fault::ReplayFault;

@@ -10,9 +10,8 @@ ghost use Rattle.run_replay.specs.Replaying.{record_fault, tallied, replay_lines
 ghost use Rattle.run_replay.specs.ReplayTodo.{replay, replayed_todo, stopped_todo};
 ghost use Rattle.run_replay.specs.GivenRecords.{GaveRecord, WentOn, IsBelow, WentThrough, FoundFault};
 
-use crate::replay_fault::{ReplayFault, Stopped, Tally};
-use crate::replay_lines::write_replay_fault;
-use ipc3_trace::{Entry, Next, record_at};
+use crate::replay_fault::{Stopped, Tally};
+use ipc3_trace::{Entry, Next, ReplayFault, record_at, write_replay_fault};
 use mbox_link::{Dsp, LinkFault};
 use run_desk::{Ended, TRACE_LIMIT, fail_no_memory, fetch, say_count, status_of, stop};
 use sof_base::{Bounded, NoMemory};
@@ -281,7 +280,7 @@ pub fn do_replay<D: Desk, P: Dsp>(alloc: Global, name: &str, desk: &mut D, dsp: 
 
 /// The first record at fault of a trace whose records are given to a device that is off, in order, if one is before the device fails.
 ///
-/// `NoMemory` where there is none for the windows of the endpoints.
+/// Endpoints without slots take no memory: `NoMemory` does not come.
 pub fn record_at_fault<P: Dsp>(
     alloc: Global,
     bytes: &[u8],

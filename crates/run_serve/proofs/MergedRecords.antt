@@ -13,12 +13,12 @@ use Rattle.mbox_link.specs.Exchange.{ticked}
 use Rattle.mbox_link.specs.Calls.{Meaning}
 use Rattle.ipc3_trace.specs.declared.entry.Entry.{Entry}
 use Rattle.ipc3_trace.specs.declared.entry.Entry.TheVariants.{Boot, Cut, Request, Reply, Tick, Lost}
+use Rattle.ipc3_trace.specs.declared.fault.ReplayFault.{ReplayFault}
 use Rattle.ipc3_trace.specs.Records.{IsEntry, records_bytes}
 use Rattle.ipc3_trace.specs.Steps.{no_ports}
 use Rattle.ipc3_trace.specs.AlongCalls.{back_of}
 use Rattle.ipc3_trace.specs.WholeTraces.{IsTraceOf}
 use Rattle.ipc3_trace.proofs.WholeLaws.{one-trace, written-stand}
-use Rattle.run_replay.specs.declared.replay_fault.ReplayFault.{ReplayFault}
 use Rattle.run_replay.specs.Replaying.{next_place, order_where, back_fault, on_after}
 use Rattle.run_replay.specs.Replays.{fault_from, replay_fault, ReplayVerdict}
 use Rattle.run_serve.specs.Placed.{may_come, backs_of}

@@ -1,11 +1,11 @@
 -- The words of `serve`, and the lines that it says.
-use Rattle.std.specs.Prelude.{ℕ, ◌&&◌, List, [], ◌∷◌, ◌++◌, Option, Some, None, codes, decimal, if◌then◌else◌}
+use Rattle.std.specs.Prelude.{ℕ, ◌&&◌, List, [], ◌∷◌, Option, Some, None, codes, if◌then◌else◌}
 use Rattle.std.specs.Str.{bytes_eq}
 use Rattle.ipc3_trace.specs.declared.fault.TraceFault.{TraceFault}
 use Rattle.ipc3_trace.specs.declared.fault.TraceFault.TheVariants.{Short, Kind, Size}
+use Rattle.ipc3_trace.specs.declared.fault.ReplayFault.TheVariants as faults
+use Rattle.ipc3_trace.specs.FaultLines.{replay_fault_line, trace_fault_line}
 use Rattle.run_words.specs.Words.{is_file_name}
-use Rattle.run_desk.specs.Lines.{with_newline}
-use Rattle.run_desk.specs.TraceFaults.{trace_fault_line}
 use Rattle.run_serve.specs.declared.lines.Wrong.{Wrong}
 use Rattle.run_serve.specs.declared.lines.Wrong.TheVariants.{Broken, Order}
 
@@ -36,7 +36,7 @@ fault_at at (Size place) = Size at
 -- of a record at fault, which stands at a place of the file: as `decode` and `replay` say it
 abbrev pub wrong_line : Wrong → ℕ → List ℕ
 wrong_line (Broken fault) at = trace_fault_line (fault_at at fault)
-wrong_line Order at = with_newline (codes "trace " ++ codes "order " ++ decimal at)
+wrong_line Order at = replay_fault_line (faults.Order at)
 
 abbrev pub too_long_line : List ℕ
 too_long_line = codes "too long trace\n"

@@ -2,8 +2,7 @@
 ghost use Rattle.std.specs.Prelude.{◌≡◌};
 ghost use Rattle.run_serve.specs.ServeWords.{fault_at, wrong_line};
 
-use ipc3_trace::TraceFault;
-use run_desk::{say_at, say_trace_fault};
+use ipc3_trace::{ReplayFault, TraceFault, write_replay_fault};
 use sof_base::Line;
 
 /// What is wrong with a record of a driver.
@@ -30,11 +29,8 @@ fn fault_at(at: usize, fault: TraceFault) -> TraceFault
 pub fn write_wrong(wrong: Wrong, at: usize, line: &mut Line)
     ensures { line.new ≡ wrong_line wrong at }
 {
-    line.clear();
-    line.say(b"trace ");
     match wrong {
-        Wrong::Broken(fault) => say_trace_fault(fault_at(at, fault), line),
-        Wrong::Order => say_at(b"order ", at, line),
+        Wrong::Broken(fault) => write_replay_fault(ReplayFault::Broken(fault_at(at, fault)), line),
+        Wrong::Order => write_replay_fault(ReplayFault::Order(at), line),
     }
-    line.say(b"\n");
 }

@@ -8,10 +8,10 @@ use Rattle.ipc3_trace.specs.EntryLines.{entry_line}
 use Rattle.ipc3_trace.specs.RecordsAt.{IsRecordAt}
 use Rattle.ipc3_trace.specs.TraceFaults.{IsFaultAt}
 use Rattle.ipc3_trace.specs.Reading.{trace_in}
+use Rattle.ipc3_trace.specs.FaultLines.{trace_fault_line}
 use Rattle.ipc3_trace.proofs.WholeLaws.{StandFrom, stands-in, goes-on, ends-here}
 use Rattle.run_desk.specs.Todo.{Stop, Played, DeskPhase}
 use Rattle.run_desk.specs.LinesTodo.{lines_todo}
-use Rattle.run_desk.specs.TraceFaults.{trace_fault_line}
 use Rattle.run_tools.specs.DecodeTodo.{decoded_todo}
 
 -- from a place on these are left, and saying them makes all said

@@ -9,13 +9,13 @@ use Rattle.ipc3_trace.specs.declared.fault.TraceFault.{TraceFault}
 use Rattle.ipc3_trace.specs.EntryLines.{entry_line}
 use Rattle.ipc3_trace.specs.WholeTraces.{IsTraceOf}
 use Rattle.ipc3_trace.specs.Reading.{trace_in}
+use Rattle.ipc3_trace.specs.FaultLines.{trace_fault_line}
 use Rattle.ipc3_trace.proofs.WholeLaws.{has-trace, one-trace}
 use Rattle.sof_script.specs.Tasks.{Turn}
 use Rattle.run_desk.specs.Todo.{Says, DoneBy, Played, Todo}
 use Rattle.run_desk.specs.Lines.{no_memory_line, with_newline}
 use Rattle.run_desk.specs.TopologyBytes.{AreBytes}
 use Rattle.run_words.specs.TraceForms.{decode_of}
-use Rattle.run_desk.specs.TraceFaults.{trace_fault_line}
 use Rattle.run_tools.specs.TraceLines.{trace_lines, trace_status}
 use Rattle.run_tools.specs.DecodeTodo.{decoded_todo, decode}
 use Rattle.run_desk.specs.DeskCalls.{heard_in, saying}

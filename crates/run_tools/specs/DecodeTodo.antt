@@ -4,9 +4,9 @@ use Rattle.ipc3_trace.specs.declared.entry.Entry.{Entry}
 use Rattle.ipc3_trace.specs.declared.fault.TraceFault.{TraceFault}
 use Rattle.ipc3_trace.specs.EntryLines.{entry_line}
 use Rattle.ipc3_trace.specs.Reading.{trace_in}
+use Rattle.ipc3_trace.specs.FaultLines.{trace_fault_line}
 use Rattle.run_desk.specs.Todo.{Todo, End, Stop, Ask}
 use Rattle.run_desk.specs.LinesTodo.{lines_todo}
-use Rattle.run_desk.specs.TraceFaults.{trace_fault_line}
 
 -- the first fault is reported, where there is one
 abbrev pub fault_todo : Option TraceFault → Todo

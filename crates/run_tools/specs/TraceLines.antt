@@ -3,8 +3,8 @@ use Rattle.std.specs.Prelude.{ℕ, List, [], ◌∷◌, ◌++◌, map, Option, S
 use Rattle.ipc3_trace.specs.declared.entry.Entry.{Entry}
 use Rattle.ipc3_trace.specs.declared.fault.TraceFault.{TraceFault}
 use Rattle.ipc3_trace.specs.EntryLines.{entry_line}
+use Rattle.ipc3_trace.specs.FaultLines.{trace_fault_line}
 use Rattle.run_desk.specs.Lines.{with_newline}
-use Rattle.run_desk.specs.TraceFaults.{trace_fault_line}
 
 abbrev pub fault_lines : Option TraceFault → List (List ℕ)
 fault_lines None = []

@@ -2,13 +2,13 @@
 ghost use Rattle.std.specs.Prelude.{[], ◌∷◌, ◌≡◌};
 ghost use Rattle.ipc3_trace.specs.EntryLines.{entry_line};
 ghost use Rattle.ipc3_trace.specs.Reading.{trace_in};
+ghost use Rattle.ipc3_trace.specs.FaultLines.{trace_fault_line};
 ghost use Rattle.run_desk.specs.Todo.{DeskPhase, Played, Stop};
 ghost use Rattle.run_desk.specs.LinesTodo.{lines_todo};
-ghost use Rattle.run_desk.specs.TraceFaults.{trace_fault_line};
 ghost use Rattle.run_tools.specs.DecodeTodo.{decode, decoded_todo};
 
-use ipc3_trace::{Entry, Next, TraceFault, describe, record_at};
-use run_desk::{TRACE_LIMIT, fetch, say_trace_fault, stop};
+use ipc3_trace::{Entry, Next, ReplayFault, TraceFault, describe, record_at, write_replay_fault};
+use run_desk::{TRACE_LIMIT, fetch, stop};
 use sof_desk::Desk;
 use sof_script::Line;
 use std::alloc::Global;
@@ -22,21 +22,11 @@ fn say_record<D: Desk>(desk: &mut D, entry: &Entry, line: &mut Line) -> bool
     desk.say(line.bytes()).is_ok()
 }
 
-// The line for the first fault of a trace, with its newline.
-fn write_trace_fault(fault: TraceFault, line: &mut Line)
-    ensures { line.new ≡ trace_fault_line fault }
-{
-    line.clear();
-    line.say(b"trace ");
-    say_trace_fault(fault, line);
-    line.say(b"\n");
-}
-
 // Says the first fault of a trace, and gives the status.
 fn stop_at<D: Desk>(desk: &mut D, fault: TraceFault, line: &mut Line) -> u8
     ensures { Played D.means (Stop (trace_fault_line fault) 2) desk.old [] result desk.new }
 {
-    write_trace_fault(fault, line);
+    write_replay_fault(ReplayFault::Broken(fault), line);
     stop(desk, line.bytes(), 2)
 }
 

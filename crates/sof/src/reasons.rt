@@ -3,7 +3,7 @@ ghost use Rattle.std.specs.Prelude.{◌≤◌, length, IfOk, IfSome};
 
 use crate::{ROOM, tell};
 use fw_core::Firmware;
-use ipc3_trace::{Entry, Next, record_at};
+use ipc3_trace::{Entry, Next, ReplayFault, record_at};
 use run_serve::{Stopped, last_reply};
 use sof_base::{Bounded, NoMemory};
 use sof_desk::{Desk, LoadFault};
@@ -11,7 +11,7 @@ use sof_faults::{
     binding_sentence, no_source_sentence, script_sentence, source_sentence, topology_sentence,
 };
 use sof_files::OsDesk;
-use sof_run::{ReplayFault, record_at_fault};
+use sof_run::record_at_fault;
 use sof_warnings::{text_sentence, ticks_sentence};
 use std::fs;
 use trace_faults::{

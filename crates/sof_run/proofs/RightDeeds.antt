@@ -11,9 +11,9 @@ use Rattle.mbox_link.specs.Exchange.{ticked}
 use Rattle.ipc3_trace.specs.declared.entry.Entry.{Entry}
 use Rattle.ipc3_trace.specs.declared.entry.Entry.TheVariants.{Boot, Cut, Request, Reply, Tick}
 use Rattle.ipc3_trace.specs.declared.fault.TraceFault.{TraceFault}
+use Rattle.ipc3_trace.specs.declared.fault.ReplayFault.{ReplayFault}
+use Rattle.ipc3_trace.specs.declared.fault.ReplayFault.TheVariants.{Replied}
 use Rattle.ipc3_trace.specs.Steps.{Deed, Start, Stop, Send, Wait, no_ports, recorded, steps_from}
-use Rattle.run_replay.specs.declared.replay_fault.ReplayFault.{ReplayFault}
-use Rattle.run_replay.specs.declared.replay_fault.ReplayFault.TheVariants.{Replied}
 use Rattle.run_replay.specs.Replaying.{next_place, order_where}
 use Rattle.run_replay.specs.Replays.{fault_from}
 

@@ -8,6 +8,7 @@ use Rattle.mbox_link.specs.Calls.{Meaning}
 use Rattle.tplg_graph.specs.PlanOf.{plan_of}
 use Rattle.ipc3_trace.specs.declared.entry.Entry.{Entry}
 use Rattle.ipc3_trace.specs.declared.fault.TraceFault.{TraceFault}
+use Rattle.ipc3_trace.specs.declared.fault.ReplayFault.{ReplayFault}
 use Rattle.ipc3_trace.specs.Records.{records_bytes}
 use Rattle.ipc3_trace.specs.Steps.{steps_of}
 use Rattle.ipc3_trace.specs.WholeTraces.{IsTraceOf}
@@ -19,7 +20,6 @@ use Rattle.run_play.specs.Rounds.{rounds_of}
 use Rattle.run_play.specs.Plays.{ToPlay, commands_in}
 use Rattle.run_play.specs.Keeping.{trace_slot}
 use Rattle.run_play.specs.Traces.{met_in, put_at, TraceHolds}
-use Rattle.run_replay.specs.declared.replay_fault.ReplayFault.{ReplayFault}
 use Rattle.run_replay.specs.Replays.{replay_fault, replayed_lines, ReplayVerdict}
 use Rattle.sof_run.specs.PlayLaws.{ReplaysAlike, HeardReplaysAlike, ReplaysEnd, HeardReplaysEnd}
 use Rattle.sof_run.proofs.RightRuns.{traces_replay}

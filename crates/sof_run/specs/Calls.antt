@@ -10,12 +10,13 @@ use Rattle.tplg_compile.specs.declared.source_fault.SourceFault.{SourceFault}
 use Rattle.ipc3_trace.specs.declared.entry.Entry.{Entry}
 use Rattle.ipc3_trace.specs.declared.entry.Entry.TheVariants as entries
 use Rattle.ipc3_trace.specs.declared.fault.TraceFault.{TraceFault}
+use Rattle.ipc3_trace.specs.declared.fault.ReplayFault.{ReplayFault}
+use Rattle.ipc3_trace.specs.FaultLines.{replay_fault_line}
 use Rattle.tplg_graph.specs.PlanOf.{plan_of}
 use Rattle.sof_script.specs.Commands.{Bound, Read as ReadScript}
 use Rattle.sof_script.specs.Tasks.{Out, Task, Begin, Carry, Fill, Give, Turn}
 use Rattle.mbox_link.specs.Calls as device
 use Rattle.run_desk.specs.declared.preparing.Halt.{Halt}
-use Rattle.run_replay.specs.declared.replay_fault.ReplayFault.{ReplayFault}
 use Rattle.run_words.specs.Words.{Form}
 use Rattle.run_play.specs.Keeping.{trace_acts}
 use Rattle.run_desk.specs.Bindings.{binding_act, bound_inputs, bound_slots}
@@ -33,7 +34,6 @@ use Rattle.run_tools.specs.Compiling.{source_line, source_status, wrote_line}
 use Rattle.run_tools.specs.Sourcing.{no_source_line}
 use Rattle.sof_run.specs.Stressing.{stress_lines}
 use Rattle.run_tools.specs.TraceLines.{trace_lines, trace_status}
-use Rattle.run_replay.specs.ReplayLines.{replay_fault_line}
 use Rattle.run_replay.specs.Replaying.{next_place, record_fault, end_fault, on_after, tally_of, replay_lines, device_line}
 use Rattle.run_words.specs.Requests.{Request, Play, Check, Picture, Compile, Source, Stress, Decode, Replay}
 use Rattle.run_desk.specs.DeskCalls.{reading, answer_in}

@@ -8,5 +8,5 @@ mod top;
 
 pub use laws::{one_play, one_view, replays_end, right_traces};
 pub use run_desk::Ended;
-pub use run_replay::{ReplayFault, record_at_fault};
+pub use run_replay::record_at_fault;
 pub use top::run;

@@ -3,10 +3,10 @@ use Rattle.std.specs.Prelude.{ℕ, List, [], ◌∷◌, map, Option, negsuc}
 use Rattle.sof_script.specs.declared.script.Command.TheVariants.{Load, Unload, Tick, Refuse, Lose, Lag}
 use Rattle.tplg_graph.specs.PlanOf.{plan_of}
 use Rattle.ipc3_trace.specs.declared.entry.Entry.{Entry}
+use Rattle.ipc3_trace.specs.declared.fault.ReplayFault.{ReplayFault}
 use Rattle.ipc3_trace.specs.EntryLines.{entry_line}
 use Rattle.ipc3_trace.specs.Reading.{trace_in}
 use Rattle.ipc3_trace.specs.Records.{records_bytes}
-use Rattle.run_replay.specs.declared.replay_fault.ReplayFault.{ReplayFault}
 use Rattle.run_play.specs.Met.{met}
 use Rattle.run_replay.specs.Replays.{replay_fault, replayed_lines}
 use Rattle.sof_tests.specs.Rows.{thin_topology}

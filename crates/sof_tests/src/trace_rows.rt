@@ -1,8 +1,8 @@
 // A load of the thin graph.
 ghost use Rattle.std.specs.Prelude.{◌≡◌, ◌∷◌, [], length, take, codes, None, Some, set, slice_get};
 ghost use Rattle.ipc3_trace.specs.declared.fault.TraceFault.TheVariants.{Short};
+ghost use Rattle.ipc3_trace.specs.declared.fault.ReplayFault.TheVariants.{Broken, Replied};
 ghost use Rattle.sof_tests.specs.TraceRows.{load_bytes, load_lines, replay_told, replay_said, fated_bytes, refused_bytes};
-ghost use Rattle.run_replay.specs.declared.replay_fault.ReplayFault.TheVariants.{Broken, Replied};
 
 /// A load of the thin graph with a heap of 992 bytes.
 pub fn load_rows()

@@ -1,6 +1,7 @@
 pub mod ArithLaws
 pub mod LaneLaws
 pub mod Lookups
+pub mod MarkLaws
 pub mod NearLaws
 pub mod NumberLaws
 pub mod PairLaws

@@ -25,16 +25,16 @@ wraps-up : (n : ℕ) → 2 ^ 63 ≤ n → n < 2 ^ 64 → int_wrap w64 (negsuc n)
 unfolding int_wrap
 wraps-up n ge small = ap (λ m. to_z w64 (2 ^ 64 - 1 - m)) (mod-eq_of_lt small) ∙ to_z_pos w64 (2 ^ 64 - 1 - n) (omega (arith, ge, small))
 
-fits-pos : (n : ℕ) → n < 2 ^ 63 → FitsSigned w64 (pos n)
+pub fits-pos : (n : ℕ) → n < 2 ^ 63 → FitsSigned w64 (pos n)
 fits-pos n low = record { sfits = omega (arith, low) }
 
-fits-neg : (n : ℕ) → n < 2 ^ 63 → FitsSigned w64 (negsuc n)
+pub fits-neg : (n : ℕ) → n < 2 ^ 63 → FitsSigned w64 (negsuc n)
 fits-neg n low = record { sfits = omega (arith, low) }
 
 -- ---- which sums are held
 
 -- a sum and 2 ^ 61, as they wrap
-abbrev above : ℤ → ℤ
+abbrev pub above : ℤ → ℤ
 above t = int_wrap w64 (int_wrap w64 t +ℤ pos 2305843009213693952)
 
 -- a number that is neither below 0 nor twice it
@@ -42,7 +42,7 @@ abbrev IsLow : ℤ → Type 0
 IsLow a = (n : ℕ) × ((a ≡ pos n) × (n < 2 ^ 62))
 
 -- a number that is, or that wraps to below 0 twice
-abbrev IsHigh : ℤ → Type 0
+abbrev pub IsHigh : ℤ → Type 0
 IsHigh a = (n : ℕ) → a ≡ pos n → 2 ^ 62 ≤ n
 
 negative : (k : ℕ) (a : ℤ) → a ≡ negsuc k → IsHigh a
@@ -62,13 +62,13 @@ less-so n ge low =
     let is : negsuc n +ℤ pos 2305843009213693952 ≡ negsuc k = omega (arith, ints, ge) in
     negative k _ (ap (int_wrap w64) is ∙ int_wrap_fits w64 (negsuc k) (fits-neg k (omega (arith, low))))
 
-held-up : (n : ℕ) → 2 ^ 61 ≤ n → n < 7 * 2 ^ 61 → IsHigh (above (pos n))
+pub held-up : (n : ℕ) → 2 ^ 61 ≤ n → n < 7 * 2 ^ 61 → IsHigh (above (pos n))
 held-up n ge low = by_less n (2 ^ 63)
     (λ less. subst (λ z. IsHigh (int_wrap w64 (z +ℤ pos 2305843009213693952))) (sym (int_wrap_fits w64 (pos n) (fits-pos n less))) (more n ge less))
     (λ far. let k : ℕ = 2 ^ 64 - 1 - n in
     subst (λ z. IsHigh (int_wrap w64 (z +ℤ pos 2305843009213693952))) (sym (wraps-down n far (omega (arith, low)))) (less-so k (omega (arith, low)) (omega (arith, far, low))))
 
-held-down : (n : ℕ) → 2 ^ 61 ≤ n → suc n < 7 * 2 ^ 61 → IsHigh (above (negsuc n))
+pub held-down : (n : ℕ) → 2 ^ 61 ≤ n → suc n < 7 * 2 ^ 61 → IsHigh (above (negsuc n))
 held-down n ge low = by_less n (2 ^ 63)
     (λ less. subst (λ z. IsHigh (int_wrap w64 (z +ℤ pos 2305843009213693952))) (sym (int_wrap_fits w64 (negsuc n) (fits-neg n less))) (less-so n ge less))
     (λ far. let k : ℕ = 2 ^ 64 - 1 - n in
@@ -210,13 +210,13 @@ module _ (p q : ℤ) (fit_p : FitsSigned w64 p) (fit_q : FitsSigned w64 q) where
   abbrev sum : ℕ
   sum = bits_sum (of_z w64 p) (of_z w64 q)
 
-  sum-small : sum < 2 ^ 64
+  pub sum-small : sum < 2 ^ 64
   sum-small = mod-lt (of_z w64 p + of_z w64 q) (omega arith)
 
-  sum-is : to_z w64 sum ≡ int_wrap w64 (p +ℤ q)
+  pub sum-is : to_z w64 sum ≡ int_wrap w64 (p +ℤ q)
   sum-is = wrapping_add_is w64 p q fit_p fit_q
 
-  above-is : to_z w64 (bits_sum sum 2305843009213693952) ≡ above (p +ℤ q)
+  pub above-is : to_z w64 (bits_sum sum 2305843009213693952) ≡ above (p +ℤ q)
   above-is =
       wrapping_add_onto w64 sum (pos 2305843009213693952) sum-small (fits-pos 2305843009213693952 (omega arith))
       ∙ ap (λ z. int_wrap w64 (z +ℤ pos 2305843009213693952)) sum-is

@@ -1,5 +1,5 @@
 -- Channels through more and more of their sections.
-use Rattle.std.proofs.Common.{◌≡◌, refl, sym, ap, subst, ◌∙◌, ℕ, zero, suc, ◌+◌, ◌-◌, ◌*◌, ◌<◌, ◌≤◌, ◌⊎◌, inl, inr, List, [], ◌∷◌, ◌++◌, length, true, arith, ℤ, ◌+ℤ◌, ◌*ℤ◌}
+use Rattle.std.proofs.Common.{◌≡◌, refl, sym, ap, subst, ◌∙◌, ℕ, zero, suc, ◌+◌, ◌*◌, ◌<◌, ◌≤◌, ◌⊎◌, inl, inr, List, [], ◌∷◌, ◌++◌, length, true, arith, ℤ, ◌+ℤ◌, ◌*ℤ◌}
 use Rattle.sof_base.specs.Blob.{section_at, signed_at, is_shift}
 use Rattle.sof_base.specs.Equations.{Section, section_output}
 use Rattle.sof_base.specs.Samples.{sample_of}

@@ -1,5 +1,5 @@
 -- Two numbers side by side, the left one of a channel and the right one of the channel after it.
-use Rattle.std.specs.Prelude.{◌≡◌, ◌+◌, ◌-◌, ◌*◌, ◌^◌, ◌<◌, List, length, get_or, ℤ, pos, nat_abs}
+use Rattle.std.specs.Prelude.{◌≡◌, ◌+◌, ◌-◌, ◌*◌, ◌^◌, ◌<◌, ℕ, List, length, get_or, ℤ, pos, nat_abs}
 use Rattle.std.specs.Int.{int_div_euclid}
 use Rattle.sof_base.specs.Samples.{sat}
 
@@ -24,3 +24,7 @@ inner_of_sum sum = sat 32 (int_div_euclid sum (pos 1073741824))
 -- a product with 32 bits and a sum that leave room for the half that rounds
 abbrev pub HasRoomToRound : ℤ → ℤ → Type 0
 HasRoomToRound a sum = nat_abs a * 2 ^ 31 + nat_abs sum < 2 ^ 63 - 2 ^ 29
+
+-- a mark of a sum that is not held: the sum and 2 ^ 61 is neither below 0 nor from 2 ^ 62 on
+abbrev pub IsClear : ℤ → Type 0
+IsClear mark = (n : ℕ) × ((mark ≡ pos n) × (n < 2 ^ 62))

@@ -1,7 +1,7 @@
 // Two numbers side by side, one of a channel and one of the channel after it. Each operation is one for both.
-ghost use Rattle.std.specs.Prelude.{◌≡◌, [], ◌∷◌, ◌+◌, ◌*◌, ◌<◌, ◌≤◌, ◌^◌, ◌+ℤ◌, ◌*ℤ◌, pos, length, nat_abs, FitsSigned};
+ghost use Rattle.std.specs.Prelude.{◌≡◌, [], ◌∷◌, ◌+◌, ◌*◌, ◌<◌, ◌≤◌, ◌^◌, ◌+ℤ◌, ◌*ℤ◌, pos, length, nat_abs, true, FitsSigned};
 ghost use Rattle.std.specs.Int.{w32, w64};
-ghost use Rattle.eq_biquad.specs.Pairs.{left_number, right_number, BothAre, BothMeet, inner_of_sum, HasRoomToRound};
+ghost use Rattle.eq_biquad.specs.Pairs.{left_number, right_number, BothAre, BothMeet, inner_of_sum, HasRoomToRound, IsClear};
 
 use std::simd::prelude::*;
 
@@ -77,6 +77,52 @@ pub fn hold_both(a: i64x2, b: i64x2) -> i32x2
     above.simd_lt(zero).select(end, inner).cast::<i32>()
 }
 
+/// The sums of two pairs, without the 30 bits at their bottom, where they are not held, and two marks: a sum is not held where its mark is
+/// neither below 0 nor from 2^62 on.
+#[inline(always)]
+pub fn take_both(a: i64x2, b: i64x2) -> (i32x2, i64x2)
+    requires first { BothAre (FitsSigned w64) a }
+    requires second { BothAre (FitsSigned w64) b }
+    requires sums { (nat_abs (left_number a +ℤ left_number b) < 7 * 2 ^ 61) × (nat_abs (right_number a +ℤ right_number b) < 7 * 2 ^ 61) }
+    ensures left { IsClear (left_number result.1) → left_number result.0 ≡ inner_of_sum (left_number a +ℤ left_number b) }
+    ensures right { IsClear (right_number result.1) → right_number result.0 ≡ inner_of_sum (right_number a +ℤ right_number b) }
+    ensures fit { BothAre (FitsSigned w32) result.0 }
+    ensures marks { BothAre (FitsSigned w64) result.1 }
+{
+    let sum = a + b;
+    let inner = (sum << i64x2::splat(2)) >> i64x2::splat(32);
+    let marks = sum + i64x2::splat(2305843009213693952);
+    (inner.cast::<i32>(), marks)
+}
+
+/// Marks joined to others. One is clear only where both of it were.
+#[inline(always)]
+pub fn join_both(a: i64x2, b: i64x2) -> i64x2
+    requires first { BothAre (FitsSigned w64) a }
+    requires second { BothAre (FitsSigned w64) b }
+    ensures left { IsClear (left_number result) → IsClear (left_number a) × IsClear (left_number b) }
+    ensures right { IsClear (right_number result) → IsClear (right_number a) × IsClear (right_number b) }
+    ensures fit { BothAre (FitsSigned w64) result }
+{
+    a | b
+}
+
+/// Whether both marks are clear.
+pub fn are_clear(marks: i64x2) -> bool
+    requires { BothAre (FitsSigned w64) marks }
+    ensures { result ≡ true → IsClear (left_number marks) × IsClear (right_number marks) }
+{
+    let marks = wide_parts(marks);
+    is_clear(marks[0]) && is_clear(marks[1])
+}
+
+/// Whether a mark is clear.
+fn is_clear(mark: i64) -> bool
+    ensures { result ≡ true → IsClear mark }
+{
+    mark.cast_unsigned() < 4611686018427387904
+}
+
 /// The next inner values, from the two parts of the first numbers and the inputs.
 pub fn inner_both(b0: i32x2, fed: i64x2, ahead: i64x2, x: i32x2) -> i32x2
     requires factors { BothAre (FitsSigned w32) b0 }
@@ -88,6 +134,22 @@ pub fn inner_both(b0: i32x2, fed: i64x2, ahead: i64x2, x: i32x2) -> i32x2
     ensures { result ≡ inner_of_sum (((left_number b0 *ℤ left_number x) +ℤ left_number fed) +ℤ left_number ahead) ∷ inner_of_sum (((right_number b0 *ℤ right_number x) +ℤ right_number fed) +ℤ right_number ahead) ∷ [] }
 {
     hold_both(add_both(times_both(b0, x), fed), ahead)
+}
+
+/// The same where they are not held, and their marks.
+pub fn inner_taken(b0: i32x2, fed: i64x2, ahead: i64x2, x: i32x2) -> (i32x2, i64x2)
+    requires factors { BothAre (FitsSigned w32) b0 }
+    requires inputs { BothAre (FitsSigned w32) x }
+    requires fed { BothAre (FitsSigned w64) fed }
+    requires ahead { BothAre (FitsSigned w64) ahead }
+    requires even { BothMeet (λ b f. nat_abs b * 2 ^ 31 + nat_abs f < 2 ^ 63) b0 fed }
+    requires sums { (nat_abs (left_number ahead +ℤ left_number fed) + nat_abs (left_number b0) * 2 ^ 31 < 7 * 2 ^ 61) × (nat_abs (right_number ahead +ℤ right_number fed) + nat_abs (right_number b0) * 2 ^ 31 < 7 * 2 ^ 61) }
+    ensures left { IsClear (left_number result.1) → left_number result.0 ≡ inner_of_sum (((left_number b0 *ℤ left_number x) +ℤ left_number fed) +ℤ left_number ahead) }
+    ensures right { IsClear (right_number result.1) → right_number result.0 ≡ inner_of_sum (((right_number b0 *ℤ right_number x) +ℤ right_number fed) +ℤ right_number ahead) }
+    ensures fit { BothAre (FitsSigned w32) result.0 }
+    ensures marks { BothAre (FitsSigned w64) result.1 }
+{
+    take_both(add_both(times_both(b0, x), fed), ahead)
 }
 
 /// The first parts of the next first numbers, with the 2^29 that rounds.

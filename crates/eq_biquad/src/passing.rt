@@ -20,13 +20,15 @@ use crate::stretch::Stretch;
 use eq_blob::{Found, section_at};
 use sof_base::Sample;
 
-/// Passes frames through the sections of their channels. A channel without sections passes unchanged.
+/// Passes frames through the sections of their channels. A channel without sections passes unchanged. Where `quick` is set, it is
+/// tried first whether no sum has to be held. It is clear after one that had to be.
 pub fn pass_channels(
     blob: &[i32],
     len: usize,
     numbers: &mut [i32],
     samples: &mut [Sample],
     channels: usize,
+    quick: &mut bool,
 )
     requires words { (length blob.now ≡ 256) × (len ≤ 1024) × (length numbers.old ≡ 512) }
     requires blob { 0 < len → blob_parts.IsBlob (take len (bytes_of_words blob.now)) }
@@ -44,7 +46,7 @@ pub fn pass_channels(
             channels,
             frames,
         };
-        pass_pair(blob, len, numbers, samples, lane);
+        pass_pair(blob, len, numbers, samples, lane, quick);
     }
     if channels % 2 == 1 {
         let lane = Lane {
@@ -57,7 +59,14 @@ pub fn pass_channels(
 }
 
 /// Passes a channel and the one after it through their sections, two of each in one pass.
-fn pass_pair(blob: &[i32], len: usize, numbers: &mut [i32], samples: &mut [Sample], at: Lane)
+fn pass_pair(
+    blob: &[i32],
+    len: usize,
+    numbers: &mut [i32],
+    samples: &mut [Sample],
+    at: Lane,
+    quick: &mut bool,
+)
     requires words { (length blob.now ≡ 256) × (len ≤ 1024) × (length numbers.old ≡ 512) }
     requires blob { 0 < len → blob_parts.IsBlob (take len (bytes_of_words blob.now)) }
     requires numbers { AreNumbers numbers.old }
@@ -73,7 +82,7 @@ fn pass_pair(blob: &[i32], len: usize, numbers: &mut [i32], samples: &mut [Sampl
     for s in 0..4 {
         let one = two_of(left, 8 * at.channel, s);
         let other = two_of(right, 8 * at.channel + 8, s);
-        pass_two(blob, len, one, other, numbers, samples, at);
+        pass_two(blob, len, one, other, numbers, samples, at, quick);
     }
 }
 
@@ -131,6 +140,7 @@ fn pass_two(
     numbers: &mut [i32],
     samples: &mut [Sample],
     at: Lane,
+    quick: &mut bool,
 )
     requires words { (length blob.now ≡ 256) × (len ≤ 1024) × (length numbers.old ≡ 512) }
     requires left { AreWithin (take len (bytes_of_words blob.now)) left.found }
@@ -148,7 +158,7 @@ fn pass_two(
         let one = series_at(blob, len, left.found.place);
         let other = series_at(blob, len, right.found.place);
         if let Some(near) = near_series(&one, &other, numbers, left.slot) {
-            let after = pass_both(&one, &other, near, samples, at);
+            let after = pass_both(&one, &other, near, samples, at, quick);
             put_series(numbers, left.slot, after);
             return;
         }

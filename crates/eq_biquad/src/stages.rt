@@ -5,11 +5,13 @@ ghost use Rattle.sof_base.specs.Blob as form;
 ghost use Rattle.sof_base.specs.Equations.{section_output};
 ghost use Rattle.stream_law.specs.Equaliser.{next_inner};
 ghost use Rattle.eq_blob.specs.Sections.{law_section};
-ghost use Rattle.eq_biquad.specs.Pairs.{left_number, right_number, BothAre};
+ghost use Rattle.eq_biquad.specs.Pairs.{left_number, right_number, BothAre, IsClear};
 ghost use Rattle.eq_biquad.specs.PairForms.{FitsBeside, HaveUnitGains, AreNear, GoesThrough, left_first, right_first, left_numbers, right_numbers};
 
 use crate::arithmetic::{bits_of, rescaled};
-use crate::pair_arithmetic::{ahead_both, both, inner_both, parts, second_both, times_both};
+use crate::pair_arithmetic::{
+    ahead_both, both, inner_both, inner_taken, parts, second_both, times_both,
+};
 use eq_blob::Section;
 use std::simd::prelude::*;
 
@@ -47,6 +49,33 @@ pub fn stage(
     )
 }
 
+/// The same where no sum is held, and the marks that tell it.
+#[inline(always)]
+pub fn stage_taken(
+    left: Section,
+    right: Section,
+    plain: bool,
+    near: NearPair,
+    x: i32x2,
+) -> (NearPair, i32x2, i64x2)
+    requires plain { plain ≡ true → HaveUnitGains (law_section left) (law_section right) }
+    requires beside { FitsBeside (law_section left) × FitsBeside (law_section right) }
+    requires near { AreNear (law_section left) (law_section right) near }
+    requires inputs { BothAre (FitsSigned w32) x }
+    ensures left { IsClear (left_number result.2) → GoesThrough (law_section left ∷ []) (left_numbers near) (left_number x) (left_numbers result.0) (left_number result.1) }
+    ensures right { IsClear (right_number result.2) → GoesThrough (law_section right ∷ []) (right_numbers near) (right_number x) (right_numbers result.0) (right_number result.1) }
+    ensures near { AreNear (law_section left) (law_section right) result.0 }
+    ensures outputs { BothAre (FitsSigned w32) result.1 }
+    ensures marks { BothAre (FitsSigned w64) result.2 }
+{
+    let inner = inners_taken(left, right, near, x);
+    (
+        next_parts(left, right, near.second, x, inner.0),
+        outputs(left, right, plain, inner.0),
+        inner.1,
+    )
+}
+
 /// The next inner values.
 #[inline(always)]
 fn next_inners(left: Section, right: Section, near: NearPair, x: i32x2) -> i32x2
@@ -56,6 +85,20 @@ fn next_inners(left: Section, right: Section, near: NearPair, x: i32x2) -> i32x2
     ensures { result ≡ next_inner (law_section left) (left_first near) (left_number x) ∷ next_inner (law_section right) (right_first near) (right_number x) ∷ [] }
 {
     inner_both(both(left.b0, right.b0), near.fed, near.ahead, x)
+}
+
+/// The same where no sum is held, and their marks.
+#[inline(always)]
+fn inners_taken(left: Section, right: Section, near: NearPair, x: i32x2) -> (i32x2, i64x2)
+    requires beside { FitsBeside (law_section left) × FitsBeside (law_section right) }
+    requires near { AreNear (law_section left) (law_section right) near }
+    requires inputs { BothAre (FitsSigned w32) x }
+    ensures left { IsClear (left_number result.1) → left_number result.0 ≡ next_inner (law_section left) (left_first near) (left_number x) }
+    ensures right { IsClear (right_number result.1) → right_number result.0 ≡ next_inner (law_section right) (right_first near) (right_number x) }
+    ensures fit { BothAre (FitsSigned w32) result.0 }
+    ensures marks { BothAre (FitsSigned w64) result.1 }
+{
+    inner_taken(both(left.b0, right.b0), near.fed, near.ahead, x)
 }
 
 /// The parts of the next numbers, from the second numbers, the inputs and the inner values.

@@ -1,4 +1,4 @@
-use Rattle.std.proofs.Common.{◌∙◌, [], ◌∷◌, ◌+ℤ◌, ℤ, pos, arith, rules, w64, FitsSigned}
+use Rattle.std.proofs.Common.{◌∙◌, [], ◌∷◌, ◌+ℤ◌, pos, arith, rules, w64, FitsSigned}
 use Rattle.std.proofs.lemmas.Int.{to_z-of_z}
 use Rattle.eq_biquad.proofs.NearLaws.{kept-64, fits}
 use Rattle.eq_biquad.proofs.ArithLaws.{same-128}

@@ -1,4 +1,4 @@
-use Rattle.std.proofs.Common.{◌≡◌, sym, ap, subst, ◌∙◌, ◌+◌, ◌*◌, ℕ, true, take, arith}
+use Rattle.std.proofs.Common.{◌≡◌, sym, ap, subst, ◌∙◌, ◌+◌, ◌*◌, ℕ, take, arith}
 use Rattle.eq_biquad.specs.PairForms.{series_of, left_series, right_series}
 use Rattle.eq_blob.specs.WordBytes.{bytes_of_words}
 use Rattle.eq_biquad.specs.PieceWords.{numbers_at}

@@ -1,4 +1,4 @@
-use Rattle.std.proofs.Common.{refl, sym, subst, ◌∙◌, ◌+◌, ◌*◌, ◌^◌, ◌<◌, [], ◌∷◌, ℤ, pos, ◌+ℤ◌, ◌*ℤ◌, nat_abs, List, rules, arith, w32, w64, FitsSigned}
+use Rattle.std.proofs.Common.{refl, sym, subst, ◌∙◌, ◌+◌, ◌^◌, ◌<◌, [], ◌∷◌, ℤ, pos, ◌+ℤ◌, ◌*ℤ◌, nat_abs, List, rules, arith, w32, w64, FitsSigned}
 use Rattle.eq_biquad.specs.Pairs.{left_number, right_number, BothAre, BothMeet, HasRoomToRound}
 use Rattle.eq_blob.specs.Sections.{law_section}
 use Rattle.eq_biquad.proofs.PairLaws.{pair-again, known-again}

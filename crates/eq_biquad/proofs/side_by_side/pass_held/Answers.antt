@@ -1,4 +1,4 @@
-use Rattle.eq_biquad.proofs.side_by_side.pass_both.Goals as goal
+use Rattle.eq_biquad.proofs.side_by_side.pass_held.Goals as goal
 
 pub pass_plain-requires-clause-first : goal.pass_plain-requires-clause-first
 pass_plain-requires-clause-first c = c.have_unit_gains-first.ensures c.if-first.true

@@ -102,7 +102,8 @@ impl Ring {
         ensures same { SameRing self.old self.new }
     {
         let window = self.window;
-        self.window = extend(self.piece.words_mut(), window, samples);
+        let after = extend(self.piece.words_mut(), window, samples);
+        self.window.held = after.held;
     }
 
     /// Appends the frames of these samples, each times the gain of its channel, of which 65536 is 1; the ring has room for them.
@@ -114,7 +115,8 @@ impl Ring {
         ensures same { SameRing self.old self.new }
     {
         let window = self.window;
-        self.window = extend_amplified(self.piece.words_mut(), window, samples, channels, gains);
+        let after = extend_amplified(self.piece.words_mut(), window, samples, channels, gains);
+        self.window.held = after.held;
     }
 
     /// Appends the `n` frames whose bytes these are in a format; the ring has room for them.
@@ -125,7 +127,8 @@ impl Ring {
         ensures same { SameRing self.old self.new }
     {
         let window = self.window;
-        self.window = extend_by(self.piece.words_mut(), window, format, n, bytes);
+        let after = extend_by(self.piece.words_mut(), window, format, n, bytes);
+        self.window.held = after.held;
     }
 
     /// The samples of the first `n` frames: those up to the end of the words, and then those from their beginning. Each part has

@@ -7,18 +7,19 @@ use Rattle.fw_ring.proofs.WindowLaws.{fuller-is}
 use Rattle.fw_ring.proofs.RingLaws.{held}
 use Rattle.fw_ring.proofs.ring.Ring.push_frames.Goals as goal
 
-pub extend-self-inside-requires-clause-fit : goal.extend-self-inside-requires-clause-fit
-extend-self-inside-requires-clause-fit c =
+pub extend-after-requires-clause-fit : goal.extend-after-requires-clause-fit
+extend-after-requires-clause-fit c =
     let w = c.self.inside.window in let v = c.self.invariant in
     let asked = subst (λ (s : RingState). length s.frames + length c.args.samples.now / s.channels ≤ capacity_of s) (sym c.self.view_is) c.requires.fit in
     omega (arith, asked, held c.self.inside v, v.window.capacity)
 
 pub invariant_of-self : goal.invariant_of-self
 invariant_of-self c =
-    let r = c.self.inside in let v = c.self.invariant in let w = r.window in let old = r.piece.words in let ws = c.extend-self-inside.new.words in
-    let same : length ws ≡ length old = omega (arith, c.extend-self-inside.auto.words, ap length c.words_mut.ensures.value) in
+    let r = c.self.inside in let v = c.self.invariant in let w = r.window in let old = r.piece.words in let ws = c.extend-after.new.words in
+    let same : length ws ≡ length old = omega (arith, c.extend-after.auto.words, ap length c.words_mut.ensures.value) in
     let all : refill (length old) old ws ≡ ws = take_at ws (drop (length ws) old) (length old) same in
-    let is = c.extend-self-inside.ensures.window in
+    let after : Window = c.extend-after.result in
+    let is : record w { held = after.held } ≡ _ = ap (λ (x : Window). record w { held = x.held }) c.extend-after.ensures.window in
     let asked = subst (λ (s : RingState). length s.frames + length c.args.samples.now / s.channels ≤ capacity_of s) (sym c.self.view_is) c.requires.fit in
     let fits : w.held + length c.args.samples.now / w.channels ≤ w.capacity = omega (arith, asked, held r v, v.window.capacity) in
     record {

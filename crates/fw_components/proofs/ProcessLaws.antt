@@ -29,7 +29,7 @@ use Rattle.fw_moves.proofs.MovedLaws.{fed-id, found-id}
 
 -- ---- ids that are distinct
 
-distinct-front : (xs ys : List ℕ) → IsDistinct nat_eq (xs ++ ys) → IsDistinct nat_eq xs
+pub distinct-front : (xs ys : List ℕ) → IsDistinct nat_eq (xs ++ ys) → IsDistinct nat_eq xs
 unfolding IsDistinct
 distinct-front [] ys d = tt
 distinct-front (x ∷ xs) ys d = (all-front (λ y. nat_eq x y ≡ false) xs ys (xs ++ ys) refl d.0, distinct-front xs ys d.1)
@@ -55,9 +55,9 @@ has-among : (b : ℕ) (cs : List Component) → has_id cs b ≡ is_among (map (�
 has-among b [] = refl
 has-among b (c ∷ cs) = ap (λ h. c.id == b || h) (has-among b cs)
 
-pub few-of : (looked fed : List ℕ) (channels n : ℕ) (cs : List Component) → length cs ≤ 128 → IsDistinct nat_eq (looked ++ fed) → AllByRecursion (IsInlet cs channels n) looked → length looked ≤ 128
-few-of looked fed channels n cs few d all =
-    let most = distinct-le looked (map (λ c. c.id) cs) (distinct-front looked fed d) (λ x among. sym (has-among x cs) ∙ (all-among (IsInlet cs channels n) x looked among all).there) in
+pub few-there : (ids : List ℕ) (cs : List Component) → length cs ≤ 128 → IsDistinct nat_eq ids → AllByRecursion (λ b. has_id cs b ≡ true) ids → length ids ≤ 128
+few-there ids cs few d all =
+    let most = distinct-le ids (map (λ c. c.id) cs) d (λ x among. sym (has-among x cs) ∙ all-among (λ b. has_id cs b ≡ true) x ids among all) in
     omega (arith, few, most, length-map cs (λ (c : Component). c.id))
 
 -- ---- what is so of all tables
@@ -182,7 +182,7 @@ module _ (t : Tables) (id : ℕ) (c : Component) (it : Some c ≡ find (λ x. x.
     kind = ap (λ (o : Option Component). option_map_or (λ x. moves_of x.unit (length looked)) o false) it ∙ kind;
     feeds = ap (λ (o : Option Component). option_map_or (λ x. feeds_of x.unit (length fed)) o false) it ∙ feeds;
     level = sound-level c.unit (found-all (λ (x : Component). IsUnitSound x.unit) id t.comps c it kept.sound);
-    few = few-of looked fed (channels_moved t id) n t.buffers kept.buffers single inlets;
+    few = few-there looked t.buffers kept.buffers (distinct-front looked fed single) (all-by (IsInlet t.buffers (channels_moved t id) n) (λ b. has_id t.buffers b ≡ true) (λ b inlet. inlet.there) looked inlets);
     distinct = distinct-front looked fed single;
     single = distinct-back looked fed single;
     apart = apart-of looked fed single;

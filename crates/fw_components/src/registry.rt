@@ -272,6 +272,14 @@ impl Registry {
         ensures { result ≡ length (held_frames self.now buffer) }
     {
         let at = self.buffer_hints.place(self.buffers.as_slice(), buffer);
+        self.held_at(buffer, at)
+    }
+
+    /// How many frames a buffer holds, which stands at `at`.
+    pub fn held_at(&self, _buffer: u32, at: usize) -> u32
+        requires { Some at ≡ position (λ c. c.id == _buffer) self.now.buffers }
+        ensures { result ≡ length (held_frames self.now _buffer) }
+    {
         self.buffers[at].held()
     }
 
@@ -281,6 +289,14 @@ impl Registry {
         ensures { result + length (held_frames self.now buffer) ≡ capacity_at self.now buffer }
     {
         let at = self.buffer_hints.place(self.buffers.as_slice(), buffer);
+        self.free_at(buffer, at)
+    }
+
+    /// How many more frames a buffer has room for, which stands at `at`.
+    pub fn free_at(&self, _buffer: u32, at: usize) -> u32
+        requires { Some at ≡ position (λ c. c.id == _buffer) self.now.buffers }
+        ensures { result + length (held_frames self.now _buffer) ≡ capacity_at self.now _buffer }
+    {
         self.buffers[at].room()
     }
 

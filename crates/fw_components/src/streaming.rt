@@ -1,10 +1,9 @@
 // What begins with a stream, and frames that endpoints feed and pull.
-ghost use Rattle.std.specs.Prelude.{◌≡◌, ◌+◌, ◌*◌, ◌/◌, ◌%◌, ◌≤◌, ◌++◌, true, length, take};
+ghost use Rattle.std.specs.Prelude.{◌≡◌, ◌+◌, ◌*◌, ◌/◌, ◌%◌, ◌≤◌, ◌++◌, ◌==◌, true, Some, length, take, position};
 ghost use Rattle.std.specs.List.{list_any};
 ghost use Rattle.sof_base.specs.Samples.{width, frames_in};
 ghost use Rattle.sof_base.specs.FrameLists.{frames_of, samples_of};
 ghost use Rattle.fw_components.specs.Tables.{held_frames, capacity_at};
-ghost use Rattle.fw_units.specs.Changes.{has_id};
 ghost use Rattle.fw_components.specs.Changes.{found, is_there};
 ghost use Rattle.fw_units.specs.Frames.{IsFreshBy, comes_from, goes_to};
 ghost use Rattle.sof_base.specs.Rates.{is_rate};
@@ -35,36 +34,35 @@ impl Registry {
         }
     }
 
-    /// Puts the `n` frames whose bytes these are in a format after those of this buffer, which has room for them. This takes no
-    /// memory.
-    pub fn push_bytes(&mut self, buffer: u32, format: Format, n: u32, bytes: &[u8])
-        requires there { has_id self.old.buffers buffer ≡ true }
-        requires whole { length bytes.now ≡ n * (channels_at self.old buffer * width format) }
-        requires fit { length (held_frames self.old buffer) + n ≤ capacity_at self.old buffer }
-        ensures { self.new ≡ pushed buffer (frames_in format (channels_at self.old buffer) bytes.now 0 n) (words_at self.new buffer) self.old }
+    /// Puts the `n` frames whose bytes these are in a format after those of this buffer, which has room for them and stands at `at`.
+    /// This takes no memory.
+    pub fn push_bytes(&mut self, _buffer: u32, at: usize, format: Format, n: u32, bytes: &[u8])
+        requires place { Some at ≡ position (λ c. c.id == _buffer) self.old.buffers }
+        requires whole { length bytes.now ≡ n * (channels_at self.old _buffer * width format) }
+        requires fit { length (held_frames self.old _buffer) + n ≤ capacity_at self.old _buffer }
+        ensures { self.new ≡ pushed _buffer (frames_in format (channels_at self.old _buffer) bytes.now 0 n) (words_at self.new _buffer) self.old }
     {
-        let at = self.buffer_hints.place(self.buffers.as_slice(), buffer);
         self.buffers[at].push_bytes(format, n, bytes);
     }
 
-    /// The samples of the first `n` frames of this buffer, which holds them, in two parts of whole frames. This takes no memory.
-    pub fn spans(&self, buffer: u32, n: u32) -> (&[Sample], &[Sample])
-        requires there { has_id self.now.buffers buffer ≡ true }
+    /// The samples of the first `n` frames of this buffer, which holds them and stands at `at`, in two parts of whole frames. This takes
+    /// no memory.
+    pub fn spans(&self, buffer: u32, at: usize, n: u32) -> (&[Sample], &[Sample])
+        requires place { Some at ≡ position (λ c. c.id == buffer) self.now.buffers }
         requires held { n ≤ length (held_frames self.now buffer) }
         ensures samples { result.0.now ++ result.1.now ≡ samples_of (take n (held_frames self.now buffer)) }
         ensures whole { length result.0.now % channels_at self.now buffer ≡ 0 }
         ensures size { length result.0.now + length result.1.now ≡ n * channels_at self.now buffer }
     {
-        spans(&self.buffer_hints, self.buffers.as_slice(), buffer, n)
+        spans(self.buffers.as_slice(), buffer, at, n)
     }
 
-    /// Takes the first `n` frames from this buffer, which holds them. This takes no memory.
-    pub fn shorten(&mut self, buffer: u32, n: u32)
-        requires there { has_id self.old.buffers buffer ≡ true }
-        requires held { n ≤ length (held_frames self.old buffer) }
-        ensures { self.new ≡ with_taken buffer n self.old }
+    /// Takes the first `n` frames from this buffer, which holds them and stands at `at`. This takes no memory.
+    pub fn shorten(&mut self, _buffer: u32, at: usize, n: u32)
+        requires place { Some at ≡ position (λ c. c.id == _buffer) self.old.buffers }
+        requires held { n ≤ length (held_frames self.old _buffer) }
+        ensures { self.new ≡ with_taken _buffer n self.old }
     {
-        let at = self.buffer_hints.place(self.buffers.as_slice(), buffer);
         self.buffers[at].take(n);
     }
 

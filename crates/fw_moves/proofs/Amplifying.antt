@@ -1,5 +1,5 @@
 -- Frames that go from ring to ring, each sample times its gain.
-use Rattle.std.proofs.Common.{◌≡◌, refl, sym, ap, ◌∙◌, subst, ℕ, zero, suc, ◌+◌, ◌-◌, ◌<◌, ◌≤◌, List, [], ◌∷◌, ◌++◌, map, take, drop, set, length, get_or, Bool, true, false, cond, ◌==◌, Option, Some, arith, ℤ, pos}
+use Rattle.std.proofs.Common.{◌≡◌, refl, sym, ap, ◌∙◌, subst, ℕ, zero, suc, ◌<◌, ◌≤◌, List, [], ◌∷◌, ◌++◌, map, take, drop, set, length, get_or, Bool, true, false, cond, ◌==◌, Option, Some, arith, ℤ, pos}
 use Rattle.std.proofs.lemmas.Bool.{eqb-true, eq-eqb, leb-true, or_parts, true≢false, false≢true, false_from_ne_true, ltb-true, ltb-false}
 use Rattle.std.proofs.lemmas.List.{get_or_default, length-map}
 use Rattle.std.specs.Prelude.{find, position, nat_lt}

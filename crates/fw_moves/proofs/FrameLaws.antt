@@ -2,9 +2,8 @@
 use Rattle.std.proofs.Common.{◌≡◌, refl, sym, ap, ◌∙◌, ℕ, zero, suc, ◌+◌, ◌*◌, ◌/◌, ◌%◌, ◌<◌, ◌≤◌, List, [], ◌∷◌, ◌++◌, map, take, drop, length, replicate, get_or, arith, ℤ, pos, ◌+ℤ◌, length-take, length-drop}
 use Rattle.std.specs.List.{AllByRecursion, range_with_len}
 use Rattle.std.proofs.Math.Nat.{div_self, div-eq_of_lt, mod-eq_of_lt, mod_self, mul-le-mul_right}
-use Rattle.std.proofs.lemmas.Int.{ints}
 use Rattle.std.proofs.lemmas.List.{length-replicate, get_or-take, get_or-drop, replicate-append-replicate}
-use Rattle.std.proofs.lemmas.List.FromFn.{fill_by_all, length-map-range_with_len}
+use Rattle.std.proofs.lemmas.List.FromFn.{fill_by_all, length-map-range_with_len, get_or-map-range_with_len}
 use Rattle.sof_base.specs.Samples.{Frame, sample_of, sat, silence}
 use Rattle.sof_base.specs.FrameLists.{AreFrames, frames_of, samples_of}
 use Rattle.sof_base.specs.Equations.{amplified, channel_gain, exact_sum, mixed}
@@ -15,13 +14,11 @@ use Rattle.stream_law.specs.Ramps.{ramped_frames}
 use Rattle.stream_law.specs.Table.{table}
 use Rattle.stream_law.specs.Made.{frames_at as frames_of_each}
 use Rattle.fw_gain.specs.RampKernels.{sample_gain, all_ramped}
-use Rattle.fw_gain.specs.Kernels.{summed, held}
 use Rattle.fw_gain.proofs.RampKernelLaws.{ramped-append}
-use Rattle.fw_gain.proofs.KernelLaws.{length-summed, length-held, silence-replicate}
+use Rattle.fw_gain.proofs.KernelLaws.{silence-replicate}
 use Rattle.fw_ring.proofs.FrameLaws.{length-frames, get-frame, whole-take}
-use Rattle.fw_ring.proofs.Flat.{frames-samples, length-samples}
-use Rattle.fw_units.proofs.TakenFrames.{length-first, length-taken}
-use Rattle.fw_moves.specs.Moving.{all_summed}
+use Rattle.fw_ring.proofs.Flat.{frames-samples}
+use Rattle.fw_units.proofs.TakenFrames.{length-first}
 
 -- ---- frames and their samples
 
@@ -60,41 +57,6 @@ ramped-samples channels from to over j (f ∷ fs) some level are =
 
 -- ---- sums
 
-get-summed : (sums xs : List ℤ) (k : ℕ) → length sums ≡ length xs → k < length sums → get_or (summed sums xs) k (pos 0) ≡ get_or sums k (pos 0) +ℤ get_or xs k (pos 0)
-get-summed [] xs k same below = absurd (omega arith)
-get-summed (s ∷ sums) [] k same below = absurd (omega arith)
-get-summed (s ∷ sums) (x ∷ xs) zero same below = refl
-get-summed (s ∷ sums) (x ∷ xs) (suc k) same below = get-summed sums xs k (omega arith) (omega arith)
-
-add-zero : (x : ℤ) → x ≡ x +ℤ pos 0
-add-zero x = omega (arith, ints)
-
-add-more : (a b c : ℤ) → (a +ℤ b) +ℤ c ≡ a +ℤ (b +ℤ c)
-add-more a b c = omega (arith, ints)
-
-pub length-all_summed : (sums : List ℤ) (xss : List (List ℤ)) → AllByRecursion (λ xs. length xs ≡ length sums) xss → length (all_summed sums xss) ≡ length sums
-length-all_summed sums [] long = refl
-length-all_summed sums (xs ∷ xss) long =
-    let first = length-summed sums xs (sym long.0) in
-    length-all_summed (summed sums xs) xss (all-long xss first long.1) ∙ first
-  where
-    all-long : (yss : List (List ℤ)) → length (summed sums xs) ≡ length sums → AllByRecursion (λ ys. length ys ≡ length sums) yss → AllByRecursion (λ ys. length ys ≡ length (summed sums xs)) yss
-    all-long [] same all = tt
-    all-long (ys ∷ yss) same all = (all.0 ∙ sym same, all-long yss same all.1)
-
--- each of the sums
-pub get-all_summed : (n : ℕ) (sums : List ℤ) (xss : List (List ℤ)) (k : ℕ) → length sums ≡ n → AllByRecursion (λ xs. length xs ≡ n) xss → k < n → get_or (all_summed sums xss) k (pos 0) ≡ get_or sums k (pos 0) +ℤ exact_sum k xss
-get-all_summed n sums [] k same long below = add-zero (get_or sums k (pos 0))
-get-all_summed n sums (xs ∷ xss) k same long below =
-    get-all_summed n (summed sums xs) xss k (length-summed sums xs (same ∙ sym long.0) ∙ same) long.1 below
-    ∙ ap (λ x. x +ℤ exact_sum k xss) (get-summed sums xs k (same ∙ sym long.0) (omega arith))
-    ∙ add-more (get_or sums k (pos 0)) (get_or xs k (pos 0)) (exact_sum k xss)
-
-get-zeros : (n k : ℕ) → get_or (replicate n (pos 0)) k (pos 0) ≡ pos 0
-get-zeros zero k = refl
-get-zeros (suc n) zero = refl
-get-zeros (suc n) (suc k) = get-zeros n k
-
 -- a sample of a frame is one of all samples
 pub get-samples : (channels j k : ℕ) (fs : List Frame) → AreFrames channels fs → j < length fs → k < channels → get_or (samples_of fs) (j * channels + k) (pos 0) ≡ get_or (get_or fs j []) k (pos 0)
 get-samples channels j k fs are some low =
@@ -114,41 +76,21 @@ module _ (channels n : ℕ) (frames : ℕ → List Frame) where
       get-samples channels j k (take n (frames inlet)) (whole-take channels n (frames inlet) all.0.whole) (omega (arith, length-first n (frames inlet) all.0.some)) low i
       +ℤ exact-samples j k inlets all.1 some low i)
 
-  all-samples : (inlets : List ℕ) → AllByRecursion (λ inlet. Enough channels n (frames inlet)) inlets → AllByRecursion (λ xs. length xs ≡ n * channels) (map (λ inlet. samples_of (take n (frames inlet))) inlets)
-  all-samples [] all = tt
-  all-samples (inlet ∷ inlets) all = (length-taken channels n (frames inlet) all.0.whole all.0.some, all-samples inlets all.1)
-
-  -- the held sums of samples are the mixed frames
-  pub frames-mixed : (inlets : List ℕ) → AllByRecursion (λ inlet. Enough channels n (frames inlet)) inlets → frames_of channels n (held (all_summed (replicate (n * channels) (pos 0)) (map (λ inlet. samples_of (take n (frames inlet))) inlets))) ≡ map (λ j. mixed channels (frames_of_each (table inlets (λ inlet. take n (frames inlet))) j)) (range_with_len 0 n)
+  -- the mixed samples are those of the mixed frames
+  pub frames-mixed : (inlets : List ℕ) → AllByRecursion (λ inlet. Enough channels n (frames inlet)) inlets → frames_of channels n (mixed (n * channels) (map (λ inlet. samples_of (take n (frames inlet))) inlets)) ≡ map (λ j. mixed channels (frames_of_each (table inlets (λ inlet. take n (frames inlet))) j)) (range_with_len 0 n)
   frames-mixed inlets all =
-      let zeros = replicate (n * channels) (pos 0) in let taken = map (λ inlet. samples_of (take n (frames inlet))) inlets in
-      let sums = all_summed zeros taken in
+      let taken = map (λ inlet. samples_of (take n (frames inlet))) inlets in
+      let sums : List ℤ = mixed (n * channels) taken in
       let each = λ (j : ℕ). frames_of_each (table inlets (λ inlet. take n (frames inlet))) j in
-      let none : length zeros ≡ n * channels = length-replicate (n * channels) (pos 0) in
-      let long : length sums ≡ n * channels = length-all_summed zeros taken (all-long taken (sym none) (all-samples inlets all)) ∙ none in
-      fill_by_all (λ j. mixed channels (each j)) (frames_of channels n (held sums)) n [] (length-frames channels n (held sums)) (λ j lt.
+      let long : length sums ≡ n * channels = length-map-range_with_len (λ k. sat 32 (exact_sum k taken)) 0 (n * channels) in
+      fill_by_all (λ j. mixed channels (each j)) (frames_of channels n sums) n [] (length-frames channels n sums) (λ j lt.
       let within : (j + 1) * channels ≤ n * channels = mul-le-mul_right channels (let l : j + 1 ≤ n = omega arith in l) in
-      get-frame channels n j (held sums) [] lt
-      ∙ fill_by_all (λ k. sat 32 (exact_sum k (each j))) (take channels (drop (j * channels) (held sums))) channels (pos 0) (omega (arith, length-take channels (drop (j * channels) (held sums)), length-drop (j * channels) (held sums), length-held sums, long, within)) (λ k low.
+      get-frame channels n j sums [] lt
+      ∙ fill_by_all (λ k. sat 32 (exact_sum k (each j))) (take channels (drop (j * channels) sums)) channels (pos 0) (omega (arith, length-take channels (drop (j * channels) sums), length-drop (j * channels) sums, long, within)) (λ k low.
       let under : j * channels + k < n * channels = omega (arith, within) in
-      get_or-take channels (drop (j * channels) (held sums)) k (pos 0) low ∙ get_or-drop (j * channels) (held sums) k (pos 0)
-      ∙ get-held sums (j * channels + k)
-      ∙ ap (sat 32) (get-all_summed (n * channels) zeros taken (j * channels + k) none (all-samples inlets all) under
-      ∙ ap (λ x. x +ℤ exact_sum (j * channels + k) taken) (get-zeros (n * channels) (j * channels + k))
-      ∙ zero-more (exact_sum (j * channels + k) taken)
-      ∙ exact-samples j k inlets all lt low)))
-    where
-      all-long : (yss : List (List ℤ)) {a b : ℕ} → a ≡ b → AllByRecursion (λ ys. length ys ≡ a) yss → AllByRecursion (λ ys. length ys ≡ b) yss
-      all-long [] same all = tt
-      all-long (ys ∷ yss) same all = (all.0 ∙ same, all-long yss same all.1)
-
-      get-held : (sums : List ℤ) (k : ℕ) → get_or (held sums) k (pos 0) ≡ sat 32 (get_or sums k (pos 0))
-      get-held [] k = refl
-      get-held (s ∷ sums) zero = refl
-      get-held (s ∷ sums) (suc k) = get-held sums k
-
-      zero-more : (x : ℤ) → pos 0 +ℤ x ≡ x
-      zero-more x = omega (arith, ints)
+      get_or-take channels (drop (j * channels) sums) k (pos 0) low ∙ get_or-drop (j * channels) sums k (pos 0)
+      ∙ get_or-map-range_with_len (λ i. sat 32 (exact_sum i taken)) 0 (n * channels) (j * channels + k) (j * channels + k) (pos 0) under (omega arith)
+      ∙ ap (sat 32) (exact-samples j k inlets all lt low)))
 
 -- ---- silence
 

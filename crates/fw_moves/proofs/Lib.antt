@@ -2,9 +2,10 @@ pub mod Amplifying
 pub mod Draining
 pub mod FrameLaws
 pub mod MadeLaws
+pub mod MixLaws
 pub mod MoveAgain
 pub mod MovedLaws
 pub mod OutletLaws
+pub mod PlaceLaws
 pub mod RunLaws
 pub mod StepLaws
-pub mod Summing

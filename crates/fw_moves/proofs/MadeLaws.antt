@@ -16,13 +16,12 @@ use Rattle.stream_law.proofs.Ramping.{length-ramped_frames}
 use Rattle.stream_law.specs.Made.{only_slice, chosen_slice, frames_at as frames_of_each}
 use Rattle.stream_law.specs.Equaliser.{passed_frames}
 use Rattle.fw_gain.specs.RampKernels.{all_ramped}
-use Rattle.fw_gain.specs.Kernels.{held}
 use Rattle.fw_gain.proofs.RampKernelLaws.{ramped-past}
 use Rattle.fw_ring.proofs.FrameLaws.{whole-take}
 use Rattle.fw_units.specs.declared.component.Component.{Component}
 use Rattle.fw_units.specs.Frames.{buffer_frames, channels_in}
 use Rattle.fw_moves.specs.Processed.{IsInlet, slices_in}
-use Rattle.fw_moves.specs.Moving.{samples_in, all_summed, IsWhole, looked_choice}
+use Rattle.fw_moves.specs.Moving.{samples_in, IsWhole, looked_choice}
 use Rattle.fw_units.proofs.TakenFrames.{length-first, length-taken}
 use Rattle.fw_moves.proofs.FrameLaws.{Enough, frames-back, frames-taken, ramped-whole, ramped-samples, frames-mixed, frames-silence}
 use Rattle.fw_units.proofs.Ids.{all-with}
@@ -116,7 +115,7 @@ module _ (cs : List Component) (channels n : ℕ) where
 
   -- ---- a mixer and a mux look at any number
 
-  pub made-mixed : (looked : List ℕ) → AllByRecursion (IsInlet cs channels n) looked → AllByRecursion (IsWhole cs) looked → frames_of channels n (held (all_summed (replicate (n * channels) (pos 0)) (map (samples_in cs n) looked))) ≡ map (λ j. mixed channels (frames_of_each (slices_in cs looked n) j)) (range_with_len 0 n)
+  pub made-mixed : (looked : List ℕ) → AllByRecursion (IsInlet cs channels n) looked → AllByRecursion (IsWhole cs) looked → frames_of channels n (mixed (n * channels) (map (samples_in cs n) looked)) ≡ map (λ j. mixed channels (frames_of_each (slices_in cs looked n) j)) (range_with_len 0 n)
   made-mixed looked inlets wholes = frames-mixed channels n (buffer_frames cs) looked (all-with (IsInlet cs channels n) (IsWhole cs) (λ b. Enough channels n (buffer_frames cs b)) enough looked inlets wholes)
 
   -- the slice of a buffer that is looked at, and of one that is not

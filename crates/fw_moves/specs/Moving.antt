@@ -1,9 +1,8 @@
 -- One component moves frames between the buffers of a table.
-use Rattle.std.specs.Prelude.{◌≡◌, nat_eq, nat_le, ℕ, ◌≤◌, List, [], ◌∷◌, map, take, length, get_or, Bool, true, false, ◌==◌, Option, Some, None, if◌then◌else◌, ℤ, find}
+use Rattle.std.specs.Prelude.{◌≡◌, nat_eq, ℕ, ◌≤◌, List, map, take, length, get_or, true, false, ◌==◌, Option, Some, None, if◌then◌else◌, ℤ, find, position}
 use Rattle.std.specs.List.{AllByRecursion, IsDistinct}
 use Rattle.sof_base.specs.Samples.{Frame}
 use Rattle.sof_base.specs.FrameLists.{AreFrames, samples_of}
-use Rattle.fw_gain.specs.Kernels.{summed}
 use Rattle.stream_law.specs.Placed.{Ascends}
 use Rattle.stream_law.specs.Order.{is_among}
 use Rattle.fw_demux.specs.Splits.{all_kept}
@@ -25,11 +24,6 @@ abbrev pub output_samples : units.Unit → (channels number : ℕ) → List ℤ 
 output_samples (Demux masks piece) channels number samples = all_kept channels (get_or masks number 0) samples
 output_samples unit channels number samples = samples
 
--- samples are added to sums, list after list
-abbrev pub all_summed : List ℤ → List (List ℤ) → List ℤ
-all_summed sums [] = sums
-all_summed sums (xs ∷ xss) = all_summed (summed sums xs) xss
-
 -- each frame of a buffer has a sample of each channel
 abbrev pub IsWhole : List Component → ℕ → Type 0
 IsWhole buffers b = AreFrames (channels_in buffers b) (buffer_frames buffers b)
@@ -38,6 +32,12 @@ IsWhole buffers b = AreFrames (channels_in buffers b) (buffer_frames buffers b)
 abbrev pub looked_choice : List ℕ → Option ℕ → Option ℕ
 looked_choice looked None = None
 looked_choice looked (Some b) = if is_among looked b then Some b else None
+
+-- ---- places
+
+-- these buffers stand at these places
+abbrev pub AreAt : List Component → (ids places : List ℕ) → Type 0
+AreAt buffers ids places = map (λ at. Some at) places ≡ map (λ b. position (λ c. c.id == b) buffers) ids
 
 -- ---- frames
 

@@ -1,14 +1,14 @@
 // The buffers that a component feeds get frames.
-ghost use Rattle.std.specs.Prelude.{◌≡◌, ◌==◌, ◌*◌, ◌%◌, ◌≤◌, true, map, find, get_or, length, nat_eq, nat_le, vec_capacity};
+ghost use Rattle.std.specs.Prelude.{◌≡◌, ◌==◌, ◌*◌, ◌%◌, ◌≤◌, true, Some, map, find, position, get_or, length, nat_eq, nat_le, vec_capacity};
 ghost use Rattle.std.specs.List.{list_all, AllByRecursion, IsDistinct};
 ghost use Rattle.sof_base.specs.FrameLists.{frames_of};
 ghost use Rattle.stream_law.specs.Placed.{Ascends};
 ghost use Rattle.fw_units.specs.Frames.{words_by, pushed_at};
-ghost use Rattle.fw_moves.specs.Moving.{output_samples};
+ghost use Rattle.fw_moves.specs.Moving.{AreAt, output_samples};
 ghost use Rattle.fw_moves.specs.Processed.{IsLevel, IsOutlet, feeds_of, output_number, output_frames, fed_at};
 
 use fw_demux::split;
-use fw_units::{Component, Hints, Unit};
+use fw_units::{Component, Unit};
 use sof_base::{Bounded, Sample};
 use stream_law::Join;
 
@@ -17,9 +17,9 @@ use stream_law::Join;
 pub(crate) fn give(
     component: &Component,
     joins: &[Join],
-    hints: &Hints,
     buffers: &mut Vec<Component>,
     fed: &[u32],
+    to: &[u16],
     n: u32,
     made: &[Sample],
     kept: &mut [Sample],
@@ -28,6 +28,7 @@ pub(crate) fn give(
     requires feeds { feeds_of component.now.unit (length fed.now) ≡ true }
     requires ascends { Ascends (λ c. c.id) buffers.old.items }
     requires channels { (1 ≤ component.now.channels) × (component.now.channels ≤ 8) }
+    requires places { AreAt buffers.old.items fed.now to.now }
     requires single { IsDistinct nat_eq fed.now }
     requires outlets { AllByRecursion (IsOutlet buffers.old.items component.now.channels n) fed.now }
     requires made { length made.now ≡ n * component.now.channels }
@@ -36,9 +37,9 @@ pub(crate) fn give(
     ensures capacity { vec_capacity buffers.new ≡ vec_capacity buffers.old }
 {
     if component.unit.splits() {
-        give_each(component, joins, hints, buffers, fed, n, made, kept);
+        give_each(component, joins, buffers, fed, to, n, made, kept);
     } else {
-        put(component, hints, buffers, fed[0], n, made);
+        put(component, buffers, fed[0], usize::from(to[0]), n, made);
     }
 }
 
@@ -47,9 +48,9 @@ pub(crate) fn give(
 fn give_each(
     component: &Component,
     joins: &[Join],
-    hints: &Hints,
     buffers: &mut Vec<Component>,
     fed: &[u32],
+    to: &[u16],
     n: u32,
     made: &[Sample],
     kept: &mut [Sample],
@@ -57,6 +58,7 @@ fn give_each(
     requires level { IsLevel component.now.unit }
     requires ascends { Ascends (λ c. c.id) buffers.old.items }
     requires channels { (1 ≤ component.now.channels) × (component.now.channels ≤ 8) }
+    requires places { AreAt buffers.old.items fed.now to.now }
     requires single { IsDistinct nat_eq fed.now }
     requires outlets { AllByRecursion (IsOutlet buffers.old.items component.now.channels n) fed.now }
     requires made { length made.now ≡ n * component.now.channels }
@@ -64,8 +66,9 @@ fn give_each(
     ensures items { buffers.new.items ≡ map (fed_at fed.now (λ b. output_frames component.now.unit component.now.channels (output_number joins.now component.now.id b) (frames_of component.now.channels n made.now)) (λ b. words_by (find (λ x. x.id == b) buffers.new.items))) buffers.old.items }
     ensures capacity { vec_capacity buffers.new ≡ vec_capacity buffers.old }
 {
-    for outlet in fed {
-        give_one(component, joins, hints, buffers, *outlet, n, made, kept);
+    for i in 0..fed.len() {
+        let at = usize::from(to[i]);
+        give_one(component, joins, buffers, fed[i], at, n, made, kept);
     }
 }
 
@@ -73,9 +76,9 @@ fn give_each(
 fn give_one(
     component: &Component,
     joins: &[Join],
-    hints: &Hints,
     buffers: &mut Vec<Component>,
     outlet: u32,
+    at: usize,
     n: u32,
     made: &[Sample],
     kept: &mut [Sample],
@@ -83,6 +86,7 @@ fn give_one(
     requires level { IsLevel component.now.unit }
     requires ascends { Ascends (λ c. c.id) buffers.old.items }
     requires channels { (1 ≤ component.now.channels) × (component.now.channels ≤ 8) }
+    requires place { Some at ≡ position (λ c. c.id == outlet) buffers.old.items }
     requires outlet { IsOutlet buffers.old.items component.now.channels n outlet }
     requires made { length made.now ≡ n * component.now.channels }
     requires kept { length kept.old ≡ n * component.now.channels }
@@ -91,26 +95,26 @@ fn give_one(
     ensures size { length kept.new ≡ length kept.old }
 {
     let part = part_of(component, joins, outlet, made, kept);
-    put(component, hints, buffers, outlet, n, part);
+    put(component, buffers, outlet, at, n, part);
 }
 
 // A buffer gets all frames of these samples.
 fn put(
-    component: &Component,
-    hints: &Hints,
+    _component: &Component,
     buffers: &mut Vec<Component>,
-    outlet: u32,
+    _outlet: u32,
+    at: usize,
     n: u32,
     part: &[Sample],
 )
     requires ascends { Ascends (λ c. c.id) buffers.old.items }
-    requires channels { (1 ≤ component.now.channels) × (component.now.channels ≤ 8) }
-    requires outlet { IsOutlet buffers.old.items component.now.channels n outlet }
-    requires part { length part.now ≡ n * component.now.channels }
-    ensures items { buffers.new.items ≡ map (pushed_at outlet (frames_of component.now.channels n part.now) (words_by (find (λ x. x.id == outlet) buffers.new.items))) buffers.old.items }
+    requires channels { (1 ≤ _component.now.channels) × (_component.now.channels ≤ 8) }
+    requires place { Some at ≡ position (λ c. c.id == _outlet) buffers.old.items }
+    requires outlet { IsOutlet buffers.old.items _component.now.channels n _outlet }
+    requires part { length part.now ≡ n * _component.now.channels }
+    ensures items { buffers.new.items ≡ map (pushed_at _outlet (frames_of _component.now.channels n part.now) (words_by (find (λ x. x.id == _outlet) buffers.new.items))) buffers.old.items }
     ensures capacity { vec_capacity buffers.new ≡ vec_capacity buffers.old }
 {
-    let at = hints.place(buffers.as_slice(), outlet);
     buffers[at].push(part);
 }
 

@@ -3,9 +3,10 @@
 
 mod giving;
 mod making;
+mod mixing;
 mod moving;
 mod workspace;
 
 pub use making::spans;
-pub use moving::{CopyPlan, copy_between, copy_frames, plan_copy};
+pub use moving::{copy_between, copy_frames, count_between};
 pub use workspace::Workspace;

@@ -3,80 +3,69 @@ ghost use Rattle.std.specs.Prelude.{◌≡◌, ◌==◌, ◌+◌, ◌-◌, ◌*�
 ghost use Rattle.std.specs.List.{AllByRecursion, IsDistinct};
 ghost use Rattle.stream_law.specs.Placed.{Ascends};
 ghost use Rattle.fw_units.specs.declared.component.Component.{Component};
-ghost use Rattle.fw_units.specs.Changes.{has_id};
 ghost use Rattle.sof_base.specs.FrameLists.{AreFrames, frames_of, samples_of};
 ghost use Rattle.fw_gain.specs.Kernels.{all_amplified};
 ghost use Rattle.fw_units.specs.Units.{is_past, unit_frames, capacity_by};
 ghost use Rattle.fw_units.specs.Frames.{kept_words, words_by, channels_by, channels_in, buffer_frames, capacity_in, taken_at, pushed_by, pushed_at};
 ghost use Rattle.fw_moves.specs.Processed.{IsInlet, IsOutlet, chosen_by, drained_at, output_number};
-ghost use Rattle.fw_moves.specs.Moving.{CanMove, IsMoved, IsWhole, samples_in};
+ghost use Rattle.fw_moves.specs.Moving.{AreAt, CanMove, IsMoved, IsWhole, samples_in};
 
 use crate::giving::give;
 use crate::making::{chosen, done_after, make};
 use crate::workspace::{MOST, Workspace};
-use fw_units::{Component, Hints, Unit};
+use fw_units::{Component, Unit};
 use sof_base::Sample;
 use stream_law::Join;
 
-/// Where two buffers stand, and how many frames may go from the first to the second.
-#[derive(Clone, Copy)]
-pub struct CopyPlan {
-    pub from: usize,
-    pub to: usize,
-    pub count: u32,
-}
-
-/// The plan of a copy between two buffers of at most so many frames: of as many as the first holds and the second has room for.
-pub fn plan_copy(
-    hints: &Hints,
+/// How many frames may go from one buffer to another, which stand at these places: as many as the first holds and the second has room
+/// for, at most so many.
+pub fn count_between(
     buffers: &[Component],
-    inlet: u32,
-    outlet: u32,
+    _inlet: u32,
+    _outlet: u32,
+    from: usize,
+    to: usize,
     most: u32,
-) -> CopyPlan
+) -> u32
     requires ascends { Ascends (λ c. c.id) buffers.now }
-    requires inlet { has_id buffers.now inlet ≡ true }
-    requires outlet { has_id buffers.now outlet ≡ true }
-    ensures from { Some result.from ≡ position (λ c. c.id == inlet) buffers.now }
-    ensures to { Some result.to ≡ position (λ c. c.id == outlet) buffers.now }
-    ensures within { (result.from < length buffers.now) × (result.to < length buffers.now) }
-    ensures held { result.count ≤ length (buffer_frames buffers.now inlet) }
-    ensures room { length (buffer_frames buffers.now outlet) + result.count ≤ capacity_in buffers.now outlet }
-    ensures count { result.count ≡ min (length (buffer_frames buffers.now inlet)) (min (capacity_in buffers.now outlet - length (buffer_frames buffers.now outlet)) most) }
+    requires from { Some from ≡ position (λ c. c.id == _inlet) buffers.now }
+    requires to { Some to ≡ position (λ c. c.id == _outlet) buffers.now }
+    ensures held { result ≤ length (buffer_frames buffers.now _inlet) }
+    ensures room { length (buffer_frames buffers.now _outlet) + result ≤ capacity_in buffers.now _outlet }
+    ensures count { result ≡ min (length (buffer_frames buffers.now _inlet)) (min (capacity_in buffers.now _outlet - length (buffer_frames buffers.now _outlet)) most) }
 {
-    let from = hints.place(buffers, inlet);
-    let to = hints.place(buffers, outlet);
     let space = buffers[to].room();
     let there = buffers[from].held();
-    let bound = space.min(most);
-    let count = there.min(bound);
-    CopyPlan { from, to, count }
+    there.min(space.min(most))
 }
 
 /// Moves `n` frames out of the buffers that it looks at into those that it feeds.
 pub fn copy_frames(
     component: &mut Component,
     joins: &[Join],
-    hints: &Hints,
     buffers: &mut Vec<Component>,
     looked: &[u32],
     fed: &[u32],
+    from: &[u16],
+    to: &[u16],
     n: u32,
     workspace: &mut Workspace,
 )
-    requires { CanMove buffers.old.items looked.now fed.now n component.old }
+    requires can { CanMove buffers.old.items looked.now fed.now n component.old }
+    requires from { AreAt buffers.old.items looked.now from.now }
+    requires to { AreAt buffers.old.items fed.now to.now }
     ensures moved { IsMoved (chosen_by component.old.unit component.old.id joins.now) (output_number joins.now component.old.id) looked.now fed.now n buffers.old.items component.old buffers.new.items component.new }
     ensures capacity { vec_capacity buffers.new ≡ vec_capacity buffers.old }
 {
     steps(
         component,
         joins,
-        hints,
         buffers,
         looked,
         fed,
+        from,
+        to,
         n,
-        &mut workspace.sums,
         &mut workspace.samples,
     );
 }
@@ -85,34 +74,41 @@ pub fn copy_frames(
 pub fn copy_between(
     component: &mut Component,
     joins: &[Join],
-    hints: &Hints,
     buffers: &mut Vec<Component>,
     looked: &[u32],
     fed: &[u32],
-    from: usize,
-    to: usize,
+    from: &[u16],
+    to: &[u16],
     n: u32,
     workspace: &mut Workspace,
 )
     requires can { CanMove buffers.old.items looked.now fed.now n component.old }
-    requires from { Some from ≡ position (λ c. c.id == get_or looked.now 0 0) buffers.old.items }
-    requires to { Some to ≡ position (λ c. c.id == get_or fed.now 0 0) buffers.old.items }
-    requires within { (from < length buffers.old.items) × (to < length buffers.old.items) }
+    requires one { (length looked.now ≡ 1) × (length fed.now ≡ 1) }
+    requires from { AreAt buffers.old.items looked.now from.now }
+    requires to { AreAt buffers.old.items fed.now to.now }
     ensures moved { IsMoved (chosen_by component.old.unit component.old.id joins.now) (output_number joins.now component.old.id) looked.now fed.now n buffers.old.items component.old buffers.new.items component.new }
     ensures capacity { vec_capacity buffers.new ≡ vec_capacity buffers.old }
 {
     if component.unit.is_past() {
-        amplify(component, buffers, looked, fed, from, to, n);
+        amplify(
+            component,
+            buffers,
+            looked,
+            fed,
+            usize::from(from[0]),
+            usize::from(to[0]),
+            n,
+        );
     } else {
         steps(
             component,
             joins,
-            hints,
             buffers,
             looked,
             fed,
+            from,
+            to,
             n,
-            &mut workspace.sums,
             &mut workspace.samples,
         );
     }
@@ -164,28 +160,30 @@ fn amplify(
 fn steps(
     component: &mut Component,
     joins: &[Join],
-    hints: &Hints,
     buffers: &mut Vec<Component>,
     looked: &[u32],
     fed: &[u32],
+    from: &[u16],
+    to: &[u16],
     n: u32,
-    sums: &mut [i64],
     samples: &mut [Sample],
 )
     requires can { CanMove buffers.old.items looked.now fed.now n component.old }
-    requires size { (2048 ≤ length sums.old) × (4096 ≤ length samples.old) }
+    requires from { AreAt buffers.old.items looked.now from.now }
+    requires to { AreAt buffers.old.items fed.now to.now }
+    requires size { 4096 ≤ length samples.old }
     ensures moved { IsMoved (chosen_by component.old.unit component.old.id joins.now) (output_number joins.now component.old.id) looked.now fed.now n buffers.old.items component.old buffers.new.items component.new }
     ensures capacity { vec_capacity buffers.new ≡ vec_capacity buffers.old }
 {
-    let most = most_frames(width_of(hints, buffers.as_slice(), fed[0]));
+    let most = most_frames(width_of(buffers.as_slice(), fed[0], usize::from(to[0])));
     let mut moved = n.min(most);
     step(
-        component, joins, hints, buffers, looked, fed, moved, sums, samples,
+        component, joins, buffers, looked, fed, from, to, moved, samples,
     );
     while moved < n {
         let more = (n - moved).min(most);
         step(
-            component, joins, hints, buffers, looked, fed, more, sums, samples,
+            component, joins, buffers, looked, fed, from, to, more, samples,
         );
         moved += more;
     }
@@ -195,40 +193,33 @@ fn steps(
 fn step(
     component: &mut Component,
     joins: &[Join],
-    hints: &Hints,
     buffers: &mut Vec<Component>,
     looked: &[u32],
     fed: &[u32],
+    from: &[u16],
+    to: &[u16],
     n: u32,
-    sums: &mut [i64],
     samples: &mut [Sample],
 )
     requires can { CanMove buffers.old.items looked.now fed.now n component.old }
+    requires from { AreAt buffers.old.items looked.now from.now }
+    requires to { AreAt buffers.old.items fed.now to.now }
     requires channels { (1 ≤ component.old.channels) × (component.old.channels ≤ 8) }
-    requires size { (n * component.old.channels ≤ length sums.old) × (2 * (n * component.old.channels) ≤ length samples.old) }
+    requires size { 2 * (n * component.old.channels) ≤ length samples.old }
     ensures moved { IsMoved (chosen_by component.old.unit component.old.id joins.now) (output_number joins.now component.old.id) looked.now fed.now n buffers.old.items component.old buffers.new.items component.new }
     ensures capacity { vec_capacity buffers.new ≡ vec_capacity buffers.old }
 {
     let size = n as usize * usize::from(component.channels);
     let chosen = chosen(component, joins);
     let (made, rest) = samples.split_at_mut(size);
-    make(
-        component,
-        chosen,
-        hints,
-        buffers.as_slice(),
-        looked,
-        n,
-        &mut sums[..size],
-        made,
-    );
-    drain_in(hints, buffers, looked, n);
+    make(component, chosen, buffers.as_slice(), looked, from, n, made);
+    drain_in(buffers, looked, from, n);
     give(
         component,
         joins,
-        hints,
         buffers,
         fed,
+        to,
         n,
         made,
         &mut rest[..size],
@@ -248,13 +239,12 @@ fn most_frames(width: usize) -> u32
 }
 
 // How many samples a frame of a buffer has, 1 to 8.
-fn width_of(hints: &Hints, buffers: &[Component], id: u32) -> usize
+fn width_of(buffers: &[Component], _id: u32, at: usize) -> usize
     requires ascends { Ascends (λ c. c.id) buffers.now }
-    requires there { has_id buffers.now id ≡ true }
+    requires place { Some at ≡ position (λ c. c.id == _id) buffers.now }
     ensures range { (1 ≤ result) × (result ≤ 8) }
-    ensures is { result ≡ channels_in buffers.now id }
+    ensures is { result ≡ channels_in buffers.now _id }
 {
-    let at = hints.place(buffers, id);
     buffers[at].frame_samples()
 }
 
@@ -326,16 +316,15 @@ fn drain_at(buffers: &mut Vec<Component>, _inlet: u32, at: usize, n: u32)
 }
 
 // The buffers that are looked at, each of them named once, lose their first frames.
-fn drain_in(hints: &Hints, components: &mut Vec<Component>, looked: &[u32], n: u32)
+fn drain_in(components: &mut Vec<Component>, _looked: &[u32], from: &[u16], n: u32)
     requires ascends { Ascends (λ c. c.id) components.old.items }
-    requires single { IsDistinct nat_eq looked.now }
-    requires there { AllByRecursion (λ b. has_id components.old.items b ≡ true) looked.now }
-    requires held { AllByRecursion (λ b. n ≤ length (buffer_frames components.old.items b)) looked.now }
-    ensures items { components.new.items ≡ map (drained_at looked.now n) components.old.items }
+    requires single { IsDistinct nat_eq _looked.now }
+    requires places { AreAt components.old.items _looked.now from.now }
+    requires held { AllByRecursion (λ b. n ≤ length (buffer_frames components.old.items b)) _looked.now }
+    ensures items { components.new.items ≡ map (drained_at _looked.now n) components.old.items }
     ensures capacity { vec_capacity components.new ≡ vec_capacity components.old }
 {
-    for inlet in looked {
-        let at = hints.place(components.as_slice(), *inlet);
-        components[at].take(n);
+    for at in from {
+        components[usize::from(*at)].take(n);
     }
 }

@@ -6,10 +6,9 @@ use std::marker::Model;
 /// The most samples that are moved in one go: a tick's 192 frames of 8 samples fit.
 pub(crate) const MOST: usize = 2048;
 
-/// Room for the samples of a move and for their sums, and after the samples for what a demux keeps of them for one of its outputs.
+/// Room for the samples of a move, and after them for what a demux keeps of them for one of its outputs.
 #[derive(Drop)]
 pub struct Workspace {
-    pub(crate) sums: Vec<i64>,
     pub(crate) samples: Vec<Sample>,
 }
 
@@ -20,13 +19,12 @@ impl Model for Workspace {
 
     ghost view = { λ w. tt };
 
-    ghost invariant = { λ w. (length w.sums.items ≡ 2048) × (length w.samples.items ≡ 4096) };
+    ghost invariant = { λ w. length w.samples.items ≡ 4096 };
 }
 
 impl Workspace {
     pub fn new(alloc: Global) -> Result<Workspace, NoMemory> {
         Ok(Workspace {
-            sums: vec![in alloc; 0; MOST]?,
             samples: vec![in alloc; 0; 2 * MOST]?,
         })
     }

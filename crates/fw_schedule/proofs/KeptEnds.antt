@@ -1,7 +1,9 @@
 -- The buffers that are left of those at a component.
-use Rattle.std.proofs.Common.{◌≡◌, refl, sym, ap, ◌∙◌, ℕ, zero, suc, ◌<◌, List, [], ◌∷◌, Bool, true, false, cond, map, take, filter, length, get_or, not, ◌==◌, ◌&&◌, ◌||◌, Option, Some, option_map, arith}
+use Rattle.std.proofs.Common.{◌≡◌, refl, sym, ap, ◌∙◌, ℕ, zero, suc, ◌+◌, ◌<◌, ◌≤◌, List, [], ◌∷◌, ◌++◌, append_assoc, Bool, true, false, cond, map, take, filter, length, length-append, get_or, not, ◌==◌, ◌&&◌, ◌||◌, Some, arith}
 use Rattle.std.proofs.lemmas.Bool.{false≢true}
-use Rattle.std.specs.Prelude.{find, option_and_then, slice_get, nat_le}
+use Rattle.std.proofs.lemmas.List.{append-nil, map-append}
+use Rattle.std.proofs.lemmas.List.Elements.{filter_more}
+use Rattle.std.specs.Prelude.{find, option_and_then, nat_le}
 use Rattle.std.specs.List.{AllByRecursion}
 use Rattle.stream_law.specs.declared.graph.Edge.{Edge}
 use Rattle.stream_law.specs.Placed.{Ascends}
@@ -56,15 +58,6 @@ kept-both p q r (c ∷ cs) same = by (q c.id) (p c.id) refl refl (kept-both p q 
         ∙ so_far
         ∙ ap (λ x. map (λ c. c.id) (cond x (c ∷ filter r cs) (filter r cs))) ((λ i. sym at i && sym is i) ∙ same.0)
 
--- the first that passes
-pub first-kept : (r : Component → Bool) (cs : List Component) → option_map (λ c. c.id) (find r cs) ≡ slice_get (map (λ c. c.id) (filter r cs)) 0
-first-kept r [] = refl
-first-kept r (c ∷ cs) = by (r c) (first-kept r cs)
-  where
-    by : (h : Bool) → option_map (λ c. c.id) (find r cs) ≡ slice_get (map (λ c. c.id) (filter r cs)) 0 → option_map (λ c. c.id) (cond h (Some c) (find r cs)) ≡ slice_get (map (λ c. c.id) (cond h (c ∷ filter r cs) (filter r cs))) 0
-    by true rest = refl
-    by false rest = rest
-
 -- ---- the buffers that are fed
 
 module _ (t : Tables) (id : ℕ) where
@@ -78,9 +71,6 @@ module _ (t : Tables) (id : ℕ) where
       each : (cs : List Component) → AllByRecursion (HasSides t) cs → AllByRecursion (λ c. (is_end (source_of (graph_of t) c.id) id && (live (view_by t) c.id && active_end (view_by t) (sink_of (graph_of t) c.id))) ≡ is_fed c) cs
       each [] sides = tt
       each (c ∷ cs) sides = ((λ i. is_end (sides.0.source i) id && (live (view_by t) c.id && active_end (view_by t) (sides.0.sink i))), each cs sides.1)
-
-  pub first-fed : (o : Option Component) → Ascends (λ c. c.id) t.buffers → o ≡ find is_fed t.buffers → option_map (λ c. c.id) o ≡ slice_get (fed_by (view_by t) id) 0
-  first-fed o up is = ap (λ (o : Option Component). option_map (λ c. c.id) o) is ∙ first-kept is_fed t.buffers ∙ ap (λ ids. slice_get ids 0) (sym (fed-are up))
 
   -- ---- those that are looked at
 
@@ -122,3 +112,30 @@ kept-under r (c ∷ cs) (suc i) d low is = by (r c) (kept-under r cs i d (omega 
     by : (h : Bool) → length (map (λ (c : Component). c.id) (filter r (take i cs))) < length (map (λ (c : Component). c.id) (filter r cs)) → length (map (λ (c : Component). c.id) (cond h (c ∷ filter r (take i cs)) (filter r (take i cs)))) < length (map (λ (c : Component). c.id) (cond h (c ∷ filter r cs) (filter r cs)))
     by true rest = omega (arith, rest)
     by false rest = rest
+
+-- so there is room for it
+pub kept-room : (r : Component → Bool) (cs : List Component) (i : ℕ) (d : Component) (old now all : List ℕ) → i < length cs → d ≡ get_or cs i d → r d ≡ true → all ≡ map (λ c. c.id) (filter r cs) → length old + length all ≤ 256 → now ≡ old ++ map (λ c. c.id) (filter r (take i cs)) → length now < 256
+kept-room r cs i d old now all low is here are room so_far =
+    omega (arith, kept-under r cs i d low (ap r (sym is) ∙ here), ap length are, room, ap length so_far, length-append old (map (λ (c : Component). c.id) (filter r (take i cs))))
+
+-- ---- one after the other
+
+next-some : (r : Component → Bool) (cs : List Component) (i : ℕ) (d : Component) (h : Bool) → i < length cs → d ≡ get_or cs i d → r d ≡ h → map (λ (c : Component). c.id) (filter r (take (i + 1) cs)) ≡ map (λ (c : Component). c.id) (filter r (take i cs)) ++ map (λ (c : Component). c.id) (cond h (d ∷ []) [])
+next-some r cs i d h low is here =
+    ap (map (λ (c : Component). c.id)) (filter_more r cs i d low)
+    ∙ map-append (λ (c : Component). c.id) (filter r (take i cs)) (cond (r (get_or cs i d)) (get_or cs i d ∷ []) [])
+    ∙ ap (λ (c : Component). map (λ (c : Component). c.id) (filter r (take i cs)) ++ map (λ (c : Component). c.id) (cond (r c) (c ∷ []) [])) (sym is)
+    ∙ ap (λ k. map (λ (c : Component). c.id) (filter r (take i cs)) ++ map (λ (c : Component). c.id) (cond k (d ∷ []) [])) here
+
+-- one that passes comes after those before it
+pub next-kept : (r : Component → Bool) (cs : List Component) (i : ℕ) (d : Component) (old now new : List ℕ) → i < length cs → d ≡ get_or cs i d → r d ≡ true → now ≡ old ++ map (λ c. c.id) (filter r (take i cs)) → new ≡ now ++ d.id ∷ [] → new ≡ old ++ map (λ c. c.id) (filter r (take (i + 1) cs))
+next-kept r cs i d old now new low is here so_far more =
+    more
+    ∙ ap (λ (ids : List ℕ). ids ++ d.id ∷ []) so_far
+    ∙ append_assoc old (map (λ (c : Component). c.id) (filter r (take i cs))) (d.id ∷ [])
+    ∙ ap (λ (ids : List ℕ). old ++ ids) (sym (next-some r cs i d true low is here))
+
+-- one that does not changes nothing
+pub next-left : (r : Component → Bool) (cs : List Component) (i : ℕ) (d : Component) (old now : List ℕ) → i < length cs → d ≡ get_or cs i d → r d ≡ false → now ≡ old ++ map (λ c. c.id) (filter r (take i cs)) → now ≡ old ++ map (λ c. c.id) (filter r (take (i + 1) cs))
+next-left r cs i d old now low is other so_far =
+    so_far ∙ ap (λ (ids : List ℕ). old ++ ids) (sym (next-some r cs i d false low is other ∙ append-nil (map (λ (c : Component). c.id) (filter r (take i cs)))))

@@ -2,6 +2,7 @@ mod FrameBytes
 mod OneBuffer
 mod Parts
 mod DistinctEdges
+mod EdgePlaces
 mod TurnsSeen
 mod KeptEnds
 pub mod Running

@@ -254,9 +254,6 @@ module _ (t : Tables) (kept : IsKept t) (can : CanTick t) (id : ℕ) (there : Is
   pub fed-at : (b : ℕ) → is_among (fed_by v id) b ≡ true → IsAt t id b
   fed-at b is = out-at t kept can id is_maker there now b (out-end b is) (fed-lives v b (among-filter (edge_fed v) (outs (graph_of t) id) b is).1)
 
-  pub fed-there : (fed : List ℕ) → fed ≡ fed_by v id → AllByRecursion (λ b. has_id t.buffers b ≡ true) fed
-  fed-there fed are = in-each-among (λ b. has_id t.buffers b ≡ true) fed (λ b is. (fed-at b (ap (λ ids. is_among ids b) (sym are) ∙ is)).there)
-
   -- a buffer that it looks at, which is Live where the component chooses it, for it holds a frame
   may-look : (b : ℕ) (x y : Bool) → (x || (y && nat_le 1 (length (held_frames t b)))) ≡ true → (x || live v b) ≡ true
   may-look b true y e = refl
@@ -294,11 +291,6 @@ module _ (t : Tables) (kept : IsKept t) (can : CanTick t) (id : ℕ) (there : Is
       let most : length (inlets_of v id) ≤ length (ins (graph_of t) id) = filter-most (λ b. not (chooses v id) || active_end v (source_of (graph_of t) b)) (ins (graph_of t) id) in
       let fit = maker.few (length (ins (graph_of t) id)) (length (outs (graph_of t) id)) (fits t kept can id is_maker there now) in
       omega (arith, most, fit)
-
-  pub inlets-there : AllByRecursion (λ b. has_id t.buffers b ≡ true) (inlets_of v id)
-  inlets-there = in-each-among (λ b. has_id t.buffers b ≡ true) (inlets_of v id) (λ b is.
-      let among = (among-filter (λ b. not (chooses v id) || active_end v (source_of (graph_of t) b)) (ins (graph_of t) id) b is).0 in
-      has-buffer b ∙ (among-filter (λ b. is_end (sink_of (graph_of t) b) id) (buffers (graph_of t)) b among).0)
 
   -- its component in the table
   own : (d : Component) × (find (λ c. c.id == id) t.comps ≡ Some d) × (comp_by d ≡ there.comp)
@@ -358,9 +350,6 @@ module _ (t : Tables) (kept : IsKept t) (can : CanTick t) (id : ℕ) (there : Is
       let low = least-most q (map (λ b. length (held_frames t b)) looked) in
       let room = all-among (λ b. q + length (held_frames t b) ≤ capacity_at t b) fed b fit is in
       record { there = at.there; shape = at.shape ∙ sym wide; room = omega (arith, low, count, room) })
-
-  pub looked-there : (looked : List ℕ) → looked ≡ looked_at v (λ b. length (held_frames t b)) id → AllByRecursion (λ b. has_id t.buffers b ≡ true) looked
-  looked-there looked are = in-each-among (λ b. has_id t.buffers b ≡ true) looked (λ b is. (looked-at b (ap (λ ids. is_among ids b) (sym are) ∙ is)).there)
 
   -- both have its channels
   pub looked-shaped : (looked : List ℕ) → looked ≡ looked_at v (λ b. length (held_frames t b)) id → AllByRecursion (IsShaped t.buffers (channels_moved t id)) looked

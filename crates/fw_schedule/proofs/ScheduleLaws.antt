@@ -1,6 +1,6 @@
 -- A schedule is that of all tables that show the same ways, pipelines and streams.
 use Rattle.std.proofs.Common.{◌≡◌, refl, sym, ap, ◌∙◌, subst, ℕ, zero, suc, ◌/◌, List, [], ◌∷◌, map, length, true, false, not, ◌==◌, ◌&&◌, ◌||◌, Option, Some, None, option_map}
-use Rattle.std.specs.Prelude.{find, filter, slice_get, option_and_then}
+use Rattle.std.specs.Prelude.{find, filter, position, option_and_then}
 use Rattle.std.specs.List.{AllByRecursion, list_any, list_all}
 use Rattle.std.specs.Option.{option_map_or}
 use Rattle.sof_base.specs.declared.format.Format.TheVariants.{S32}
@@ -20,12 +20,14 @@ use Rattle.fw_units.proofs.Ids.{all-by}
 use Rattle.fw_components.specs.Tables.{Tables, view_by}
 use Rattle.fw_schedule.specs.declared.steps.Step.{Step}
 use Rattle.fw_schedule.specs.declared.schedules.Schedule.{Schedule}
-use Rattle.fw_schedule.specs.Schedules.{inlets_of, IsStepOf, IsScheduleOf}
+use Rattle.fw_schedule.specs.Schedules.{inlets_of, IsStepOf, ArePlaces, IsScheduleOf}
+use Rattle.fw_schedule.proofs.EdgePlaces.{comp-place}
 
 pub schedule-seen : (t u : Tables) (s : Schedule) → view_by t ≡ view_by u → IsScheduleOf t s → IsScheduleOf u s
 schedule-seen t u s same was = record {
   order = subst (λ (v : View). map (λ (s : Step). s.id) s.steps.items ≡ order v.graph) same was.order;
-  steps = subst (λ (v : View). AllByRecursion (IsStepOf v s.ends.items) s.steps.items) same was.steps;
+  steps = subst (λ (v : View). AllByRecursion (IsStepOf v s.ends.ids.items) s.steps.items) same was.steps;
+  places = subst (λ (v : View). ArePlaces v s.ends) same was.places;
 }
 
 -- ---- what steps are made of
@@ -129,6 +131,7 @@ module _ (v w : View) (keeps : KeepsSteps v w) where
 
   step-same : (ids : List ℕ) (s : Step) → IsStepOf v ids s → IsStepOf w ids s
   step-same ids s was = record {
+    place = was.place ∙ comp-place v.graph.comps s.id ∙ ap (position (λ n. n == s.id)) keeps.ways.ids ∙ sym (comp-place w.graph.comps s.id);
     kind = sym (keeps.ways.kinds s.id) ∙ was.kind;
     format = λ ends. was.format ends ∙ format-same s.id;
     active = was.active ∙ active-same s.id;
@@ -137,7 +140,6 @@ module _ (v w : View) (keeps : KeepsSteps v w) where
     rate = was.rate ∙ rate-same s.id;
     whole = was.whole;
     over = was.over;
-    fed = was.fed ∙ ap (λ (bs : List ℕ). slice_get bs 0) (outlets-same s.id);
     within = was.within;
     inlets = was.inlets ∙ inlets-same s.id;
     outlets = was.outlets ∙ outlets-same s.id;
@@ -146,5 +148,6 @@ module _ (v w : View) (keeps : KeepsSteps v w) where
 pub schedule-kept : (t u : Tables) (s : Schedule) → KeepsSteps (view_by t) (view_by u) → IsScheduleOf t s → IsScheduleOf u s
 schedule-kept t u s keeps was = record {
   order = was.order ∙ order-same (view_by t) (view_by u) keeps;
-  steps = all-by (IsStepOf (view_by t) s.ends.items) (IsStepOf (view_by u) s.ends.items) (step-same (view_by t) (view_by u) keeps s.ends.items) s.steps.items was.steps;
+  steps = all-by (IsStepOf (view_by t) s.ends.ids.items) (IsStepOf (view_by u) s.ends.ids.items) (step-same (view_by t) (view_by u) keeps s.ends.ids.items) s.steps.items was.steps;
+  places = was.places ∙ ap (λ (es : List Edge). map (λ b. position (λ e. e.buffer == b) es) s.ends.ids.items) keeps.ways.edges;
 }

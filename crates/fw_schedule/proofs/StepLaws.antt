@@ -1,8 +1,7 @@
 -- What a step says stays so as ids come after those that are there.
-use Rattle.std.proofs.Common.{◌≡◌, refl, sym, ap, ◌∙◌, ℕ, zero, suc, ◌-◌, ◌≤◌, List, [], ◌∷◌, ◌++◌, length, length-append, take, drop, length-drop, arith}
+use Rattle.std.proofs.Common.{◌≡◌, ap, ◌∙◌, ℕ, ◌-◌, ◌≤◌, List, [], ◌∷◌, ◌++◌, length, length-append, take, drop, length-drop, arith}
 use Rattle.std.proofs.lemmas.List.{drop-append-le, take-append-le, take_all}
 use Rattle.std.proofs.Math.Seq.{drop-append_seam}
-use Rattle.std.specs.Prelude.{slice_get}
 use Rattle.std.specs.List.{AllByRecursion}
 use Rattle.stream_law.specs.State.{View}
 use Rattle.fw_schedule.specs.declared.steps.Step.{Step}
@@ -22,19 +21,11 @@ behind ids more a b first past =
     ∙ ap (take (b - a)) (drop-append_seam ids more)
     ∙ take_all (b - a) more (omega (arith, first, past, length-append ids more))
 
--- the one at the place where a part ends the list is the part's first
-pub first-of : (ids part : List ℕ) (a b : ℕ) → take (b - a) (drop a ids) ≡ part → b ≡ length ids → slice_get ids a ≡ slice_get part 0
-first-of ids part a b is all = first-drop ids a ∙ ap (λ (xs : List ℕ). slice_get xs 0) (sym (take_all (b - a) (drop a ids) (omega (arith, all, length-drop a ids))) ∙ is)
-  where
-    first-drop : (xs : List ℕ) (k : ℕ) → slice_get xs k ≡ slice_get (drop k xs) 0
-    first-drop xs zero = refl
-    first-drop [] (suc k) = refl
-    first-drop (x ∷ xs) (suc k) = first-drop xs k
-
 -- ---- steps
 
 step-more : (v : View) (ids more : List ℕ) (s : Step) → IsStepOf v ids s → IsStepOf v (ids ++ more) s
 step-more v ids more s is = record {
+  place = is.place;
   kind = is.kind;
   format = is.format;
   active = is.active;
@@ -43,7 +34,6 @@ step-more v ids more s is = record {
   rate = is.rate;
   whole = is.whole;
   over = is.over;
-  fed = is.fed;
   within = (is.within.0, is.within.1, omega (arith, is.within.2, length-append ids more));
   inlets = front-more ids more s.first s.past is.within.0 (omega (arith, is.within.1, is.within.2)) ∙ is.inlets;
   outlets = front-more ids more s.past s.end is.within.1 is.within.2 ∙ is.outlets;

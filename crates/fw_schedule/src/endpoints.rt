@@ -1,10 +1,9 @@
 // Endpoints move frames between their bytes and buffers.
-ghost use Rattle.std.specs.Prelude.{◌≡◌, ◌+◌, ◌*◌, ◌/◌, ◌≤◌, true, take, replicate, length};
+ghost use Rattle.std.specs.Prelude.{◌≡◌, ◌==◌, ◌+◌, ◌*◌, ◌/◌, ◌≤◌, Some, take, replicate, length, position};
 ghost use Rattle.sof_base.specs.Samples.{width, frames_in, frames_out};
 ghost use Rattle.sof_io.specs.Takes.{bytes_given, taken as input_taken};
 ghost use Rattle.sof_io.specs.Puts.{room_at, with_piece};
 ghost use Rattle.fw_components.specs.Tables.{held_frames, capacity_at};
-ghost use Rattle.fw_units.specs.Changes.{has_id};
 ghost use Rattle.fw_components.specs.Frames.{words_at, channels_at, with_taken, pushed};
 
 use crate::scratch::{MOST, Scratch, ZEROS};
@@ -19,10 +18,11 @@ pub(crate) fn feed_frames(
     scratch: &mut Scratch,
     step: &Step,
     buffer: u32,
+    at: usize,
     n: u32,
 )
     requires channels { (1 ≤ step.now.channels) × (step.now.channels ≤ 8) }
-    requires there { has_id registry.old.buffers buffer ≡ true }
+    requires place { Some at ≡ position (λ c. c.id == buffer) registry.old.buffers }
     requires shape { channels_at registry.old buffer ≡ step.now.channels }
     requires fit { length (held_frames registry.old buffer) + n ≤ capacity_at registry.old buffer }
     ensures tables { registry.new ≡ pushed buffer (frames_in step.now.format step.now.channels (bytes_given step.now.id (n * (step.now.channels * width step.now.format)) io.old) 0 n) (words_at registry.new buffer) registry.old }
@@ -30,9 +30,9 @@ pub(crate) fn feed_frames(
 {
     let count = n as usize * usize::from(step.channels);
     if count <= MOST {
-        feed_some(registry, io, scratch, step, buffer, n);
+        feed_some(registry, io, scratch, step, buffer, at, n);
     } else {
-        feed_parts(registry, io, scratch, step, buffer, n);
+        feed_parts(registry, io, scratch, step, buffer, at, n);
     }
 }
 
@@ -44,10 +44,11 @@ fn feed_parts(
     scratch: &mut Scratch,
     step: &Step,
     buffer: u32,
+    at: usize,
     n: u32,
 )
     requires channels { (1 ≤ step.now.channels) × (step.now.channels ≤ 8) }
-    requires there { has_id registry.old.buffers buffer ≡ true }
+    requires place { Some at ≡ position (λ c. c.id == buffer) registry.old.buffers }
     requires shape { channels_at registry.old buffer ≡ step.now.channels }
     requires fit { length (held_frames registry.old buffer) + n ≤ capacity_at registry.old buffer }
     ensures tables { registry.new ≡ pushed buffer (frames_in step.now.format step.now.channels (bytes_given step.now.id (n * (step.now.channels * width step.now.format)) io.old) 0 n) (words_at registry.new buffer) registry.old }
@@ -55,10 +56,10 @@ fn feed_parts(
 {
     let most = most_frames(step.channels);
     let mut fed = n.min(most);
-    feed_some(registry, io, scratch, step, buffer, fed);
+    feed_some(registry, io, scratch, step, buffer, at, fed);
     while fed < n {
         let more = (n - fed).min(most);
-        feed_some(registry, io, scratch, step, buffer, more);
+        feed_some(registry, io, scratch, step, buffer, at, more);
         fed += more;
     }
 }
@@ -70,11 +71,12 @@ fn feed_some(
     scratch: &mut Scratch,
     step: &Step,
     buffer: u32,
+    at: usize,
     n: u32,
 )
     requires channels { (1 ≤ step.now.channels) × (step.now.channels ≤ 8) }
     requires few { n * step.now.channels ≤ 1536 }
-    requires there { has_id registry.old.buffers buffer ≡ true }
+    requires place { Some at ≡ position (λ c. c.id == buffer) registry.old.buffers }
     requires shape { channels_at registry.old buffer ≡ step.now.channels }
     requires fit { length (held_frames registry.old buffer) + n ≤ capacity_at registry.old buffer }
     ensures tables { registry.new ≡ pushed buffer (frames_in step.now.format step.now.channels (bytes_given step.now.id (n * (step.now.channels * width step.now.format)) io.old) 0 n) (words_at registry.new buffer) registry.old }
@@ -82,7 +84,7 @@ fn feed_some(
 {
     let size = n as usize * usize::from(step.channels) * step.format.width();
     let given = io.peek(step.id, &mut scratch.bytes[..size]);
-    registry.push_bytes(buffer, step.format, n, given);
+    registry.push_bytes(buffer, at, step.format, n, given);
     io.skip(step.id, size);
 }
 
@@ -92,9 +94,10 @@ pub(crate) fn drain_frames(
     out: &mut Outputs,
     step: &Step,
     buffer: u32,
+    at: usize,
     n: u32,
 )
-    requires there { has_id registry.old.buffers buffer ≡ true }
+    requires place { Some at ≡ position (λ c. c.id == buffer) registry.old.buffers }
     requires shape { channels_at registry.old buffer ≡ step.now.channels }
     requires held { n ≤ length (held_frames registry.old buffer) }
     requires room { n * (step.now.channels * width step.now.format) ≤ room_at step.now.id out.old }
@@ -102,9 +105,9 @@ pub(crate) fn drain_frames(
     ensures size { length (frames_out step.now.format (take n (held_frames registry.old buffer))) ≡ n * (step.now.channels * width step.now.format) }
     ensures outputs { out.new ≡ with_piece step.now.id (frames_out step.now.format (take n (held_frames registry.old buffer))) out.old }
 {
-    let (front, back) = registry.spans(buffer, n);
+    let (front, back) = registry.spans(buffer, at, n);
     out.put_samples(step.id, step.format, front, back);
-    registry.shorten(buffer, n);
+    registry.shorten(buffer, at, n);
 }
 
 /// An output gets so many zeros.

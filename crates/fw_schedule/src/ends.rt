@@ -4,21 +4,25 @@ ghost use Rattle.stream_law.specs.Ways.{is_end, live, active, active_end};
 ghost use Rattle.stream_law.specs.Moves.{fed_by, chooses as is_choosing};
 ghost use Rattle.fw_components.specs.Tables.{view_by};
 ghost use Rattle.fw_units.specs.Units.{source_by, sink_by};
-ghost use Rattle.fw_schedule.specs.Schedules.{inlets_of};
+ghost use Rattle.fw_schedule.specs.Schedules.{inlets_of, ArePlaces};
 
-use arrayvec::ArrayVec;
+use crate::steps::Ends;
 use fw_components::{Component, Registry};
 use fw_walks::{active as is_active, live as is_live, sink_in, source_in};
 
 /// The buffers that a component feeds come after the ids that are there.
-pub(crate) fn add_outlets(registry: &Registry, id: u32, ends: &mut ArrayVec<u32, 256>)
-    requires room { length ends.old.items + length (fed_by (view_by registry.now) id) ≤ 256 }
-    ensures { ends.new.items ≡ ends.old.items ++ fed_by (view_by registry.now) id }
+pub(crate) fn add_outlets(registry: &Registry, id: u32, ends: &mut Ends)
+    requires room { length ends.old.ids.items + length (fed_by (view_by registry.now) id) ≤ 256 }
+    requires places { ArePlaces (view_by registry.now) ends.old }
+    ensures ids { ends.new.ids.items ≡ ends.old.ids.items ++ fed_by (view_by registry.now) id }
+    ensures places { ArePlaces (view_by registry.now) ends.new }
 {
     let buffers = registry.buffers();
-    for buffer in buffers {
+    for at in 0..buffers.len() {
+        let buffer = &buffers[at];
         if is_fed(registry, buffer, id) {
-            ends.push(buffer.id);
+            let place = at as u16;
+            ends.push(buffer.id, place);
         }
     }
 }
@@ -34,15 +38,19 @@ fn is_fed(registry: &Registry, buffer: &Component, id: u32) -> bool
 
 /// The buffers that a component may look at come after the ids that are there: all into it, or where it chooses those whose source
 /// is Active.
-pub(crate) fn add_inlets(registry: &Registry, id: u32, chooses: bool, ends: &mut ArrayVec<u32, 256>)
+pub(crate) fn add_inlets(registry: &Registry, id: u32, chooses: bool, ends: &mut Ends)
     requires chooses { chooses ≡ is_choosing (view_by registry.now) id }
-    requires room { length ends.old.items + length (inlets_of (view_by registry.now) id) ≤ 256 }
-    ensures { ends.new.items ≡ ends.old.items ++ inlets_of (view_by registry.now) id }
+    requires room { length ends.old.ids.items + length (inlets_of (view_by registry.now) id) ≤ 256 }
+    requires places { ArePlaces (view_by registry.now) ends.old }
+    ensures ids { ends.new.ids.items ≡ ends.old.ids.items ++ inlets_of (view_by registry.now) id }
+    ensures places { ArePlaces (view_by registry.now) ends.new }
 {
     let buffers = registry.buffers();
-    for buffer in buffers {
+    for at in 0..buffers.len() {
+        let buffer = &buffers[at];
         if is_inlet(registry, buffer, id, chooses) {
-            ends.push(buffer.id);
+            let place = at as u16;
+            ends.push(buffer.id, place);
         }
     }
 }

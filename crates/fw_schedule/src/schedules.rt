@@ -5,23 +5,23 @@ ghost use Rattle.std.specs.Prelude.{◌≡◌, ◌+◌, ◌*◌, ◌/◌, ◌%�
 ghost use Rattle.std.specs.Option.{option_map_or};
 ghost use Rattle.stream_law.specs.Ways.{components};
 ghost use Rattle.fw_components.specs.Tables.{graph_of, view_by};
-ghost use Rattle.fw_schedule.specs.Schedules.{IsScheduleOf, IsStepOf, step_edges};
+ghost use Rattle.fw_schedule.specs.Schedules.{IsScheduleOf, IsStepOf, ArePlaces, step_edges};
 
 use crate::ends::{add_inlets, add_outlets};
 use crate::ordering::order;
-use crate::steps::Step;
+use crate::steps::{Ends, Step};
 use crate::units::{chooses, format_in, period_in};
 use arrayvec::ArrayVec;
 use fw_components::Registry;
 use fw_walks::{active, kind_of};
 use sof_base::Params;
 
-/// A step for each component of a registry, in the order in which they move, and the ids of the buffers that they take frames
-/// from and that they feed. A tick goes by it, and searches nothing. It takes no memory.
+/// A step for each component of a registry, in the order in which they move, and ids and places of the buffers that they take frames
+/// from and that they feed. A tick goes by it, and looks nothing up. It takes no memory.
 #[derive(Drop)]
 pub struct Schedule {
     pub(crate) steps: ArrayVec<Step, 128>,
-    pub(crate) ends: ArrayVec<u32, 256>,
+    pub(crate) ends: Ends,
 }
 
 impl Schedule {
@@ -34,7 +34,7 @@ impl Schedule {
         // For the proof alone, which takes from it what a registry keeps.
         let _buffers = registry.buffers();
         let mut steps: ArrayVec<Step, 128> = ArrayVec::new();
-        let mut ends: ArrayVec<u32, 256> = ArrayVec::new();
+        let mut ends = Ends::new();
         for i in 0..places.len() {
             let step = step_at(registry, usize::from(places[i]), &mut ends);
             steps.push(step);
@@ -44,19 +44,21 @@ impl Schedule {
 }
 
 // The step of the component at a place, whose inlets and then the buffers that it feeds come after the ids that are there.
-fn step_at(registry: &Registry, at: usize, ends: &mut ArrayVec<u32, 256>) -> Step
+fn step_at(registry: &Registry, at: usize, ends: &mut Ends) -> Step
     requires there { at < length registry.now.comps }
-    requires room { length ends.old.items + length (step_edges (view_by registry.now) (slice_index (components (graph_of registry.now)) at)) ≤ 256 }
+    requires places { ArePlaces (view_by registry.now) ends.old }
+    requires room { length ends.old.ids.items + length (step_edges (view_by registry.now) (slice_index (components (graph_of registry.now)) at)) ≤ 256 }
     ensures id { result.id ≡ slice_index (components (graph_of registry.now)) at }
-    ensures ends { ends.new.items ≡ ends.old.items ++ step_edges (view_by registry.now) result.id }
-    ensures step { IsStepOf (view_by registry.now) ends.new.items result }
+    ensures ends { ends.new.ids.items ≡ ends.old.ids.items ++ step_edges (view_by registry.now) result.id }
+    ensures places { ArePlaces (view_by registry.now) ends.new }
+    ensures step { IsStepOf (view_by registry.now) ends.new.ids.items result }
 {
     let comps = registry.comps();
     let comp = &comps[at];
     let kind = kind_of(&comp.unit);
-    let first = ends.len();
+    let first = ends.ids.len();
     add_inlets(registry, comp.id, chooses(kind), ends);
-    let past = ends.len();
+    let past = ends.ids.len();
     add_outlets(registry, comp.id, ends);
     let params = registry.live_params(comp.id);
     let micros = period_in(registry.pipes(), comp.pipe);
@@ -65,6 +67,7 @@ fn step_at(registry: &Registry, at: usize, ends: &mut ArrayVec<u32, 256>) -> Ste
     let frames = frames_of_period(period, rate);
     Step {
         id: comp.id,
+        place: at,
         kind,
         format: format_in(&comp.unit),
         active: active(registry, comp.id),
@@ -73,10 +76,9 @@ fn step_at(registry: &Registry, at: usize, ends: &mut ArrayVec<u32, 256>) -> Ste
         rate,
         whole: frames.0,
         over: frames.1,
-        fed: ends.as_slice().get(past).copied(),
         first,
         past,
-        end: ends.len(),
+        end: ends.ids.len(),
     }
 }
 

@@ -6,9 +6,9 @@ use Rattle.fw_moves.specs.Processed.{output_number, output_frames, fed_at}
 use Rattle.fw_moves.proofs.giving.give_each.Given as goal
 
 -- those so far have what they are to have
-abbrev pub invariant-loop-outlet : goal.invariant-loop-outlet
-invariant-loop-outlet l = record {
-  so_far : l.buffers.items ≡ map (fed_at (take l.outlet-index l.fed) (λ b. output_frames l.component.unit l.component.channels (output_number l.joins l.component.id b) (frames_of l.component.channels l.n l.made)) (λ b. words_by (find (λ x. x.id == b) l.buffers.items))) l.initial.buffers.items;
-  capacity : vec_capacity l.buffers ≡ vec_capacity l.initial.buffers;
-  size : length l.kept ≡ length l.initial.kept;
+abbrev pub invariant-loop-i : goal.invariant-loop-i
+invariant-loop-i l = record {
+  so_far : l.buffers.items ≡ map (fed_at (take l.i l.fed) (λ b. output_frames l.component.unit l.component.channels (output_number l.joins l.component.id b) (frames_of l.component.channels l.n l.made)) (λ b. words_by (find (λ x. x.id == b) l.buffers.items))) l.fn.buffers.items;
+  capacity : vec_capacity l.buffers ≡ vec_capacity l.fn.buffers;
+  size : length l.kept ≡ length l.fn.kept;
 }

@@ -9,24 +9,28 @@ use Rattle.fw_units.specs.Frames.{channels_by, words_by, pushed_at}
 use Rattle.fw_units.proofs.Putting.{pushed-put}
 use Rattle.fw_units.proofs.Standing.{frames-is, channels-is, capacity-is}
 use Rattle.fw_units.proofs.Taking.{taken-found}
+use Rattle.fw_moves.proofs.PlaceLaws.{within}
 use Rattle.fw_moves.proofs.giving.put.Goals as goal
+
+pub index_mut-requires : goal.index_mut-requires
+index_mut-requires c = omega (arith, within (λ (y : Component). y.id == c.args._outlet) c.args.buffers.now.items c.args.at c.requires.place, c.args.buffers.now.ok.0)
 
 pub push-requires-clause-whole : goal.push-requires-clause-whole
 push-requires-clause-whole c =
-    let x = c.args.component.now in let cs = c.args.buffers.now.items in let b = c.args.outlet in let n = c.args.n in let part = c.args.part.now in
+    let x = c.args._component.now in let cs = c.args.buffers.now.items in let b = c.args._outlet in let n = c.args.n in let part = c.args.part.now in
     let y = c.index_mut.result.now in
-    let place : Some c.place-at.result ≡ position (λ (z : Component). z.id == b) cs = c.place-at.ensures.place ∙ ap (position (λ (z : Component). z.id == b)) c.as_slice.ensures.value in
-    let it = ap (λ (z : Component). Some z) c.index_mut.ensures.value ∙ taken-found b cs c.place-at.result y place in
+    let place : Some c.args.at ≡ position (λ (z : Component). z.id == b) cs = c.requires.place in
+    let it = ap (λ (z : Component). Some z) c.index_mut.ensures.value ∙ taken-found b cs c.args.at y place in
     let wide : channels_by y.unit ≡ x.channels = channels-is b cs y it ∙ c.requires.outlet.shape in
     let long : length part ≡ n * x.channels = c.requires.part in
     (λ i. long i % wide i) ∙ mul-mod_left n x.channels
 
 pub push-requires-clause-fit : goal.push-requires-clause-fit
 push-requires-clause-fit c =
-    let x = c.args.component.now in let cs = c.args.buffers.now.items in let b = c.args.outlet in let n = c.args.n in let part = c.args.part.now in
+    let x = c.args._component.now in let cs = c.args.buffers.now.items in let b = c.args._outlet in let n = c.args.n in let part = c.args.part.now in
     let y = c.index_mut.result.now in
-    let place : Some c.place-at.result ≡ position (λ (z : Component). z.id == b) cs = c.place-at.ensures.place ∙ ap (position (λ (z : Component). z.id == b)) c.as_slice.ensures.value in
-    let it = ap (λ (z : Component). Some z) c.index_mut.ensures.value ∙ taken-found b cs c.place-at.result y place in
+    let place : Some c.args.at ≡ position (λ (z : Component). z.id == b) cs = c.requires.place in
+    let it = ap (λ (z : Component). Some z) c.index_mut.ensures.value ∙ taken-found b cs c.args.at y place in
     let wide : channels_by y.unit ≡ x.channels = channels-is b cs y it ∙ c.requires.outlet.shape in
     let long : length part ≡ n * x.channels = c.requires.part in
     let count : length part / channels_by y.unit ≡ n = (λ i. long i / wide i) ∙ mul-div_cancel n (omega (arith, c.requires.channels.0)) in
@@ -36,13 +40,13 @@ push-requires-clause-fit c =
 
 pub returns-clause-items : goal.returns-clause-items
 returns-clause-items c =
-    let x = c.args.component.now in let cs = c.args.buffers.now.items in let b = c.args.outlet in let n = c.args.n in let part = c.args.part.now in
+    let x = c.args._component.now in let cs = c.args.buffers.now.items in let b = c.args._outlet in let n = c.args.n in let part = c.args.part.now in
     let y = c.index_mut.result.now in
-    let place : Some c.place-at.result ≡ position (λ (z : Component). z.id == b) cs = c.place-at.ensures.place ∙ ap (position (λ (z : Component). z.id == b)) c.as_slice.ensures.value in
-    let it = ap (λ (z : Component). Some z) c.index_mut.ensures.value ∙ taken-found b cs c.place-at.result y place in
+    let place : Some c.args.at ≡ position (λ (z : Component). z.id == b) cs = c.requires.place in
+    let it = ap (λ (z : Component). Some z) c.index_mut.ensures.value ∙ taken-found b cs c.args.at y place in
     let wide : channels_by y.unit ≡ x.channels = channels-is b cs y it ∙ c.requires.outlet.shape in
     let long : length part ≡ n * x.channels = c.requires.part in
     let count : length part / channels_by y.unit ≡ n = (λ i. long i / wide i) ∙ mul-div_cancel n (omega (arith, c.requires.channels.0)) in
-    let new = set cs c.place-at.result c.push.new.self in
-    pushed-put b c.place-at.result cs y c.push.new.self c.requires.ascends place c.index_mut.ensures.value _ c.push.ensures
+    let new = set cs c.args.at c.push.new.self in
+    pushed-put b c.args.at cs y c.push.new.self c.requires.ascends place c.index_mut.ensures.value _ c.push.ensures
     ∙ ap (λ (fs : List Frame). map (pushed_at b fs (words_by (find (λ z. z.id == b) new))) cs) (λ i. frames_of (wide i) (count i) part)

@@ -1,22 +1,17 @@
-use Rattle.std.proofs.Common.{◌≡◌, ◌∙◌, sym, ap, ℕ, ◌*◌, ◌≤◌, ◌==◌, true, List, Option, length, take, subst, arith, length-take}
+use Rattle.std.proofs.Common.{◌≡◌, ◌∙◌, sym, ap, ℕ, ◌*◌, ◌≤◌, ◌==◌, List, Option, length, take, subst, arith, length-take}
 use Rattle.std.specs.Prelude.{find}
 use Rattle.std.specs.List.{AllByRecursion}
 use Rattle.fw_ring.proofs.FrameLaws.{length-frames}
 use Rattle.fw_units.specs.declared.component.Component.{Component}
-use Rattle.fw_units.specs.Changes.{has_id}
 use Rattle.fw_units.specs.Frames.{kept_words, buffer_frames, words_by}
-use Rattle.fw_moves.specs.Processed.{IsLevel, feeds_of, IsInlet, IsOutlet, slices_in, chosen_by, made_numbers, output_number}
-use Rattle.fw_moves.specs.Moving.{frames_now}
+use Rattle.fw_moves.specs.Processed.{IsLevel, feeds_of, IsInlet, IsOutlet, slices_in, chosen_by, made_numbers, output_number, drained_at}
+use Rattle.fw_moves.specs.Moving.{AreAt, frames_now}
 use Rattle.fw_units.proofs.Ids.{all-by}
-use Rattle.fw_moves.proofs.MovedLaws.{run-level, run-feeds}
+use Rattle.fw_moves.proofs.MovedLaws.{run-level, run-feeds, drained-id}
 use Rattle.fw_moves.proofs.StepLaws.{mid-ascends}
 use Rattle.fw_moves.proofs.StepLaws.{mid-outlets, step-table}
+use Rattle.fw_moves.proofs.PlaceLaws.{places-still}
 use Rattle.fw_moves.proofs.moving.step.Goals as goal
-
-pub drain_in-requires-clause-there : goal.drain_in-requires-clause-there
-drain_in-requires-clause-there c =
-    let bs = c.args.buffers.now.items in let x = c.args.component.now in let n = c.args.n in
-    all-by (IsInlet bs x.channels n) (λ b. has_id bs b ≡ true) (λ b inlet. inlet.there) c.args.looked.now c.requires.can.inlets
 
 pub drain_in-requires-clause-held : goal.drain_in-requires-clause-held
 drain_in-requires-clause-held c =
@@ -36,6 +31,11 @@ give-requires-clause-feeds c =
 pub give-requires-clause-ascends : goal.give-requires-clause-ascends
 give-requires-clause-ascends c = mid-ascends c.args.buffers.now.items c.args.looked.now c.args.fed.now c.args.n c.args.component.now c.requires.can c.drain_in.new.components.items c.drain_in.ensures.items
 
+pub give-requires-clause-places : goal.give-requires-clause-places
+give-requires-clause-places c =
+    let bs = c.args.buffers.now.items in let looked = c.args.looked.now in let fed = c.args.fed.now in let to = c.args.to.now in let n = c.args.n in
+    subst (λ (cs : List Component). AreAt cs fed to) (sym c.drain_in.ensures.items) (places-still (drained_at looked n) (drained-id looked fed c.requires.can.apart n) bs fed to c.requires.to)
+
 pub give-requires-clause-channels : goal.give-requires-clause-channels
 give-requires-clause-channels c = subst (λ (y : Component). (1 ≤ y.channels) × (y.channels ≤ 8)) (sym c.make.ensures.component) c.requires.channels
 
@@ -48,14 +48,14 @@ give-requires-clause-outlets c =
 pub give-requires-clause-made : goal.give-requires-clause-made
 give-requires-clause-made c =
     let size = c.args.n * c.from.result in
-    let long : length c.make.new.samples ≡ c.args.n * c.args.component.now.channels = omega (arith, c.make.auto.samples, length-take size c.args.samples.now, c.requires.size.1, ap (λ (k : ℕ). c.args.n * k) c.from.ensures) in
+    let long : length c.make.new.samples ≡ c.args.n * c.args.component.now.channels = omega (arith, c.make.auto.samples, length-take size c.args.samples.now, c.requires.size, ap (λ (k : ℕ). c.args.n * k) c.from.ensures) in
     long ∙ ap (λ (y : Component). c.args.n * y.channels) (sym c.make.ensures.component)
 
 pub give-requires-clause-kept : goal.give-requires-clause-kept
 give-requires-clause-kept c =
     let size = c.args.n * c.from.result in
     let rest = c.split_at_mut-made.result.1.now in
-    (let e : length (take size rest) ≡ c.args.n * c.args.component.now.channels = omega (arith, length-take size rest, c.split_at_mut-made.ensures.back_len, c.requires.size.1, ap (λ (k : ℕ). c.args.n * k) c.from.ensures) in e)
+    (let e : length (take size rest) ≡ c.args.n * c.args.component.now.channels = omega (arith, length-take size rest, c.split_at_mut-made.ensures.back_len, c.requires.size, ap (λ (k : ℕ). c.args.n * k) c.from.ensures) in e)
     ∙ ap (λ (y : Component). c.args.n * y.channels) (sym c.make.ensures.component)
 
 pub returns-clause-moved : goal.returns-clause-moved

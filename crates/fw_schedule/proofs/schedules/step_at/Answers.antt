@@ -1,8 +1,5 @@
-use Rattle.std.proofs.Common.{◌≡◌, sym, ap, ◌∙◌, subst, ℕ, ◌+◌, ◌/◌, ◌<◌, ◌≤◌, ◌++◌, List, append_assoc, length, length-append, get_or, ◌||◌, ◌==◌, Option, Some, None, arith}
-use Rattle.std.proofs.lemmas.Bool.Decides.{nat_tests}
-use Rattle.std.proofs.lemmas.Option.{slice_get_past, slice_get-get_or}
-use Rattle.std.specs.Borrow.{Bor}
-use Rattle.std.specs.Prelude.{find, slice_get, slice_range, option_copied, is_some, nat_lt, IfSome}
+use Rattle.std.proofs.Common.{◌≡◌, sym, ap, ◌∙◌, subst, ℕ, ◌+◌, ◌/◌, ◌≤◌, ◌++◌, List, append_assoc, length, length-append, get_or, ◌||◌, ◌==◌, Option, Some, arith}
+use Rattle.std.specs.Prelude.{find, slice_range}
 use Rattle.std.specs.Option.{option_map_or}
 use Rattle.sof_base.specs.declared.format.Params.{Params}
 use Rattle.stream_law.specs.declared.graph.Kind.{Kind}
@@ -14,16 +11,10 @@ use Rattle.fw_components.specs.Tables.{view_by}
 use Rattle.fw_units.specs.Units.{period_by}
 use Rattle.fw_schedule.specs.Outputs.{is_output_kind}
 use Rattle.fw_schedule.specs.Schedules.{inlets_of, step_edges}
+use Rattle.fw_schedule.proofs.EdgePlaces.{graph-place}
 use Rattle.fw_schedule.proofs.AtPlaces.{own-at, kind-at, chooses-at, format-at, period-at}
-use Rattle.fw_schedule.proofs.StepLaws.{front-more, behind, first-of}
+use Rattle.fw_schedule.proofs.StepLaws.{front-more, behind}
 use Rattle.fw_schedule.proofs.schedules.step_at.Goals as goal
-
--- what is read at a place, by what is stated of it
-read-at : (xs : List ℕ) (k : ℕ) (o : Option (Bor ℕ)) → is_some o ≡ nat_lt k (length xs) → IfSome o (λ x. x.now ≡ get_or xs k x.now) → option_copied o ≡ slice_get xs k
-read-at xs k None some value = sym (slice_get_past xs k (let past : length xs ≤ k = grind (arith, nat_tests, some) in past))
-read-at xs k (Some x) some value =
-    let within : k < length xs = grind (arith, nat_tests, some) in
-    ap (λ (n : ℕ). Some n) value ∙ sym (slice_get-get_or xs k x.now within)
 
 pub add_inlets-requires-clause-chooses : goal.add_inlets-requires-clause-chooses
 add_inlets-requires-clause-chooses c =
@@ -35,22 +26,22 @@ pub add_inlets-requires-clause-room : goal.add_inlets-requires-clause-room
 add_inlets-requires-clause-room c =
     let t = c.args.registry.now in let kept = c.comps-comps.ensures.kept in let at = c.args.at in let d = c.index-comps-at.result in
     let is : d ≡ get_or t.comps at d = c.index-comps-at.is ∙ ap (λ (cs : List Component). get_or cs at d) c.comps-comps.ensures.items in
-    let room = subst (λ n. length c.args.ends.now.items + length (step_edges (view_by t) n) ≤ 256) (sym (own-at t kept at c.requires.there d is)) c.requires.room in
+    let room = subst (λ n. length c.args.ends.now.ids.items + length (step_edges (view_by t) n) ≤ 256) (sym (own-at t kept at c.requires.there d is)) c.requires.room in
     omega (arith, room, length-append (inlets_of (view_by t) d.id) (fed_by (view_by t) d.id))
 
-pub add_outlets-requires : goal.add_outlets-requires
-add_outlets-requires c =
+pub add_outlets-requires-clause-room : goal.add_outlets-requires-clause-room
+add_outlets-requires-clause-room c =
     let t = c.args.registry.now in let kept = c.comps-comps.ensures.kept in let at = c.args.at in let d = c.index-comps-at.result in
     let is : d ≡ get_or t.comps at d = c.index-comps-at.is ∙ ap (λ (cs : List Component). get_or cs at d) c.comps-comps.ensures.items in
-    let room = subst (λ n. length c.args.ends.now.items + length (step_edges (view_by t) n) ≤ 256) (sym (own-at t kept at c.requires.there d is)) c.requires.room in
-    omega (arith, room, ap length c.add_inlets.ensures, length-append c.args.ends.now.items (inlets_of (view_by t) d.id), length-append (inlets_of (view_by t) d.id) (fed_by (view_by t) d.id))
+    let room = subst (λ n. length c.args.ends.now.ids.items + length (step_edges (view_by t) n) ≤ 256) (sym (own-at t kept at c.requires.there d is)) c.requires.room in
+    omega (arith, room, ap length c.add_inlets.ensures.ids, length-append c.args.ends.now.ids.items (inlets_of (view_by t) d.id), length-append (inlets_of (view_by t) d.id) (fed_by (view_by t) d.id))
 
 pub returns-clause-ends : goal.returns-clause-ends
 returns-clause-ends c =
     let v = view_by c.args.registry.now in let d = c.index-comps-at.result in
-    c.add_outlets.ensures
-    ∙ ap (λ (ids : List ℕ). ids ++ fed_by v d.id) c.add_inlets.ensures
-    ∙ append_assoc c.args.ends.now.items (inlets_of v d.id) (fed_by v d.id)
+    c.add_outlets.ensures.ids
+    ∙ ap (λ (ids : List ℕ). ids ++ fed_by v d.id) c.add_inlets.ensures.ids
+    ∙ append_assoc c.args.ends.now.ids.items (inlets_of v d.id) (fed_by v d.id)
 
 pub returns-clause-id : goal.returns-clause-id
 returns-clause-id c =
@@ -70,14 +61,13 @@ returns-clause-step c =
     let first = c.len-first.ensures.value in
     let past = c.len-past.ensures.value in
     let end = c.len.ensures.value in
-    let old = c.args.ends.now.items in let mid = c.add_inlets.new.ends.items in let new = c.add_outlets.new.ends.items in
-    let inlets = c.add_inlets.ensures in let outlets = c.add_outlets.ensures in
+    let old = c.args.ends.now.ids.items in let mid = c.add_inlets.new.ends.ids.items in let new = c.add_outlets.new.ends.ids.items in
+    let inlets = c.add_inlets.ensures.ids in let outlets = c.add_outlets.ensures.ids in
     let low : c.len-first.result ≤ c.len-past.result = omega (arith, first, past, ap length inlets, length-append old (inlets_of v d.id)) in
     let slice : slice_range new c.len-past.result c.len.result ≡ fed_by v d.id =
     ap (λ (ids : List ℕ). slice_range ids c.len-past.result c.len.result) outlets ∙ behind mid (fed_by v d.id) c.len-past.result c.len.result past (end ∙ ap length outlets) in
-    let seen = c.get.ensures.lookup in
-    let read = read-at c.as_slice.result.now c.len-past.result c.get.result seen.0 seen.1 ∙ ap (λ (ids : List ℕ). slice_get ids c.len-past.result) c.as_slice.ensures.value in
     record {
+      place = graph-place t.comps at d kept.named.comps c.requires.there is;
       kind = kind-at t kept at c.requires.there d is ∙ ap (λ (k : Kind). Some k) (sym c.kind_of-kind.ensures);
       format = λ passes. c.format_in.ensures ∙ format-at t kept at c.requires.there d is (ap (λ (k : Kind). is_input k || is_output_kind k) (sym c.kind_of-kind.ensures) ∙ passes);
       active = c.active.ensures;
@@ -86,7 +76,6 @@ returns-clause-step c =
       rate = rate;
       whole = c.frames_of_period-frames.ensures.whole;
       over = c.frames_of_period-frames.ensures.over;
-      fed = c.copied.ensures ∙ read ∙ first-of new (fed_by v d.id) c.len-past.result c.len.result slice (omega (arith, end));
       within = (low, omega (arith, past, end, ap length outlets, length-append mid (fed_by v d.id)), omega (arith, end));
       inlets =
           ap (λ (ids : List ℕ). slice_range ids c.len-first.result c.len-past.result) outlets

@@ -2,9 +2,6 @@ use Rattle.std.proofs.Common.{sym, ◌∙◌, [], ◌∷◌, not, ◌&&◌}
 use Rattle.fw_schedule.proofs.Growing.{grew-still}
 use Rattle.fw_schedule.proofs.ticking.copy_component.Goals as goal
 
-pub feed-requires-clause-step : goal.feed-requires-clause-step
-feed-requires-clause-step c = (c.args.ends.now, c.requires.step)
-
 pub process-requires-clause-kind : goal.process-requires-clause-kind
 process-requires-clause-kind c = λ i. not ((sym c.reads.ensures ∙ c.if-reads.false) i) && not ((sym c.writes.ensures ∙ c.if-writes.false) i)
 

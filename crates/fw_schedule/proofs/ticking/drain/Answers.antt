@@ -16,6 +16,7 @@ use Rattle.fw_components.specs.Tables.{Tables, graph_of, view_by, held_frames}
 use Rattle.row_laws.proofs.Playing.{active-live}
 use Rattle.fw_schedule.specs.Outputs.{is_output_kind, least_by}
 use Rattle.fw_schedule.specs.Stages.{bare_of, IsStage, Grew}
+use Rattle.fw_schedule.proofs.EdgePlaces.{some-at, length-all, place-first, first-some}
 use Rattle.fw_schedule.proofs.AtPlaces.{kind-passes, same-kind}
 use Rattle.fw_schedule.proofs.Running.{channels-few, bytes-most}
 use Rattle.fw_schedule.proofs.Looking.{plain-inlets}
@@ -31,15 +32,24 @@ total-few n least q m few low most =
     let both : (n + (least - n)) * m ≤ q * m = mul-le-mul_right m (let all : n + (least - n) ≤ q = omega (arith, few, low) in all) in
     omega (arith, both, most)
 
-pub drain_from-requires-clause-there : goal.drain_from-requires-clause-there
-drain_from-requires-clause-there c =
-    let t = c.args.registry.now in let v = view_by t in let s = c.args.step.now in let id = s.id in let is = c.requires.step in
-    let kept = c.comps-comps.ensures.kept in let can = c.requires.can in let now = c.requires.active in
-    let there = there-is (graph_of t) id (λ k. is_output_kind k) (kind-passes (λ k. is_output_kind k) (comp_of (graph_of t) id) s.kind is.kind ∙ c.requires.kind) in
-    let own : slice_get (ins (graph_of t) id) 0 ≡ slice_get c.inlets.result.now 0 = ap (λ (ids : List ℕ). slice_get ids 0) (sym (c.inlets.ensures ∙ is.inlets ∙ plain-inlets v id (picks t kept can id there now))) in
-    let b = c.in-Some.buffer.now in
-    let at : slice_get (ins (graph_of t) id) 0 ≡ Some b = own ∙ sym c.first.ensures.value ∙ ap (λ (o : Option (Bor ℕ)). option_copied o) c.in-Some.is in
-    (in-of t kept can id there now b at).there
+pub inlets-requires-clause-ids : goal.inlets-requires-clause-ids
+inlets-requires-clause-ids c = let is = c.requires.step in (is.within.0, omega (arith, is.within.1, is.within.2))
+
+pub inlets-requires-clause-places : goal.inlets-requires-clause-places
+inlets-requires-clause-places c = length-all c.args.registry.now c.args.ends.now c.requires.places
+
+pub bounds-from-0 : goal.bounds-from-0
+bounds-from-0 c =
+    let t = c.args.registry.now in let s = c.args.step.now in
+    let at = some-at t c.args.ends.now s.first s.past c.inlets.result.0.now c.inlets.result.1.now c.requires.places c.inlets.ensures.ids c.inlets.ensures.places in
+    first-some t.buffers c.inlets.result.0.now c.inlets.result.1.now c.in-Some.buffer.now at (sym c.first.ensures.value ∙ ap (λ (o : Option (Bor ℕ)). option_copied o) c.in-Some.is)
+
+pub drain_from-requires-clause-place : goal.drain_from-requires-clause-place
+drain_from-requires-clause-place c =
+    let t = c.args.registry.now in let s = c.args.step.now in
+    let at = some-at t c.args.ends.now s.first s.past c.inlets.result.0.now c.inlets.result.1.now c.requires.places c.inlets.ensures.ids c.inlets.ensures.places in
+    ap (λ (n : ℕ). Some n) c.from-at.ensures
+    ∙ place-first t.buffers c.inlets.result.0.now c.inlets.result.1.now c.in-Some.buffer.now at (sym c.first.ensures.value ∙ ap (λ (o : Option (Bor ℕ)). option_copied o) c.in-Some.is)
 
 pub drain_from-requires-clause-channels : goal.drain_from-requires-clause-channels
 drain_from-requires-clause-channels c =
@@ -52,7 +62,7 @@ drain_from-requires-clause-shape c =
     let t = c.args.registry.now in let v = view_by t in let s = c.args.step.now in let id = s.id in let is = c.requires.step in
     let kept = c.comps-comps.ensures.kept in let can = c.requires.can in let now = c.requires.active in
     let there = there-is (graph_of t) id (λ k. is_output_kind k) (kind-passes (λ k. is_output_kind k) (comp_of (graph_of t) id) s.kind is.kind ∙ c.requires.kind) in
-    let own : slice_get (ins (graph_of t) id) 0 ≡ slice_get c.inlets.result.now 0 = ap (λ (ids : List ℕ). slice_get ids 0) (sym (c.inlets.ensures ∙ is.inlets ∙ plain-inlets v id (picks t kept can id there now))) in
+    let own : slice_get (ins (graph_of t) id) 0 ≡ slice_get c.inlets.result.0.now 0 = ap (λ (ids : List ℕ). slice_get ids 0) (sym (c.inlets.ensures.ids ∙ is.inlets ∙ plain-inlets v id (picks t kept can id there now))) in
     let b = c.in-Some.buffer.now in
     let at : slice_get (ins (graph_of t) id) 0 ≡ Some b = own ∙ sym c.first.ensures.value ∙ ap (λ (o : Option (Bor ℕ)). option_copied o) c.in-Some.is in
     (in-of t kept can id there now b at).shape ∙ sym is.channels
@@ -101,7 +111,7 @@ returns-in-Some-clause-moved c = λ clock inputs run most began start a ends sta
     let t = c.args.registry.now in let v = view_by t in let s = c.args.step.now in let id = s.id in let is = c.requires.step in
     let kept = c.comps-comps.ensures.kept in let can = c.requires.can in let now = c.requires.active in
     let there = there-is (graph_of t) id (λ k. is_output_kind k) (kind-passes (λ k. is_output_kind k) (comp_of (graph_of t) id) s.kind is.kind ∙ c.requires.kind) in
-    let own : slice_get (ins (graph_of t) id) 0 ≡ slice_get c.inlets.result.now 0 = ap (λ (ids : List ℕ). slice_get ids 0) (sym (c.inlets.ensures ∙ is.inlets ∙ plain-inlets v id (picks t kept can id there now))) in
+    let own : slice_get (ins (graph_of t) id) 0 ≡ slice_get c.inlets.result.0.now 0 = ap (λ (ids : List ℕ). slice_get ids 0) (sym (c.inlets.ensures.ids ∙ is.inlets ∙ plain-inlets v id (picks t kept can id there now))) in
     let b = c.in-Some.buffer.now in
     let at : slice_get (ins (graph_of t) id) 0 ≡ Some b = own ∙ sym c.first.ensures.value ∙ ap (λ (o : Option (Bor ℕ)). option_copied o) c.in-Some.is in
     let out = c.args.out.now in
@@ -121,7 +131,7 @@ returns-in_default-clause-grew c =
     let t = c.args.registry.now in let v = view_by t in let s = c.args.step.now in let id = s.id in let is = c.requires.step in
     let kept = c.comps-comps.ensures.kept in let can = c.requires.can in let now = c.requires.active in
     let there = there-is (graph_of t) id (λ k. is_output_kind k) (kind-passes (λ k. is_output_kind k) (comp_of (graph_of t) id) s.kind is.kind ∙ c.requires.kind) in
-    let own : slice_get (ins (graph_of t) id) 0 ≡ slice_get c.inlets.result.now 0 = ap (λ (ids : List ℕ). slice_get ids 0) (sym (c.inlets.ensures ∙ is.inlets ∙ plain-inlets v id (picks t kept can id there now))) in
+    let own : slice_get (ins (graph_of t) id) 0 ≡ slice_get c.inlets.result.0.now 0 = ap (λ (ids : List ℕ). slice_get ids 0) (sym (c.inlets.ensures.ids ∙ is.inlets ∙ plain-inlets v id (picks t kept can id there now))) in
     absurd (in-some t kept can id there now (own ∙ sym c.first.ensures.value ∙ ap (λ (o : Option (Bor ℕ)). option_copied o) c.in_default.is))
 
 pub returns-in_default-clause-moved : goal.returns-in_default-clause-moved
@@ -129,5 +139,5 @@ returns-in_default-clause-moved c =
     let t = c.args.registry.now in let v = view_by t in let s = c.args.step.now in let id = s.id in let is = c.requires.step in
     let kept = c.comps-comps.ensures.kept in let can = c.requires.can in let now = c.requires.active in
     let there = there-is (graph_of t) id (λ k. is_output_kind k) (kind-passes (λ k. is_output_kind k) (comp_of (graph_of t) id) s.kind is.kind ∙ c.requires.kind) in
-    let own : slice_get (ins (graph_of t) id) 0 ≡ slice_get c.inlets.result.now 0 = ap (λ (ids : List ℕ). slice_get ids 0) (sym (c.inlets.ensures ∙ is.inlets ∙ plain-inlets v id (picks t kept can id there now))) in
+    let own : slice_get (ins (graph_of t) id) 0 ≡ slice_get c.inlets.result.0.now 0 = ap (λ (ids : List ℕ). slice_get ids 0) (sym (c.inlets.ensures.ids ∙ is.inlets ∙ plain-inlets v id (picks t kept can id there now))) in
     absurd (in-some t kept can id there now (own ∙ sym c.first.ensures.value ∙ ap (λ (o : Option (Bor ℕ)). option_copied o) c.in_default.is))

@@ -11,7 +11,7 @@ use Rattle.fw_schedule.proofs.Drained.{least-few}
 use Rattle.fw_schedule.proofs.ticking.drain_from.Goals as goal
 
 pub drain_frames-requires-clause-held : goal.drain_frames-requires-clause-held
-drain_frames-requires-clause-held c = omega (arith, c.min-n.ensures, c.held.ensures)
+drain_frames-requires-clause-held c = omega (arith, c.min-n.ensures, c.held_at.ensures)
 
 pub drain_frames-requires-clause-room : goal.drain_frames-requires-clause-room
 drain_frames-requires-clause-room c =
@@ -40,7 +40,7 @@ returns-clause-outputs c =
     let m : ℕ = s.channels * width format in
     let fs = held_frames c.args.registry.now c.args.buffer in
     let more : c.saturating_sub.result * (c.from.result * c.width.result) ≡ (least_by s.kind c.args.most - n) * m = (λ i. c.saturating_sub.ensures i * (c.from.ensures i * c.width.ensures i)) ∙ ap (λ k. (k - n) * m) c.least-least.ensures in
-    let count : n ≡ min c.args.most (length (held_frames c.args.registry.now c.args.buffer)) = omega (arith, c.min-n.ensures, c.held.ensures) in
+    let count : n ≡ min c.args.most (length (held_frames c.args.registry.now c.args.buffer)) = omega (arith, c.min-n.ensures, c.held_at.ensures) in
     c.fill.ensures
     ∙ (λ i. with_piece id (replicate (more i) 0) (c.drain_frames.ensures.outputs i))
     ∙ with_piece-with_piece id (frames_out format (take n fs)) (replicate ((least_by s.kind c.args.most - n) * m) 0) out
@@ -50,5 +50,5 @@ pub returns-clause-size : goal.returns-clause-size
 returns-clause-size c =
     let t = c.args.registry.now in let s = c.args.step.now in let format = s.format in
     let fs = held_frames t c.args.buffer in
-    let count : c.min-n.result ≡ min c.args.most (length (held_frames t c.args.buffer)) = omega (arith, c.min-n.ensures, c.held.ensures) in
+    let count : c.min-n.result ≡ min c.args.most (length (held_frames t c.args.buffer)) = omega (arith, c.min-n.ensures, c.held_at.ensures) in
     ap (λ k. length (frames_out format (take k fs))) (sym count) ∙ c.drain_frames.ensures.size ∙ ap (λ k. k * (s.channels * width format)) count

@@ -1,4 +1,4 @@
-use Rattle.std.proofs.Common.{◌≡◌, sym, ap, ◌∙◌, subst, ℕ, suc, ◌+◌, ◌-◌, ◌^◌, ◌<◌, ◌≤◌, List, [], ◌∷◌, ◌++◌, map, take, drop, length, get_or, All, false, None, arith}
+use Rattle.std.proofs.Common.{◌≡◌, sym, ap, ◌∙◌, subst, ℕ, suc, ◌+◌, ◌-◌, ◌^◌, ◌<◌, ◌≤◌, List, [], ◌∷◌, ◌++◌, map, take, drop, length, get_or, All, false, arith}
 use Rattle.std.proofs.lemmas.List.{take_more, drop_more, take_all, length-map, get_or-map}
 use Rattle.std.specs.Prelude.{nat_eq}
 use Rattle.std.specs.List.{AllByRecursion, IsDistinct}
@@ -32,7 +32,7 @@ each-low (x ∷ xs) low = (low 0 x (omega arith), each-low xs (λ k d within. lo
 
 -- what is read past the last step
 abbrev blank : Step
-blank = record { id = 0; kind = HostPlay; format = S16; active = false; channels = 0; period = 0; rate = 0; whole = 0; over = 0; fed = None; first = 0; past = 0; end = 0 }
+blank = record { id = 0; place = 0; kind = HostPlay; format = S16; active = false; channels = 0; period = 0; rate = 0; whole = 0; over = 0; first = 0; past = 0; end = 0 }
 
 -- the id of a step
 id-of : (ss : List Step) (i : ℕ) (d : Step) → i < length ss → (get_or ss i d).id ≡ get_or (map (λ (s : Step). s.id) ss) i 0
@@ -56,9 +56,12 @@ pub move_by-requires-clause-step : goal.move_by-requires-clause-step
 move_by-requires-clause-step c =
     let t = c.loop-i.registry in let steps = c.as_slice-steps.result.now in let i = c.loop-i.i in
     let now = schedule-seen c.args.registry.now t c.args.schedule.now (sym (view-still t c.args.registry.now c.loop-i.invariant.stage.bare)) c.requires.schedule in
-    let all : AllByRecursion (IsStepOf (view_by t) c.as_slice-ends.result.now) steps =
-    subst (λ (p : List ℕ × List Step). AllByRecursion (IsStepOf (view_by t) p.0) p.1) (λ j. (sym c.as_slice-ends.ensures.value j, sym c.as_slice-steps.ensures.value j)) now.steps in
-    all-at (IsStepOf (view_by t) c.as_slice-ends.result.now) steps i blank c.loop-i-test.true all
+    let ids = c.args.schedule.now.ends.ids.items in
+    all-at (IsStepOf (view_by t) ids) steps i blank c.loop-i-test.true (subst (AllByRecursion (IsStepOf (view_by t) ids)) (sym c.as_slice-steps.ensures.value) now.steps)
+
+pub move_by-requires-clause-places : goal.move_by-requires-clause-places
+move_by-requires-clause-places c =
+    (schedule-seen c.args.registry.now c.loop-i.registry c.args.schedule.now (sym (view-still c.loop-i.registry c.args.registry.now c.loop-i.invariant.stage.bare)) c.requires.schedule).places
 
 pub move_by-requires-clause-room : goal.move_by-requires-clause-room
 move_by-requires-clause-room c =

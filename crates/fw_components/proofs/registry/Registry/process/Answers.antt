@@ -1,24 +1,50 @@
-use Rattle.std.proofs.Common.{◌≡◌, ◌≤◌, ◌∙◌, refl, sym, ap, subst, false, length, List, Option, Some, true, set, ◌==◌}
+use Rattle.std.proofs.Common.{◌≡◌, ◌≤◌, ◌∙◌, sym, ap, subst, false, length, List, Option, true, ◌==◌}
 use Rattle.std.proofs.lemmas.Bool.{false≢true}
-use Rattle.std.specs.Prelude.{position, find}
+use Rattle.std.specs.Prelude.{position}
 use Rattle.std.specs.List.{AllByRecursion}
 use Rattle.std.specs.Option.{option_map_or}
-use Rattle.stream_law.specs.declared.graph.Join.{Join}
 use Rattle.fw_units.specs.declared.component.Component.{Component}
-use Rattle.fw_components.specs.Tables.{Tables}
 use Rattle.fw_units.specs.Changes.{has_id}
-use Rattle.fw_units.specs.Frames.{kept_words, staged_in}
-use Rattle.fw_components.specs.Frames.{words_at}
-use Rattle.fw_components.specs.Laid.{tables_of}
-use Rattle.fw_moves.specs.Processed.{moves_of, IsInlet, IsOutlet, chosen_by, output_number, run_by}
-use Rattle.fw_components.specs.Processed.{moves_at, feeds_at, channels_moved, made_at, output_at, numbers_made_at, processed}
-use Rattle.fw_moves.specs.Moving.{CanMove, IsMoved}
 use Rattle.fw_units.proofs.Ids.{all-by}
-use Rattle.fw_units.proofs.Putting.{put-words}
-use Rattle.fw_units.proofs.Taking.{taken-found, never-found-by}
-use Rattle.fw_components.proofs.ProcessLaws.{can-process, now-processed, now-numbers, now-staged, now-kept}
-use Rattle.fw_components.proofs.TallyKept.{processed-tallied}
+use Rattle.fw_units.proofs.Taking.{never-found-by}
+use Rattle.fw_moves.specs.Processed.{moves_of, IsInlet, IsOutlet}
+use Rattle.fw_components.specs.Tables.{Tables}
+use Rattle.fw_components.specs.Laid.{tables_of}
+use Rattle.fw_components.specs.Processed.{moves_at, channels_moved}
+use Rattle.fw_components.proofs.ProcessLaws.{few-there, distinct-front, distinct-back}
 use Rattle.fw_components.proofs.registry.Registry.process.Goals as goal
+
+pub places_in-from-requires-clause-there : goal.places_in-from-requires-clause-there
+places_in-from-requires-clause-there c =
+    let t = c.args.self.now in
+    let same : c.as_slice-in-Some.result.now ≡ t.buffers = c.as_slice-in-Some.ensures.value ∙ ap (λ (t : Tables). t.buffers) c.self.view_is in
+    subst (λ (cs : List Component). AllByRecursion (λ b. has_id cs b ≡ true) c.args.looked.now) (sym same)
+    (all-by (IsInlet t.buffers (channels_moved t c.args.id) c.args.n) (λ b. has_id t.buffers b ≡ true) (λ b inlet. inlet.there) c.args.looked.now c.requires.looked)
+
+pub places_in-from-requires-clause-few : goal.places_in-from-requires-clause-few
+places_in-from-requires-clause-few c =
+    let t = c.args.self.now in
+    let same : c.as_slice-in-Some.result.now ≡ t.buffers = c.as_slice-in-Some.ensures.value ∙ ap (λ (t : Tables). t.buffers) c.self.view_is in
+    let few : length c.as_slice-in-Some.result.now ≤ 128 = subst (λ (cs : List Component). length cs ≤ 128) (sym c.as_slice-in-Some.ensures.value) c.self.invariant.kept.buffers in
+    let there = subst (λ (cs : List Component). AllByRecursion (λ b. has_id cs b ≡ true) c.args.looked.now) (sym same)
+    (all-by (IsInlet t.buffers (channels_moved t c.args.id) c.args.n) (λ b. has_id t.buffers b ≡ true) (λ b inlet. inlet.there) c.args.looked.now c.requires.looked) in
+    (few-there c.args.looked.now c.as_slice-in-Some.result.now few (distinct-front c.args.looked.now c.args.fed.now c.requires.single) there, few)
+
+pub places_in-to-requires-clause-there : goal.places_in-to-requires-clause-there
+places_in-to-requires-clause-there c =
+    let t = c.args.self.now in
+    let same : c.as_slice-in-Some-2.result.now ≡ t.buffers = c.as_slice-in-Some-2.ensures.value ∙ ap (λ (t : Tables). t.buffers) c.self.view_is in
+    subst (λ (cs : List Component). AllByRecursion (λ b. has_id cs b ≡ true) c.args.fed.now) (sym same)
+    (all-by (IsOutlet t.buffers (channels_moved t c.args.id) c.args.n) (λ b. has_id t.buffers b ≡ true) (λ b outlet. outlet.there) c.args.fed.now c.requires.fed)
+
+pub places_in-to-requires-clause-few : goal.places_in-to-requires-clause-few
+places_in-to-requires-clause-few c =
+    let t = c.args.self.now in
+    let same : c.as_slice-in-Some-2.result.now ≡ t.buffers = c.as_slice-in-Some-2.ensures.value ∙ ap (λ (t : Tables). t.buffers) c.self.view_is in
+    let few : length c.as_slice-in-Some-2.result.now ≤ 128 = subst (λ (cs : List Component). length cs ≤ 128) (sym c.as_slice-in-Some-2.ensures.value) c.self.invariant.kept.buffers in
+    let there = subst (λ (cs : List Component). AllByRecursion (λ b. has_id cs b ≡ true) c.args.fed.now) (sym same)
+    (all-by (IsOutlet t.buffers (channels_moved t c.args.id) c.args.n) (λ b. has_id t.buffers b ≡ true) (λ b outlet. outlet.there) c.args.fed.now c.requires.fed) in
+    (few-there c.args.fed.now c.as_slice-in-Some-2.result.now few (distinct-back c.args.looked.now c.args.fed.now c.requires.single) there, few)
 
 pub unreachable-requires : goal.unreachable-requires
 unreachable-requires c =
@@ -28,116 +54,3 @@ unreachable-requires c =
     false≢true (
     sym (ap (λ (o : Option Component). option_map_or (λ y. moves_of y.unit inlets) o false) (never-found-by id t.comps (c.in-None.ensures ∙ ap (position (λ (y : Component). y.id == id)) c.as_slice.ensures.value)))
     ∙ ap (λ (t : Tables). moves_at t id inlets) c.self.view_is ∙ c.requires.unit)
-
-pub copy_frames-requires : goal.copy_frames-requires
-copy_frames-requires c =
-    let t = tables_of c.self.inside in
-    let id = c.args.id in
-    let looked = c.args.looked.now in
-    let fed = c.args.fed.now in
-    let n = c.args.n in
-    let x = c.index_mut.result.now in
-    let place : Some c.in-Some.at ≡ position (λ (y : Component). y.id == id) t.comps = c.in-Some.ensures ∙ ap (position (λ (y : Component). y.id == id)) c.as_slice.ensures.value in
-    let it : Some x ≡ find (λ (y : Component). y.id == id) t.comps = ap (λ (y : Component). Some y) c.index_mut.ensures.value ∙ taken-found id t.comps c.in-Some.at _ place in
-    let can : CanMove t.buffers looked fed n x =
-    can-process t id x it c.self.invariant.kept looked fed n
-    (ap (λ (t : Tables). moves_at t id (length looked)) c.self.view_is ∙ c.requires.unit)
-    (ap (λ (t : Tables). feeds_at t id (length fed)) c.self.view_is ∙ c.requires.feeds)
-    c.requires.single
-    (subst (λ (t : Tables). AllByRecursion (IsInlet t.buffers (channels_moved t id) n) looked) (sym c.self.view_is) c.requires.looked)
-    (subst (λ (t : Tables). AllByRecursion (IsOutlet t.buffers (channels_moved t id) n) fed) (sym c.self.view_is) c.requires.fed) in
-    can
-
-pub invariant_of-self : goal.invariant_of-self
-invariant_of-self c =
-    let t = tables_of c.self.inside in
-    let id = c.args.id in
-    let looked = c.args.looked.now in
-    let fed = c.args.fed.now in
-    let n = c.args.n in
-    let x = c.index_mut.result.now in
-    let place : Some c.in-Some.at ≡ position (λ (y : Component). y.id == id) t.comps = c.in-Some.ensures ∙ ap (position (λ (y : Component). y.id == id)) c.as_slice.ensures.value in
-    let it : Some x ≡ find (λ (y : Component). y.id == id) t.comps = ap (λ (y : Component). Some y) c.index_mut.ensures.value ∙ taken-found id t.comps c.in-Some.at _ place in
-    let moved : IsMoved (chosen_by x.unit x.id t.joins) (output_number t.joins x.id) looked fed n t.buffers x c.copy_frames.new.buffers.items c.copy_frames.new.component =
-    subst (λ (js : List Join). IsMoved (chosen_by x.unit x.id js) (output_number js x.id) looked fed n t.buffers x c.copy_frames.new.buffers.items c.copy_frames.new.component) c.as_slice-in-Some.ensures.value c.copy_frames.ensures.moved in
-    let comps = set t.comps c.in-Some.at c.copy_frames.new.component in
-    let put = put-words (λ w. run_by w n) (λ w y. refl) id c.in-Some.at t.comps comps c.copy_frames.new.component x c.self.invariant.kept.named.comps place refl (moved.component ∙ ap (run_by (kept_words c.copy_frames.new.component) n) c.index_mut.ensures.value) in
-    record {
-      comps = c.self.invariant.comps;
-      buffers = subst (λ k. 128 ≤ k) (sym c.copy_frames.ensures.capacity) c.self.invariant.buffers;
-      pipes = c.self.invariant.pipes;
-      joins = c.self.invariant.joins;
-      kept = now-kept t id x it c.self.invariant.kept looked fed n c.copy_frames.new.component comps c.copy_frames.new.buffers.items _ put.1 moved;
-      tallied = processed-tallied t c.self.inside.tallies c.self.invariant.tallied id n looked fed _ _ _ comps c.copy_frames.new.buffers.items put.1 moved.table;
-    }
-
-pub returns-clause-tables : goal.returns-clause-tables
-returns-clause-tables c =
-    let t = tables_of c.self.inside in
-    let id = c.args.id in
-    let looked = c.args.looked.now in
-    let fed = c.args.fed.now in
-    let n = c.args.n in
-    let x = c.index_mut.result.now in
-    let place : Some c.in-Some.at ≡ position (λ (y : Component). y.id == id) t.comps = c.in-Some.ensures ∙ ap (position (λ (y : Component). y.id == id)) c.as_slice.ensures.value in
-    let it : Some x ≡ find (λ (y : Component). y.id == id) t.comps = ap (λ (y : Component). Some y) c.index_mut.ensures.value ∙ taken-found id t.comps c.in-Some.at _ place in
-    let can : CanMove t.buffers looked fed n x =
-    can-process t id x it c.self.invariant.kept looked fed n
-    (ap (λ (t : Tables). moves_at t id (length looked)) c.self.view_is ∙ c.requires.unit)
-    (ap (λ (t : Tables). feeds_at t id (length fed)) c.self.view_is ∙ c.requires.feeds)
-    c.requires.single
-    (subst (λ (t : Tables). AllByRecursion (IsInlet t.buffers (channels_moved t id) n) looked) (sym c.self.view_is) c.requires.looked)
-    (subst (λ (t : Tables). AllByRecursion (IsOutlet t.buffers (channels_moved t id) n) fed) (sym c.self.view_is) c.requires.fed) in
-    let moved : IsMoved (chosen_by x.unit x.id t.joins) (output_number t.joins x.id) looked fed n t.buffers x c.copy_frames.new.buffers.items c.copy_frames.new.component =
-    subst (λ (js : List Join). IsMoved (chosen_by x.unit x.id js) (output_number js x.id) looked fed n t.buffers x c.copy_frames.new.buffers.items c.copy_frames.new.component) c.as_slice-in-Some.ensures.value c.copy_frames.ensures.moved in
-    let comps = set t.comps c.in-Some.at c.copy_frames.new.component in
-    let put = put-words (λ w. run_by w n) (λ w y. refl) id c.in-Some.at t.comps comps c.copy_frames.new.component x c.self.invariant.kept.named.comps place refl (moved.component ∙ ap (run_by (kept_words c.copy_frames.new.component) n) c.index_mut.ensures.value) in
-    let now : Tables = record { comps = comps; buffers = c.copy_frames.new.buffers.items; pipes = t.pipes; joins = t.joins } in
-    now-processed t id x it c.self.invariant.kept looked fed n (all-by (IsOutlet t.buffers x.channels n) (λ b. has_id t.buffers b ≡ true) (λ b outlet. outlet.there) fed can.outlets) c.copy_frames.new.component comps c.copy_frames.new.buffers.items put.0 put.1 moved
-    ∙ ap (λ (t : Tables). processed id looked n fed (λ b. output_at t id b (made_at t id looked n)) (words_at now) (words_at now id) t) c.self.view_is
-
-pub returns-clause-numbers : goal.returns-clause-numbers
-returns-clause-numbers c =
-    let t = tables_of c.self.inside in
-    let id = c.args.id in
-    let looked = c.args.looked.now in
-    let fed = c.args.fed.now in
-    let n = c.args.n in
-    let x = c.index_mut.result.now in
-    let place : Some c.in-Some.at ≡ position (λ (y : Component). y.id == id) t.comps = c.in-Some.ensures ∙ ap (position (λ (y : Component). y.id == id)) c.as_slice.ensures.value in
-    let it : Some x ≡ find (λ (y : Component). y.id == id) t.comps = ap (λ (y : Component). Some y) c.index_mut.ensures.value ∙ taken-found id t.comps c.in-Some.at _ place in
-    let can : CanMove t.buffers looked fed n x =
-    can-process t id x it c.self.invariant.kept looked fed n
-    (ap (λ (t : Tables). moves_at t id (length looked)) c.self.view_is ∙ c.requires.unit)
-    (ap (λ (t : Tables). feeds_at t id (length fed)) c.self.view_is ∙ c.requires.feeds)
-    c.requires.single
-    (subst (λ (t : Tables). AllByRecursion (IsInlet t.buffers (channels_moved t id) n) looked) (sym c.self.view_is) c.requires.looked)
-    (subst (λ (t : Tables). AllByRecursion (IsOutlet t.buffers (channels_moved t id) n) fed) (sym c.self.view_is) c.requires.fed) in
-    let moved : IsMoved (chosen_by x.unit x.id t.joins) (output_number t.joins x.id) looked fed n t.buffers x c.copy_frames.new.buffers.items c.copy_frames.new.component =
-    subst (λ (js : List Join). IsMoved (chosen_by x.unit x.id js) (output_number js x.id) looked fed n t.buffers x c.copy_frames.new.buffers.items c.copy_frames.new.component) c.as_slice-in-Some.ensures.value c.copy_frames.ensures.moved in
-    let comps = set t.comps c.in-Some.at c.copy_frames.new.component in
-    let put = put-words (λ w. run_by w n) (λ w y. refl) id c.in-Some.at t.comps comps c.copy_frames.new.component x c.self.invariant.kept.named.comps place refl (moved.component ∙ ap (run_by (kept_words c.copy_frames.new.component) n) c.index_mut.ensures.value) in
-    now-numbers t id x it c.self.invariant.kept looked fed n (all-by (IsOutlet t.buffers x.channels n) (λ b. has_id t.buffers b ≡ true) (λ b outlet. outlet.there) fed can.outlets) c.copy_frames.new.component comps c.copy_frames.new.buffers.items put.0 put.1 moved ∙ ap (λ (t : Tables). numbers_made_at t id looked n) c.self.view_is
-
-pub returns-clause-staged : goal.returns-clause-staged
-returns-clause-staged c =
-    let t = tables_of c.self.inside in
-    let id = c.args.id in
-    let looked = c.args.looked.now in
-    let fed = c.args.fed.now in
-    let n = c.args.n in
-    let x = c.index_mut.result.now in
-    let place : Some c.in-Some.at ≡ position (λ (y : Component). y.id == id) t.comps = c.in-Some.ensures ∙ ap (position (λ (y : Component). y.id == id)) c.as_slice.ensures.value in
-    let it : Some x ≡ find (λ (y : Component). y.id == id) t.comps = ap (λ (y : Component). Some y) c.index_mut.ensures.value ∙ taken-found id t.comps c.in-Some.at _ place in
-    let can : CanMove t.buffers looked fed n x =
-    can-process t id x it c.self.invariant.kept looked fed n
-    (ap (λ (t : Tables). moves_at t id (length looked)) c.self.view_is ∙ c.requires.unit)
-    (ap (λ (t : Tables). feeds_at t id (length fed)) c.self.view_is ∙ c.requires.feeds)
-    c.requires.single
-    (subst (λ (t : Tables). AllByRecursion (IsInlet t.buffers (channels_moved t id) n) looked) (sym c.self.view_is) c.requires.looked)
-    (subst (λ (t : Tables). AllByRecursion (IsOutlet t.buffers (channels_moved t id) n) fed) (sym c.self.view_is) c.requires.fed) in
-    let moved : IsMoved (chosen_by x.unit x.id t.joins) (output_number t.joins x.id) looked fed n t.buffers x c.copy_frames.new.buffers.items c.copy_frames.new.component =
-    subst (λ (js : List Join). IsMoved (chosen_by x.unit x.id js) (output_number js x.id) looked fed n t.buffers x c.copy_frames.new.buffers.items c.copy_frames.new.component) c.as_slice-in-Some.ensures.value c.copy_frames.ensures.moved in
-    let comps = set t.comps c.in-Some.at c.copy_frames.new.component in
-    let put = put-words (λ w. run_by w n) (λ w y. refl) id c.in-Some.at t.comps comps c.copy_frames.new.component x c.self.invariant.kept.named.comps place refl (moved.component ∙ ap (run_by (kept_words c.copy_frames.new.component) n) c.index_mut.ensures.value) in
-    now-staged t id x it c.self.invariant.kept looked fed n (all-by (IsOutlet t.buffers x.channels n) (λ b. has_id t.buffers b ≡ true) (λ b outlet. outlet.there) fed can.outlets) c.copy_frames.new.component comps c.copy_frames.new.buffers.items put.0 put.1 moved ∙ ap (λ (t : Tables). staged_in t.comps id) c.self.view_is

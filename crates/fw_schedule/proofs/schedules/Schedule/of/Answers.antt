@@ -1,6 +1,6 @@
-use Rattle.std.proofs.Common.{◌≡◌, sym, ap, ◌∙◌, subst, ℕ, ◌<◌, ◌≤◌, List, [], ◌∷◌, ◌++◌, map, length, get_or, All, lit<, arith}
+use Rattle.std.proofs.Common.{◌≡◌, sym, ap, ◌∙◌, subst, ℕ, ◌<◌, ◌≤◌, List, [], ◌∷◌, ◌++◌, map, length, get_or, All, ◌==◌, Option, Some, lit<, arith}
 use Rattle.std.proofs.lemmas.List.{take_more, take_all, length-map, get_or-map, length-take, map-append}
-use Rattle.std.specs.Prelude.{slice_index}
+use Rattle.std.specs.Prelude.{position, slice_index}
 use Rattle.std.specs.List.{AllByRecursion}
 use Rattle.stream_law.specs.declared.graph.Edge.{Edge}
 use Rattle.stream_law.specs.Ways.{components}
@@ -29,11 +29,16 @@ places-all t places all = sym (length-map places (slice_index (components (graph
 edges-few : (t : Tables) → IsKept t → length (map (λ (e : Edge). e.buffer) (map edge_by t.buffers)) ≤ 128
 edges-few t kept = omega (arith, length-map (map edge_by t.buffers) (λ (e : Edge). e.buffer), length-map t.buffers edge_by, kept.buffers)
 
+-- where none are
+none-placed : (at : ℕ → Option ℕ) (ids places : List ℕ) → ids ≡ [] → places ≡ [] → map (λ k. Some k) places ≡ map at ids
+none-placed at ids places bare none = ap (map (λ (k : ℕ). Some k)) none ∙ sym (ap (map at) bare)
+
 pub loop-i-init : goal.loop-i-init
 loop-i-init c = record {
   ids = ap (map (λ (s : Step). s.id)) c.new-steps.ensures;
-  ends = c.new-ends.ensures;
-  steps = subst (AllByRecursion (IsStepOf (view_by c.args.registry.now) c.new-ends.result.items)) (sym c.new-steps.ensures) tt;
+  ends = c.new-ends.ensures.0;
+  steps = subst (AllByRecursion (IsStepOf (view_by c.args.registry.now) c.new-ends.result.ids.items)) (sym c.new-steps.ensures) tt;
+  places = none-placed (λ b. position (λ e. e.buffer == b) (map edge_by c.args.registry.now.buffers)) c.new-ends.result.ids.items c.new-ends.result.places.items c.new-ends.ensures.0 c.new-ends.ensures.1;
 }
 
 pub step_at-step-requires-clause-there : goal.step_at-step-requires-clause-there
@@ -65,7 +70,7 @@ loop-i-preserved c =
     let step : Step = c.step_at-step.result in
     let id : step.id ≡ get_or (order (graph_of t)) i 0 = c.step_at-step.ensures.id ∙ id-next t places i c.from.result all c.loop-i-test.true c.from.ensures in
     let low : i < length (order (graph_of t)) = omega (arith, places-all t places all, c.loop-i-test.true) in
-    let grown : c.step_at-step.new.ends.items ≡ c.loop-i.ends.items ++ step_edges v step.id = c.step_at-step.ensures.ends in
+    let grown : c.step_at-step.new.ends.ids.items ≡ c.loop-i.ends.ids.items ++ step_edges v step.id = c.step_at-step.ensures.ends in
     record {
       ids =
           ap (map (λ (s : Step). s.id)) c.push.ensures.items
@@ -77,10 +82,11 @@ loop-i-preserved c =
           ∙ (λ j. c.loop-i.invariant.ends j ++ step_edges v (id j))
           ∙ sym (all-more v (order (graph_of t)) i low);
       steps =
-          subst (AllByRecursion (IsStepOf v c.step_at-step.new.ends.items)) (sym c.push.ensures.items)
-          (steps-end v c.step_at-step.new.ends.items c.loop-i.steps.items step
-          (subst (λ (ids : List ℕ). AllByRecursion (IsStepOf v ids) c.loop-i.steps.items) (sym grown) (steps-more v c.loop-i.ends.items (step_edges v step.id) c.loop-i.steps.items c.loop-i.invariant.steps))
+          subst (AllByRecursion (IsStepOf v c.step_at-step.new.ends.ids.items)) (sym c.push.ensures.items)
+          (steps-end v c.step_at-step.new.ends.ids.items c.loop-i.steps.items step
+          (subst (λ (ids : List ℕ). AllByRecursion (IsStepOf v ids) c.loop-i.steps.items) (sym grown) (steps-more v c.loop-i.ends.ids.items (step_edges v step.id) c.loop-i.steps.items c.loop-i.invariant.steps))
           c.step_at-step.ensures.step);
+      places = c.step_at-step.ensures.places;
     }
 
 pub returns : goal.returns
@@ -90,4 +96,5 @@ returns c =
     record {
       order = c.loop-i.invariant.ids ∙ take_all c.loop-i.i (order (graph_of t)) (omega (arith, places-all t places all, c.loop-i-test.false));
       steps = c.loop-i.invariant.steps;
+      places = c.loop-i.invariant.places;
     }

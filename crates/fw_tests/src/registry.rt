@@ -147,10 +147,10 @@ fn fed_by_a_host(alloc: Global) -> Result<bool, NoMemory> {
     }
     registry.join(3, 5);
     registry.begin(5, params);
-    registry.push_bytes(5, Format::S32, 4, &FRAMES);
-    let (front, back) = registry.spans(5, 1);
+    registry.push_bytes(5, 0, Format::S32, 4, &FRAMES);
+    let (front, back) = registry.spans(5, 0, 1);
     let right = front == [1, 2].as_slice() && back.is_empty();
-    registry.shorten(5, 1);
+    registry.shorten(5, 0, 1);
     let held = registry.held(5);
     let free = registry.free(5);
     registry.end(5);
@@ -212,7 +212,7 @@ fn fed_and_pulled(alloc: Global) -> Result<(bool, bool), NoMemory> {
     registry.join(5, 3);
     registry.begin(5, params);
     registry.feed(3, &[1, 2, 3, 4, 5, 6]);
-    let (front, back) = registry.spans(5, 3);
+    let (front, back) = registry.spans(5, 0, 3);
     let fed = front == [1, 2, 3, 4, 5, 6].as_slice() && back.is_empty();
     let mut samples = [0; 4];
     registry.pull(3, &mut samples);

@@ -1,41 +1,29 @@
 -- What each message does to a firmware that takes it, and the acts that it takes one after the other.
-use Rattle.std.proofs.Common.{◌≡◌, ◌⊎◌, inl, inr, ℕ, ◌<◌, pos, List, [], ◌∷◌, map, length, Bool, true, false, cond, ◌==◌, Option, Some, None, unwrap_or, Ok, Err, refl, sym, ap, ◌∙◌, append-nil}
+use Rattle.std.proofs.Common.{◌≡◌, ◌⊎◌, inl, inr, ℕ, ◌<◌, List, [], ◌∷◌, map, length, Bool, true, false, cond, ◌==◌, Option, Some, None, Ok, Err, refl, sym, ap, ◌∙◌, append-nil}
 use Rattle.std.specs.Prelude.{option_and_then}
-use Rattle.std.specs.Option.{option_map}
 use Rattle.sof_base.specs.declared.errno.Errno.{Errno}
 use Rattle.sof_base.specs.declared.part.Part.{Part as Carried}
 use Rattle.stream_law.specs.declared.graph.Setting.{Setting}
-use Rattle.stream_law.specs.declared.graph.Comp.{Comp}
-use Rattle.stream_law.specs.declared.graph.Edge.{Edge}
-use Rattle.stream_law.specs.declared.graph.Pipe.{Pipe}
-use Rattle.stream_law.specs.Ways.{comp_of, edge_of, is_of}
+use Rattle.stream_law.specs.Ways.{comp_of, is_of}
 use Rattle.stream_law.specs.Seen.{seen, is_volume}
 use Rattle.stream_law.specs.Joins.{with_join}
 use Rattle.stream_law.specs.State.{FwState}
 use Rattle.ipc3_model.specs.declared.message.Message.{Message}
 use Rattle.ipc3_model.specs.declared.message.Message.TheVariants.{CompNew, CompFree, Connect, PipeNew, PipeFree, PipeComplete, BufferNew, BufferFree, CtxSave, SetValue, GetValue, SetData, PcmParams}
-use Rattle.ipc3_model.specs.declared.reply.Body.{Body}
 use Rattle.ipc3_model.specs.declared.reply.Body.TheVariants.{Nothing}
 use Rattle.ipc3_model.specs.Messages.{message_spelling, decoded}
 use Rattle.ipc3_model.specs.Meanings.{IsMessage}
 use Rattle.ipc3_model.proofs.Spelled.{decoded-spelling}
-use Rattle.mbox_link.specs.Step.{row, row_of, body, body_of, kind_of, first_setting, first_ramp, new_setting, with_setting_at, with_comp, with_buffer, with_pipe, with_pipes, with_params, with_staged, blob_installed, staged_bytes, staging_at, completed, no_memory}
+use Rattle.mbox_link.specs.Step.{row, row_of, body, kind_of, first_setting, first_ramp, new_setting, with_setting_at, with_comp, with_buffer, with_pipe, with_pipes, with_params, with_staged, blob_installed, staged_bytes, staging_at, completed, no_memory}
 use Rattle.tplg_plan.specs.declared.plans.Plan.{Plan}
-use Rattle.tplg_plan.specs.declared.plans.WidgetPlan.{WidgetPlan}
-use Rattle.tplg_plan.specs.declared.plans.ControlPlan.{ControlPlan}
 use Rattle.tplg_plan.specs.declared.plans.ControlKind.{ControlKind}
 use Rattle.tplg_plan.specs.declared.plans.ControlKind.TheVariants.{Volume}
-use Rattle.host_widgets.specs.Controls.{control_of}
-use Rattle.host_widgets.specs.HostActs.{Act, Make, Join, Put, Part, Finish, Prepare, Trig, Free, Save, Ask, Unmake}
-use Rattle.host_widgets.specs.ActMessages.{act_message, set_message, put_message, unmake_by}
-use Rattle.host_widgets.specs.Acts.{widget_words, pipe_by_id, comp_message, buffer_message, pipe_message}
+use Rattle.host_widgets.specs.HostActs.{Act}
+use Rattle.host_widgets.specs.ActMessages.{act_message, set_message}
 use Rattle.host_widgets.specs.Expected.{needed_by}
-use Rattle.host_widgets.specs.Host.{verdict, errno}
+use Rattle.host_widgets.specs.Host.{errno}
 use Rattle.host_widgets.specs.OneAct.{own}
 use Rattle.host_widgets.specs.declared.kept.Record.{Record}
-use Rattle.host_widgets.specs.declared.trigger.Trigger.TheVariants.{Start, Stop, Pause, Release}
-use Rattle.host_widgets.proofs.ReplyErrors.{reply_with, done_reply}
-use Rattle.host_widgets.proofs.Exchanges.{verdict-zero}
 use Rattle.host_widgets.proofs.SilentTicks.{at, IsStill}
 use Rattle.host_widgets.proofs.PartRows.{part_effect}
 
@@ -93,14 +81,8 @@ abbrev pub effects : Plan → List Act → FwState → FwState
 effects plan [] g = g
 effects plan (act ∷ acts) g = effects plan acts (effect (act_message plan act) g)
 
--- all but an act that asks for values are answered by an error number alone
-abbrev pub IsTold : Act → Type 0
-IsTold (Ask comp k) = ⊥
-IsTold act = Unit {0}
-
 -- in this state the firmware takes the act exactly where it has no refusal of its own
 pub record Follows (plan : Plan) (heap : ℕ) (kept : Record) (g : FwState) (act : Act) : Type 0 where
-  pub told : IsTold act
   pub still : IsStill g
   pub message : IsMessage (act_message plan act)
   pub passes : own plan heap kept act ≡ None → (t : ℕ) → row (at g t) (act_message plan act) ≡ Ok (effect (act_message plan act) (at g t))
@@ -112,42 +94,11 @@ abbrev pub FollowAll : Plan → ℕ → Record → FwState → List Act → Type
 FollowAll plan heap kept g [] = Unit {0}
 FollowAll plan heap kept g (act ∷ acts) = Follows plan heap kept g act × (own plan heap kept act ≡ None → FollowAll plan heap kept (effect (act_message plan act) g) acts)
 
--- ---- the reply has no body
-
-made-bare : (f : FwState) (id : ℕ) (k : Option ControlPlan) (w : WidgetPlan) (c : Option Comp) (e : Option Edge) (p : Option Pipe) → body f (unwrap_or (option_map (comp_message id k w) c) (unwrap_or (option_map (buffer_message id w) e) (unwrap_or (option_map (λ p. pipe_message id w p.sched p.period) p) (pipe_message id w 0 0)))) ≡ Nothing
-made-bare f id k w (Some c) e p = refl
-made-bare f id k w None (Some e) p = refl
-made-bare f id k w None None (Some p) = refl
-made-bare f id k w None None None = refl
+-- ---- the reply to values has no body
 
 pub set-bare : (f : FwState) (comp : ℕ) (values : List ℕ) (kind : ControlKind) → body f (set_message comp values kind) ≡ Nothing
 set-bare f comp values (Volume min max channels lowest step mute) = refl
 set-bare f comp values kind = refl
-
-put-bare : (f : FwState) (comp : ℕ) (values : List ℕ) (k : Option ControlPlan) → body f (put_message comp values k) ≡ Nothing
-put-bare f comp values (Some k) = set-bare f comp values k.kind
-put-bare f comp values None = refl
-
-unmake-bare : (f : FwState) (id : ℕ) (c : Option Comp) (e : Option Edge) → body f (unmake_by c e id) ≡ Nothing
-unmake-bare f id (Some c) e = refl
-unmake-bare f id None (Some e) = refl
-unmake-bare f id None None = refl
-
-act-bare : (f : FwState) (plan : Plan) (act : Act) → IsTold act → body f (act_message plan act) ≡ Nothing
-act-bare f plan (Make id) told = made-bare f id (control_of plan id) (widget_words plan id) (comp_of plan.graph id) (edge_of plan.graph id) (pipe_by_id plan id)
-act-bare f plan (Join source sink) told = refl
-act-bare f plan (Put comp values) told = put-bare f comp values (control_of plan comp)
-act-bare f plan (Part comp blob k) told = refl
-act-bare f plan (Finish id) told = refl
-act-bare f plan (Prepare host params) told = refl
-act-bare f plan (Trig host Start) told = refl
-act-bare f plan (Trig host Stop) told = refl
-act-bare f plan (Trig host Pause) told = refl
-act-bare f plan (Trig host Release) told = refl
-act-bare f plan (Free host) told = refl
-act-bare f plan Save told = refl
-act-bare f plan (Ask comp k) told = absurd told
-act-bare f plan (Unmake id) told = unmake-bare f id (comp_of plan.graph id) (edge_of plan.graph id)
 
 -- ---- one exchange
 
@@ -156,12 +107,6 @@ decoded-message m is = ap decoded (sym (append-nil (message_spelling m))) ∙ de
 
 pub row-decoded : (f : FwState) (m : Message) → IsMessage m → row_of f (decoded (message_spelling m)) ≡ row f m
 row-decoded f m is = ap (row_of f) (decoded-message m is)
-
--- an act that was done is answered 0
-pub verdict-done : (f : FwState) (plan : Plan) (act : Act) (answer : Option (List ℕ)) → IsTold act → IsMessage (act_message plan act) → answer ≡ Some (done_reply (body_of f (decoded (message_spelling (act_message plan act))))) → verdict answer ≡ Ok (reply_with (pos 0))
-verdict-done f plan act answer told is said =
-    let none : body_of f (decoded (message_spelling (act_message plan act))) ≡ Nothing = ap (body_of f) (decoded-message (act_message plan act) is) ∙ act-bare f plan act told in
-    ap verdict said ∙ ap (λ (b : Body). verdict (Some (done_reply b))) none ∙ verdict-zero
 
 pub own_cases : (o : Option Errno) → (o ≡ None) ⊎ ((e : Errno) × (o ≡ Some e))
 own_cases None = inl refl

@@ -6,6 +6,7 @@ pub mod PartRows
 pub mod SilentTicks
 pub mod Carving
 pub mod Effects
+pub mod AfterExchange
 pub mod ManyEffects
 pub mod QuietStates
 pub mod StagedParts
@@ -51,9 +52,7 @@ pub mod LoadOrders
 pub mod LoadEnds
 pub mod SoundPlays
 pub mod StandingOn
-pub mod ActHolds
 pub mod WalksHold
-pub mod PartsCome
 pub mod PartsReady
 pub mod BuildingMoments
 pub mod LinkEnds
@@ -62,7 +61,6 @@ pub mod ActSteps
 pub mod AnsweredActs
 pub mod PlainOrders
 pub mod OrderJobs
-pub mod OneOrder
 pub mod ChangedPlaces
 pub mod SidesKept
 pub mod NeedLaws

@@ -1,16 +1,14 @@
 -- Messages that make pipelines, sent one after another, with those that passed.
-use Rattle.std.proofs.Common.{◌≡◌, refl, sym, ap, subst, ◌∙◌, ℕ, zero, suc, ◌+◌, ◌*◌, ◌<◌, List, [], ◌∷◌, ◌++◌, map, filter, take, drop, length, get_or, Bool, true, false, cond, Option, None, is_some, Result, Ok, Err, MatchResult, append-nil, take-append-drop, arith}
+use Rattle.std.proofs.Common.{◌≡◌, refl, sym, ap, subst, ◌∙◌, ℕ, zero, suc, ◌+◌, ◌<◌, List, [], ◌∷◌, ◌++◌, map, filter, take, drop, length, get_or, Bool, true, false, cond, Option, None, Result, Ok, Err, MatchResult, append-nil, take-append-drop, arith}
 use Rattle.std.specs.List.{filter_map, cons_option, flat_map, AllByRecursion}
 use Rattle.std.proofs.lemmas.List.{take_more}
 use Rattle.std.proofs.lemmas.Result.{MatchResult-weaker}
-use Rattle.sof_base.specs.Ports.{HasRoom}
 use Rattle.stream_law.specs.declared.graph.Pipe.{Pipe}
 use Rattle.stream_law.specs.Order.{is_among}
 use Rattle.stream_law.specs.declared.graph.Join.{Join as Joined}
 use Rattle.ipc3_model.specs.declared.reply.Reply.{Reply}
 use Rattle.ipc3_model.specs.Messages.{message_spelling}
-use Rattle.mbox_link.specs.Calls.{World, Meaning, Exchanged}
-use Rattle.mbox_link.proofs.Rooms.{HasRoom-now}
+use Rattle.mbox_link.specs.Calls.{World, Meaning}
 use Rattle.tplg_plan.specs.declared.plans.Plan.{Plan}
 use Rattle.host_widgets.specs.declared.answers.HostFault.{HostFault}
 use Rattle.host_widgets.specs.HostActs.{Act, Make, Join, Finish}
@@ -23,8 +21,7 @@ use Rattle.host_widgets.specs.Groups.{is_control_of, put_acts_of, finish_acts_of
 use Rattle.host_widgets.specs.Host.{Outcome, verdict}
 use Rattle.host_widgets.specs.MadeLists.{ActsPassed, MadeListed, widget_made}
 use Rattle.host_widgets.proofs.ControlLists.{Pair}
-use Rattle.host_widgets.proofs.Exchanges.{state_of, came, Came-on}
-use Rattle.host_widgets.proofs.Walks.{passing}
+use Rattle.host_widgets.proofs.Walks.{passing, IsOn, HasPendingRoom, sent-on, sent-room}
 
 -- what is so of all is so of the one at a place
 pub all-at : {X : Type 0} (P : X → Type 0) (xs : List X) (i : ℕ) (d : X) → i < length xs → AllByRecursion P xs → P (get_or xs i d)
@@ -116,35 +113,17 @@ module _ {D : Type 0} (means : Meaning D) (plan : Plan) where
       by (Ok reply) (rest, at, sent) go = at ∙ ap (λ (xs : List Act). act ∷ xs) (go rest sent)
       by (Err fault) end go = absurd (cc end.2)
 
-  -- ---- what they keep
+  -- the same without what passed
+  pub listed-sent : (acts : List Act) (ps : List Act) (w v : World D) (result : Outcome) → ActsPassed means plan acts ps w v result → ActsSent means plan acts w v result
+  listed-sent [] ps w v result sent = (sent.1, sent.2)
+  listed-sent (act ∷ acts) ps w v result (mid, answer, x, on) = (mid, answer, x, MatchResult-weaker (verdict answer) on (λ reply r. listed-sent acts r.0 mid v result r.2) (λ fault end. (end.1, end.2)))
 
-  module _ (Kept : World D → Type 0) (each : (request : List ℕ) (answer : Option (List ℕ)) (w v : World D) → Exchanged means request answer w v → Kept w → Kept v) where
-    pub listed-keep : (acts ps : List Act) (w v : World D) (result : Outcome) → ActsPassed means plan acts ps w v result → Kept w → Kept v
-    listed-keep [] ps w v result sent kept = subst Kept (sym sent.1) kept
-    listed-keep (act ∷ acts) ps w v result (mid, answer, x, on) kept = by (verdict answer) on (each (message_spelling (act_message plan act)) answer w mid x kept) (λ rest sent now. listed-keep acts rest mid v result sent now)
-      where
-        by : (r : Result Reply HostFault) → MatchResult r (λ reply. (rest : List Act) × (ps ≡ act ∷ rest) × ActsPassed means plan acts rest mid v result) (λ fault. (ps ≡ []) × (v ≡ mid) × (result ≡ Err fault)) → Kept mid →
-            ((rest : List Act) → ActsPassed means plan acts rest mid v result → Kept mid → Kept v) → Kept v
-        by (Ok reply) (rest, at, sent) now go = go rest sent now
-        by (Err fault) end now go = subst Kept (sym end.1) now
+  -- so they keep what acts keep that were sent
+  pub listed-on : (acts ps : List Act) (w v : World D) (result : Outcome) → ActsPassed means plan acts ps w v result → IsOn means plan w → IsOn means plan v
+  listed-on acts ps w v result sent = sent-on means plan acts w v result (listed-sent acts ps w v result sent)
 
-  abbrev pub IsOn : World D → Type 0
-  IsOn w = is_some (means.on w.device) ≡ true
-
-  abbrev pub HasPendingRoom : World D → Type 0
-  HasPendingRoom w = HasRoom (61440 * means.pending w.device) w.io.outputs
-
-  pub on-stays : (request : List ℕ) (answer : Option (List ℕ)) (w v : World D) → Exchanged means request answer w v → IsOn w → IsOn v
-  on-stays request answer w v x on = let s = state_of (means.on w.device) on in Came-on means request answer w v _ (came means request answer w v s.0 s.1 x)
-
-  pub room-stays : (request : List ℕ) (answer : Option (List ℕ)) (w v : World D) → Exchanged means request answer w v → HasPendingRoom w → HasPendingRoom v
-  room-stays request answer w v x room = HasRoom-now (61440 * means.pending w.device) (61440 * means.pending v.device) w.io.outputs v.io.outputs x.room room
-
-  pub listed-on : (acts ps : List Act) (w v : World D) (result : Outcome) → ActsPassed means plan acts ps w v result → IsOn w → IsOn v
-  listed-on = listed-keep IsOn on-stays
-
-  pub listed-room : (acts ps : List Act) (w v : World D) (result : Outcome) → ActsPassed means plan acts ps w v result → HasPendingRoom w → HasPendingRoom v
-  listed-room = listed-keep HasPendingRoom room-stays
+  pub listed-room : (acts ps : List Act) (w v : World D) (result : Outcome) → ActsPassed means plan acts ps w v result → HasPendingRoom means plan w → HasPendingRoom means plan v
+  listed-room acts ps w v result sent = sent-room means plan acts w v result (listed-sent acts ps w v result sent)
 
   -- ---- the turns of a loop over items that each are an act
 
@@ -196,11 +175,6 @@ module _ {D : Type 0} (means : Meaning D) (plan : Plan) where
           ((rest : List Act) → ActsPassed means plan acts rest mid v result → filter_map widget_made rest ≡ []) → filter_map widget_made ps ≡ []
       by (Ok reply) (rest, at, sent) go = ap (filter_map widget_made) at ∙ ap (λ (o : Option ℕ). cons_option o (filter_map widget_made rest)) none.0 ∙ go rest sent
       by (Err fault) end go = ap (filter_map widget_made) end.0
-
-  -- the same without what passed
-  pub listed-sent : (acts : List Act) (ps : List Act) (w v : World D) (result : Outcome) → ActsPassed means plan acts ps w v result → ActsSent means plan acts w v result
-  listed-sent [] ps w v result sent = (sent.1, sent.2)
-  listed-sent (act ∷ acts) ps w v result (mid, answer, x, on) = (mid, answer, x, MatchResult-weaker (verdict answer) on (λ reply r. listed-sent acts r.0 mid v result r.2) (λ fault end. (end.1, end.2)))
 
   -- these widgets were made, and are listed
   pub listed-so : (ids so_far : List ℕ) (made made' : List ℕ) (w v : World D) (result : Outcome) → ActsPassed means plan (map Make ids) (map Make so_far) w v result → made' ≡ made ++ so_far → MadeListed means plan (map Make ids) made made' w v result

@@ -1,13 +1,13 @@
 -- What acts that were sent did to a firmware that follows them.
-use Rattle.std.proofs.Common.{◌≡◌, ⊎_elim, ℕ, ◌+◌, ◌-◌, ◌≤◌, false, Bool, List, [], ◌∷◌, Option, Some, None, Result, Ok, Err, MatchResult, refl, sym, ap, subst, ◌∙◌, arith}
+use Rattle.std.proofs.Common.{◌≡◌, ℕ, ◌+◌, ◌-◌, ◌≤◌, false, Bool, List, [], ◌∷◌, Option, Some, None, Result, Ok, Err, MatchResult, refl, sym, ap, subst, ◌∙◌, arith}
 use Rattle.std.specs.List.{AllByRecursion}
 use Rattle.sof_base.specs.declared.errno.Errno.{Errno}
 use Rattle.sof_base.specs.Ports.{Io}
 use Rattle.stream_law.specs.State.{FwState}
 use Rattle.ipc3_model.specs.declared.reply.Reply.{Reply}
-use Rattle.ipc3_model.specs.Messages.{message_spelling, decoded}
+use Rattle.ipc3_model.specs.Messages.{message_spelling}
 use Rattle.mbox_link.specs.Meetings.{Meeting}
-use Rattle.mbox_link.specs.Step.{fresh, row, body_of}
+use Rattle.mbox_link.specs.Step.{fresh, row, no_memory}
 use Rattle.mbox_link.specs.Exchange.{ticks}
 use Rattle.mbox_link.specs.Calls.{World, Meaning, Exchanged}
 use Rattle.tplg_plan.specs.declared.plans.Plan.{Plan}
@@ -21,14 +21,13 @@ use Rattle.host_widgets.specs.Host.{Outcome, verdict}
 use Rattle.host_widgets.specs.Bringing.{Fits, BroughtUp}
 use Rattle.host_widgets.specs.OneAct.{act_rules, own, outcome_by, performed as came_by, lag_of}
 use Rattle.host_widgets.specs.Walk.{walk, followed_by, goes_past}
-use Rattle.host_widgets.specs.ActCalls.{ActDid, ActsDid, Onwards, came_to, next_of}
+use Rattle.host_widgets.specs.ActCalls.{ActsDid, Onwards, came_to, next_of}
 use Rattle.host_widgets.specs.ActCarried.{ActsSent}
 use Rattle.host_widgets.specs.TestedOrders.{ActsCame}
-use Rattle.host_widgets.proofs.ReplyErrors.{done_reply}
-use Rattle.host_widgets.proofs.Exchanges.{Came, came, verdict-number}
+use Rattle.host_widgets.proofs.Exchanges.{came}
 use Rattle.host_widgets.proofs.SilentTicks.{at, AreInputs, ticks-still}
-use Rattle.host_widgets.proofs.Effects.{effect, effects, effect-at, Follows, FollowAll, verdict-done, row-decoded}
-use Rattle.host_widgets.proofs.ActsCome.{answer_by, act-did}
+use Rattle.host_widgets.proofs.Effects.{effect, effects, effect-at, Follows, FollowAll}
+use Rattle.host_widgets.proofs.AfterExchange.{Says, it-came, Left, it-left, HasMet, met-came, act-met}
 use Rattle.host_widgets.proofs.BuildingActs.{Leaves, ends-at, walk-leaves}
 use Rattle.host_widgets.proofs.UpWalks.{passed-free}
 
@@ -41,9 +40,6 @@ module _ {D : Type 0} (means : Meaning D) (plan : Plan) (heap : ℕ) (kept : Rec
   -- ---- one act
 
   module _ (act : Act) (answer : Option (List ℕ)) (w v : World D) (g : FwState) (t : ℕ) (follows : Follows plan heap kept g act) (are : AreInputs w.io.inputs) (on : means.on w.device ≡ Some (at g t)) (x : Exchanged means (message_spelling (act_message plan act)) answer w v) where
-    abbrev request : List ℕ
-    request = message_spelling (act_message plan act)
-
     -- the clock after the ticks before this message
     abbrev later : ℕ
     later = t + (means.pending w.device - means.pending v.device)
@@ -51,39 +47,24 @@ module _ {D : Type 0} (means : Meaning D) (plan : Plan) (heap : ℕ) (kept : Rec
     ticked-so : ticks (means.pending w.device - means.pending v.device) (at g t, w.io) ≡ (at g later, w.io)
     ticked-so = ticks-still (means.pending w.device - means.pending v.device) g t w.io follows.still are
 
-    way_of : Came means request answer w v (at g later, w.io)
-    way_of = subst (Came means request answer w v) ticked-so (came means request answer w v (at g t) on x)
-
     pub same-io : v.io ≡ w.io
-    same-io = way_of.endpoints
+    same-io = (it-came means (act_message plan act) follows.message answer w v (at g t) on x).endpoints ∙ ap (λ (p : FwState × Io). p.1) ticked-so
 
-    row_by : (o : Option Errno) → own plan heap kept act ≡ o → (next : FwState) × (row (at g later) (act_message plan act) ≡ answer_by o next)
-    row_by None free = (effect (act_message plan act) (at g later), follows.passes free later)
-    row_by (Some e) refused =
-        let number : answer_by (Some e) (at g later) ≡ answer_by (Some _) (at g later) = ap (λ (n : Errno). answer_by (Some n) (at g later)) (follows.number e refused).0 in
-        (at g later, follows.refuses e refused later ∙ sym number)
+    row-then : row (ticks (means.pending w.device - means.pending v.device) (at g t, w.io)).0 (act_message plan act) ≡ row (at g later) (act_message plan act)
+    row-then = ap (λ (p : FwState × Io). row p.0 (act_message plan act)) ticked-so
 
-    passes : (f : FwState) → came_to (verdict (Some (done_reply (body_of f (decoded request))))) ≡ Ok tt
-    passes f = ap came_to (verdict-done f plan act (Some (done_reply (body_of f (decoded request)))) follows.told follows.message refl)
+    says-so : (o : Option Errno) → own plan heap kept act ≡ o → Says o (row (at g later) (act_message plan act))
+    says-so None free = (effect (act_message plan act) (at g later), follows.passes free later)
+    says-so (Some e) refused = (no_memory, follows.refuses e refused later, sym (follows.number e refused).0)
 
-    pub it-did : (m : Meeting) × (did : ActDid means (act_rules plan heap) kept act m w v) × (did.answer ≡ answer)
-    it-did =
-        let r = row_by (own plan heap kept act) refl in
-        act-did means plan heap kept act w v (at g t) on answer x follows.message passes r.0 (ap (λ (p : FwState × Io). row p.0 (act_message plan act)) ticked-so ∙ r.1)
+    pub it-did : HasMet means (act_rules plan heap) kept act answer w v
+    it-did = act-met means (act_rules plan heap) kept act answer w v follows.message (at g t) on x (subst (Says (own plan heap kept act)) (sym row-then) (says-so (own plan heap kept act) refl))
 
     pub it-took : (reply : Reply) → verdict answer ≡ Ok reply → own plan heap kept act ≡ None → means.on v.device ≡ Some (at (effect (act_message plan act) g) later)
-    it-took reply passed free = ⊎_elim
-        (λ took.
-        let row_is : row (at g later) (act_message plan act) ≡ Ok took.next = sym (row-decoded (at g later) (act_message plan act) follows.message) ∙ took.row in
-        let next : effect (act_message plan act) (at g later) ≡ took.next = cc (sym (follows.passes free later) ∙ row_is) in
-        took.on ∙ ap Some (sym next ∙ effect-at (act_message plan act) g later))
-        (λ rest. ⊎_elim
-        (λ it. absurd (cc (sym passed ∙ ap verdict it.said ∙ verdict-number it.error it.number)))
-        (λ rest. ⊎_elim
-        (λ it. absurd (cc (sym passed ∙ ap verdict it.said ∙ verdict-number it.error it.number)))
-        (λ it. absurd (cc (sym passed ∙ ap verdict it.said)))
-        rest) rest)
-        way_of.way
+    it-took reply passed free =
+        let l = subst (Left means (act_message plan act) follows.message answer w v (at g t) on x) (ap came_to passed) (it-left means (act_message plan act) follows.message answer w v (at g t) on x) in
+        let next : effect (act_message plan act) (at g later) ≡ l.0 = cc (sym (follows.passes free later) ∙ sym row-then ∙ l.2) in
+        l.1 ∙ ap Some (sym next ∙ effect-at (act_message plan act) g later)
 
   -- ---- acts that leave the record, one after another
 
@@ -123,11 +104,11 @@ module _ {D : Type 0} (means : Meaning D) (plan : Plan) (heap : ℕ) (kept : Rec
       io-stays : mid.io ≡ w.io
       io-stays = same-io act answer w mid g t follow.0 are on x
 
-      it : (m : Meeting) × (did : ActDid means (act_rules plan heap) kept act m w mid) × (did.answer ≡ answer)
+      it : HasMet means (act_rules plan heap) kept act answer w mid
       it = it-did act answer w mid g t follow.0 are on x
 
       came-is : came_to (verdict answer) ≡ outcome_by it.0.fate (own plan heap kept act)
-      came-is = ap (λ (a : Option (List ℕ)). came_to (verdict a)) (sym it.2) ∙ it.1.came
+      came-is = met-came means (act_rules plan heap) kept act answer w mid it
 
       by : (r : Result Reply HostFault) → verdict answer ≡ r → MatchResult r (λ reply. ActsSent means plan acts mid v result) (λ fault. (v ≡ mid) × (result ≡ Err fault)) →
           (own plan heap kept act ≡ None → means.on mid.device ≡ Some (at (effect (act_message plan act) g) (t + (means.pending w.device - means.pending mid.device))) → ActsSent means plan acts mid v result → Followed acts mid v (effect (act_message plan act) g) (t + (means.pending w.device - means.pending mid.device)) result) →

@@ -30,12 +30,12 @@ use Rattle.host_widgets.specs.Acts.{widget_words}
 use Rattle.host_widgets.specs.Controls.{control_of}
 use Rattle.host_widgets.specs.Expected.{loaded_heap, needed_by, stated_bytes}
 use Rattle.host_widgets.specs.Host.{errno}
-use Rattle.host_widgets.specs.HostActs.{Act, Make, Join, Put, Part, Finish, Prepare, Ask}
+use Rattle.host_widgets.specs.HostActs.{Act, Make, Join, Put, Part, Finish, Prepare}
 use Rattle.host_widgets.specs.OneAct.{own}
 use Rattle.host_widgets.specs.There.{There, there_after, there_in}
 use Rattle.host_widgets.specs.UpState.{UpState, up_own}
 use Rattle.host_widgets.proofs.ControlLists.{Pair, Takes}
-use Rattle.host_widgets.proofs.Effects.{Follows, FollowAll, IsTold, effect, effects, value_effect}
+use Rattle.host_widgets.proofs.Effects.{Follows, FollowAll, effect, effects, value_effect}
 use Rattle.host_widgets.proofs.LeadingOn.{LeadsTo}
 use Rattle.host_widgets.proofs.Makes.{AreOwn, own_at, refused-number}
 use Rattle.host_widgets.proofs.MakeStates.{message-comp, message-buffer, message-pipe}
@@ -127,10 +127,6 @@ module _ (plan : Plan) (sound : IsSound plan) where
   built (Finish id) builds = tt
   built act builds = absurd builds
 
-  is-told : (act : Act) → Builds plan act → IsTold act
-  is-told (Ask comp k) builds = absurd builds
-  is-told act builds = tt
-
   -- by its holes a firmware refuses what the rules on use do
   own-same : (s : UpState) (t : There) (act : Act) → Builds plan act → (f : FwState) → there_in f ≡ t → own_at plan f act ≡ up_own plan (with_there plan s t) act
   own-same s t (Make id) builds f same = ap (λ (x : There). cond (fits (rounded (stated_bytes plan id)) x.heap.holes) None (Some (errno no_memory))) same
@@ -203,7 +199,6 @@ module _ (plan : Plan) (sound : IsSound plan) (heap : ℕ) (kept : Record) (s : 
 
     follows : IsMessage m → IsQuiet f → Follows plan heap kept f act
     follows fit quiet = record {
-      told = is-told plan sound act builds;
       still = quiet-still f quiet;
       message = fit;
       passes = λ free n. (taken (at f n) same (staged-still act f (at f n) refl staged) free).0;

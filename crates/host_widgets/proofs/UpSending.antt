@@ -4,9 +4,8 @@ use Rattle.std.proofs.Common.{◌≡◌, refl, sym, ap, subst, ◌∙◌, ℕ, �
 use Rattle.std.specs.Prelude.{Option, Result, MatchResult, find, is_some}
 use Rattle.stream_law.specs.State.{FwState, Staging}
 use Rattle.ipc3_model.specs.declared.reply.Reply.{Reply}
-use Rattle.ipc3_model.specs.Messages.{message_spelling}
 use Rattle.ipc3_model.specs.Meanings.{IsMessage}
-use Rattle.mbox_link.specs.Calls.{World, Meaning, Exchanged}
+use Rattle.mbox_link.specs.Calls.{World, Meaning}
 use Rattle.mbox_link.specs.Meetings.{Meeting}
 use Rattle.mbox_link.specs.Step.{row}
 use Rattle.tplg_plan.specs.declared.plans.Plan.{Plan}
@@ -22,7 +21,8 @@ use Rattle.host_widgets.proofs.PartRows.{HasStaged}
 use Rattle.host_widgets.proofs.StandingOn.{LeavesAll, ticks-leave}
 use Rattle.host_widgets.specs.There.{there_in}
 use Rattle.host_widgets.specs.UpState.{UpState, up_own, up_act_rules}
-use Rattle.host_widgets.proofs.UpExchanges.{ticks-there, IsOwn, before, Left, IsMet, act-met}
+use Rattle.host_widgets.proofs.AfterExchange.{before, Left, it-left, HasMet, met-came, act-met}
+use Rattle.host_widgets.proofs.UpExchanges.{leaves-there, IsOwn, own-said, own-leaves}
 use Rattle.host_widgets.proofs.UpWalks.{passed-free}
 use Rattle.host_widgets.specs.ActMessages.{act_message}
 use Rattle.host_widgets.specs.MadeLists.{ActsPassed}
@@ -80,39 +80,31 @@ module _ (plan : Plan) where
       pub left : (walk (up_act_rules plan) false next_of u meetings acts).kept ≡ after_all u passed
 
     -- one act, and those after it
-    module _ (u : UpState) (act : Act) (acts passed : List Act) (w mid v : World D) (result : Outcome) (answer : Option (List ℕ)) (f : FwState) (on : means.on w.device ≡ Some f) (fits : IsMessage (act_message plan act))
-        (x : Exchanged means (message_spelling (act_message plan act)) answer w mid) (same : there_in (before plan u act means fits answer w mid f on x) ≡ u.there) (m : IsMet plan u act means fits answer w mid f on x) where
-      abbrev met : Meeting
-      met = record { lag = means.pending w.device - means.pending mid.device; fate = m.fate }
-
+    module _ (u : UpState) (act : Act) (acts passed : List Act) (w mid v : World D) (result : Outcome) (answer : Option (List ℕ)) (m : HasMet means (up_act_rules plan) u act answer w mid) where
       abbrev came_so : Outcome
-      came_so = outcome_by m.fate (up_own plan u act)
+      came_so = outcome_by m.0.fate (up_own plan u act)
 
       -- its result, by whether acts go on
       abbrev Behind : List Meeting → Outcome → Bool → Type 0
       Behind ms o goes =
-          let a = performed (up_act_rules plan) act u (lag_of met) o in
+          let a = performed (up_act_rules plan) act u (lag_of m.0) o in
           let y = followed_by act a ms goes (walk (up_act_rules plan) false next_of a.kept ms acts) in
           Onwards goes ms mid v (ActsDid means (up_act_rules plan) false a.kept acts ms mid v) × (result ≡ y.outcome) × EndsThere y.outcome y.kept v × (y.kept ≡ after_all u passed)
 
       abbrev All : List Meeting → Outcome → Type 0
-      All ms o = Behind ms o (goes_past false (performed (up_act_rules plan) act u (lag_of met) o).outcome)
+      All ms o = Behind ms o (goes_past false (performed (up_act_rules plan) act u (lag_of m.0) o).outcome)
 
       whole-list : (ms : List Meeting) → AreFree u passed → All ms came_so → HasSent u (act ∷ acts) passed w v result
-      whole-list ms free all = record { meetings = met ∷ ms; did = (mid, m.did, all.0); came = all.1; there = all.2; free = free; left = all.3 }
+      whole-list ms free all = record { meetings = m.0 ∷ ms; did = (mid, m.1, all.0); came = all.1; there = all.2; free = free; left = all.3 }
 
       passed-so : came_so ≡ Ok tt → (more : List Act) → passed ≡ act ∷ more → HasSent ((up_act_rules plan).after act u) acts more mid v result → HasSent u (act ∷ acts) passed w v result
       passed-so is more first r =
-          whole-list r.meetings (subst (AreFree u) (sym first) (passed-free m.fate (up_own plan u act) is, r.free)) (subst (All r.meetings) (sym is) (r.did, r.came, r.there, r.left ∙ ap (after_all u) (sym first)))
+          whole-list r.meetings (subst (AreFree u) (sym first) (passed-free m.0.fate (up_own plan u act) is, r.free)) (subst (All r.meetings) (sym is) (r.did, r.came, r.there, r.left ∙ ap (after_all u) (sym first)))
 
       -- a fault ends it
-      ends-of : (fault : HostFault) → Left plan u act means fits answer w mid f on x (Err fault) → EndsThere (Err fault) u mid
-      ends-of faults.LinkDown left = left
-      ends-of fault left = (before plan u act means fits answer w mid f on x, left, same)
-
-      failed-so : (fault : HostFault) → came_so ≡ Err fault → passed ≡ [] → v ≡ mid → result ≡ Err fault → HasSent u (act ∷ acts) passed w v result
-      failed-so fault is none stays told_is = whole-list [] (subst (AreFree u) (sym none) tt) (subst (All []) (sym is) (subst (Behind [] (Err fault)) (sym (ends-at fault))
-          ((refl, stays), told_is, subst (EndsThere (Err fault) u) (sym stays) (ends-of fault (subst (Left plan u act means fits answer w mid f on x) is m.left)), ap (after_all u) (sym none))))
+      failed-so : (fault : HostFault) → came_so ≡ Err fault → passed ≡ [] → v ≡ mid → result ≡ Err fault → EndsThere (Err fault) u mid → HasSent u (act ∷ acts) passed w v result
+      failed-so fault is none stays told_is ends = whole-list [] (subst (AreFree u) (sym none) tt) (subst (All []) (sym is) (subst (Behind [] (Err fault)) (sym (ends-at fault))
+          ((refl, stays), told_is, subst (EndsThere (Err fault) u) (sym stays) ends, ap (after_all u) (sym none))))
 
     -- ---- all of them
 
@@ -130,16 +122,32 @@ module _ (plan : Plan) where
         by (verdict answer) refl rest (λ more g on_g same_g staged_g answered_g sent. sent-did acts more ((up_act_rules plan).after act u) mid v result g on_g same_g staged_g answered_g sent)
       where
         now : FwState
-        now = before plan u act means answered.0 answer w mid f on x
+        now = (before means (act_message plan act) answered.0 answer w mid f on x).0
+
+        leaves : LeavesAll f now
+        leaves = ticks-leave (means.pending w.device - means.pending mid.device) f w.io
 
         same_now : there_in now ≡ u.there
-        same_now = ticks-there (means.pending w.device - means.pending mid.device) (f, w.io) ∙ same
+        same_now = leaves-there f now leaves ∙ same
 
         staged_now : Staged act now
-        staged_now = let l : LeavesAll f now = ticks-leave (means.pending w.device - means.pending mid.device) f w.io in staged-still act f now l.staging staged
+        staged_now = staged-still act f now leaves.staging staged
 
-        m : IsMet plan u act means answered.0 answer w mid f on x
-        m = act-met plan u act means answered.0 answer w mid f on x (answered.1 now same_now staged_now)
+        own : IsOwn plan u act now
+        own = answered.1 now same_now staged_now
+
+        m : HasMet means (up_act_rules plan) u act answer w mid
+        m = act-met means (up_act_rules plan) u act answer w mid answered.0 f on x (own-said plan u act now own)
+
+        After : Outcome → Type 0
+        After o = Left means (act_message plan act) answered.0 answer w mid f on x o
+
+        after-it : After (came_to (verdict answer))
+        after-it = it-left means (act_message plan act) answered.0 answer w mid f on x
+
+        ends-of : (fault : HostFault) → After (Err fault) → EndsThere (Err fault) u mid
+        ends-of faults.LinkDown left = left
+        ends-of fault left = (now, left, same_now)
 
         Rest : Type 0
         Rest = (more : List Act) (g : FwState) → means.on mid.device ≡ Some g → there_in g ≡ ((up_act_rules plan).after act u).there → StagedFirst acts g → AreAnswered ((up_act_rules plan).after act u) acts →
@@ -149,9 +157,10 @@ module _ (plan : Plan) where
             MatchResult r (λ reply. (more : List Act) × (passed ≡ act ∷ more) × ActsPassed means plan acts more mid v result) (λ fault. (passed ≡ []) × (v ≡ mid) × (result ≡ Err fault)) →
             Rest → HasSent u (act ∷ acts) passed w v result
         by (Ok reply) is (more, first, sent) go =
-            let is_ok : outcome_by m.fate (up_own plan u act) ≡ Ok tt = sym m.came ∙ ap came_to is in
-            let l = subst (Left plan u act means answered.0 answer w mid f on x) is_ok m.left in
-            passed-so u act acts passed w mid v result answer f on answered.0 x same_now m is_ok more first
-            (go more l.0 l.1 l.3 (answered.2 now l.0 staged_now l.2) (answered.3 (passed-free m.fate (up_own plan u act) is_ok)) sent)
+            let is_ok : outcome_by m.0.fate (up_own plan u act) ≡ Ok tt = sym (met-came means (up_act_rules plan) u act answer w mid m) ∙ ap came_to is in
+            let free = passed-free m.0.fate (up_own plan u act) is_ok in
+            let l = subst After (ap came_to is) after-it in
+            passed-so u act acts passed w mid v result answer m is_ok more first
+            (go more l.0 l.1 (own-leaves plan u act now l.0 own free l.2) (answered.2 now l.0 staged_now l.2) (answered.3 free) sent)
         by (Err fault) is (none, stays, told_is) go =
-            failed-so u act acts passed w mid v result answer f on answered.0 x same_now m fault (sym m.came ∙ ap came_to is) none stays told_is
+            failed-so u act acts passed w mid v result answer m fault (sym (met-came means (up_act_rules plan) u act answer w mid m) ∙ ap came_to is) none stays told_is (ends-of fault (subst After (ap came_to is) after-it))

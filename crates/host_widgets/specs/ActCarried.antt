@@ -1,15 +1,13 @@
--- One message of a call, and one act with what a failed link leaves.
+-- Messages of a call, with what a failed link leaves.
 use Rattle.std.specs.Prelude.{◌≡◌, ℕ, List, [], Bool, true, false, Option, Result, Err, ◌∷◌, Ok, MatchResult}
 use Rattle.ipc3_model.specs.declared.reply.Reply.{Reply}
-use Rattle.mbox_link.specs.Meetings.{Meeting}
 use Rattle.mbox_link.specs.Calls.{World, Meaning, Exchanged, Led}
 use Rattle.tplg_plan.specs.declared.plans.Plan.{Plan}
 use Rattle.host_widgets.specs.declared.answers.HostFault.{HostFault}
 use Rattle.host_widgets.specs.declared.answers.HostFault.TheVariants.{LinkDown}
 use Rattle.host_widgets.specs.declared.kept.Record.{Record}
 use Rattle.host_widgets.specs.HostActs.{Act}
-use Rattle.host_widgets.specs.OneAct.{own, act_rules, outcome_by, performed}
-use Rattle.host_widgets.specs.ActCalls.{ActDid, came_to, calls_of}
+use Rattle.host_widgets.specs.ActCalls.{came_to, calls_of}
 use Rattle.host_widgets.specs.Orders.{plain_end}
 use Rattle.host_widgets.specs.Host.{Outcome, verdict}
 use Rattle.ipc3_model.specs.Messages.{message_spelling}
@@ -47,11 +45,3 @@ pub record Passes {D : Type 0} (means : Meaning D) (heap : ℕ) (request : List 
   pub exchanged : Exchanged means request answer w sent
   pub said : result ≡ came_to (verdict answer)
   pub ends : PlainEnd means heap result kept kept' sent v
-
--- one act
-pub record ActCarried {D : Type 0} (means : Meaning D) (plan : Plan) (heap : ℕ) (act : Act) (kept kept' : Record) (w v : World D) (result : Outcome) : Type 0 where
-  pub meeting : Meeting
-  pub sent : World D
-  pub did : ActDid means (act_rules plan heap) kept act meeting w sent
-  pub said : result ≡ outcome_by meeting.fate (own plan heap kept act)
-  pub ends : PlainEnd means heap result (performed (act_rules plan heap) act kept [] result).kept kept' sent v

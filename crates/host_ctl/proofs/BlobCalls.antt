@@ -1,53 +1,52 @@
--- A blob at the equaliser of a place: what its parts come to over any device, and the record with it.
-use Rattle.std.proofs.Common.{◌≡◌, refl, sym, ap, subst, ◌∙◌, ℕ, ◌<◌, true, false, List, [], ◌∷◌, length, Some, option_map, Ok, Err, inl, inr}
-use Rattle.std.specs.List.{AllByRecursion}
+-- A blob at the equaliser of a place: the record with it, and what the firmware makes of its parts.
+use Rattle.std.proofs.Common.{◌≡◌, refl, sym, ap, subst, ◌∙◌, ℕ, zero, suc, ◌+◌, ◌<◌, ◌≤◌, Bool, true, false, cond, List, [], ◌∷◌, map, length, Some, option_map, Ok, inl, inr, arith}
+use Rattle.std.specs.List.{AllByRecursion, range_with_len}
 use Rattle.sof_base.specs.BlobFaults.{is_blob}
 use Rattle.stream_law.specs.declared.graph.Kind.{Kind}
 use Rattle.stream_law.specs.declared.graph.Kind.TheVariants as kinds
 use Rattle.stream_law.specs.declared.graph.Setting.TheVariants as settings
-use Rattle.stream_law.specs.State.{FwState, view_of}
-use Rattle.stream_law.specs.Past.{Moment}
+use Rattle.stream_law.specs.State.{FwState, View, view_of}
 use Rattle.stream_law.specs.Ways.{comp_of}
-use Rattle.mbox_link.specs.Step.{with_comps}
-use Rattle.mbox_link.specs.Calls.{World, Meaning, Led}
+use Rattle.ipc3_model.specs.declared.message.Message.TheVariants.{SetData}
+use Rattle.ipc3_model.specs.Meanings.{IsMessage}
+use Rattle.ipc3_model.specs.Messages.{message_spelling, decoded}
+use Rattle.mbox_link.specs.BlobParts.{blob_part, is_last, parts}
+use Rattle.mbox_link.specs.Step.{body_of, row, with_comps, with_setting}
+use Rattle.mbox_link.specs.Calls.{World, Meaning}
 use Rattle.tplg_plan.specs.declared.plans.Plan.{Plan}
 use Rattle.tplg_plan.specs.declared.plans.ControlPlan.{ControlPlan}
 use Rattle.tplg_plan.specs.declared.plans.ControlKind.{ControlKind}
 use Rattle.tplg_plan.specs.declared.plans.ControlKind.TheVariants.{Volume, Choice, Blob, Masks}
 use Rattle.tplg_plan.specs.Sound.{IsControlOf, IsLive, IsSound}
-use Rattle.host_widgets.specs.declared.answers.HostFault.{HostFault}
-use Rattle.host_widgets.specs.declared.answers.HostFault.TheVariants as faults
-use Rattle.host_widgets.specs.declared.answers.HostFault.TheVariants.{Off, LinkDown}
 use Rattle.host_widgets.specs.declared.answers.Answer.TheVariants.{Done}
 use Rattle.host_widgets.specs.declared.kept.ControlRec.{ControlRec}
-use Rattle.host_widgets.specs.declared.kept.Power.{Power}
 use Rattle.host_widgets.specs.declared.kept.Power.TheVariants as powers
 use Rattle.host_widgets.specs.declared.kept.Record.{Record}
-use Rattle.host_widgets.specs.OneAct.{act_rules}
-use Rattle.host_widgets.specs.ActCalls.{next_of, calls_of}
-use Rattle.host_widgets.specs.ActCarried.{PlainEnd}
 use Rattle.host_widgets.specs.ActLists.{part_acts}
+use Rattle.host_widgets.specs.AnsweredOrders.{OrderAnswered}
 use Rattle.host_widgets.specs.Controls.{control_of}
-use Rattle.host_widgets.specs.Host.{Outcome, Agrees, AreControls, IsRecordOf, IsControlSet, Sides}
-use Rattle.host_widgets.specs.HostActs.{with_blob}
+use Rattle.host_widgets.specs.Host.{Outcome, Agrees, AreControls, IsRecordOf, IsControlSet}
+use Rattle.host_widgets.specs.HostActs.{Act, Part, after, with_blob}
 use Rattle.host_widgets.specs.Kept.{control_at, with_control}
-use Rattle.host_widgets.specs.Orders.{Carried, plain_end, sends}
-use Rattle.host_widgets.specs.ViewOf.{graph_by, set_comp, record_setting, record_view}
-use Rattle.host_widgets.specs.Walk.{walk}
-use Rattle.host_widgets.proofs.ActSteps.{state-with}
+use Rattle.host_widgets.specs.ViewOf.{set_comp, record_setting, record_view}
+use Rattle.host_widgets.proofs.Effects.{decoded-message}
 use Rattle.host_widgets.proofs.LookedUp.{each-found}
-use Rattle.host_widgets.proofs.OneOrder.{answering}
-use Rattle.host_widgets.proofs.PartsCome.{Came, Ending, blob_view, left_by, parts-come}
-use Rattle.host_widgets.proofs.PlainOrders.{no-acts, plain, same-end}
-use Rattle.host_widgets.proofs.Records.{down-record, down-rests}
-use Rattle.host_widgets.proofs.WalksHold.{WhereUp}
+use Rattle.host_widgets.proofs.OneActLaws.{bare-passes}
+use Rattle.host_widgets.proofs.PartFacts.{few-parts, more-behind, none-behind}
+use Rattle.host_widgets.proofs.PartRows.{HasStaged, part-last, part-message, part-more}
+use Rattle.host_widgets.proofs.PartsReady.{made-last, made-more, parts-ready}
 use Rattle.host_ctl.specs.ControlOrders.{bytes_order_at}
-use Rattle.host_ctl.specs.ControlAnswers.{MayInstall, PartsPass}
-use Rattle.host_ctl.specs.ControlPlaces.{control_here, record_here, with_blob_here}
-use Rattle.host_ctl.proofs.ControlsTaken.{id-low}
-use Rattle.host_ctl.proofs.ControlsThere.{Was, at-here, blob-changed, controls-with, kinds-here, live, of-comp, set-twice}
-use Rattle.host_ctl.proofs.PutShows.{all-set, found-set, there-at}
-use Rattle.host_ctl.proofs.PutStands.{record-with}
+use Rattle.host_ctl.specs.ControlAnswers.{MayInstall}
+use Rattle.host_ctl.specs.ControlPlaces.{control_here, record_here}
+use Rattle.host_widgets.proofs.ActSteps.{Both, EachBy, IsMet, all_after, sends-carried}
+use Rattle.host_ctl.proofs.ControlsTaken.{found-in, id-low}
+use Rattle.host_ctl.proofs.ControlsThere.{Was, at-here, control-twice, controls-with, kinds-here, live, of-comp}
+use Rattle.host_ctl.proofs.PutShows.{all-set, there-at}
+use Rattle.host_ctl.proofs.PutStands.{off-agrees, record-with}
+
+-- the view with a blob in force at an equaliser
+abbrev pub blob_view : ℕ → List ℕ → View → View
+blob_view id blob v = record { graph = with_comps (map (with_setting id (settings.Blob blob)) v.graph.comps) v.graph; streams = v.streams }
 
 -- ---- what may be installed
 
@@ -90,9 +89,6 @@ module _ (plan : Plan) (sound : IsSound plan) (kept : Record) (is : IsRecordOf p
   pub an-equaliser : here.comp.kind ≡ kinds.Eq
   an-equaliser = kind-of k.kind blob may here.comp.kind here.kind
 
-  pub there-set : comp_of (graph_by plan kept) k.comp ≡ Some (set_comp plan kept here.comp)
-  there-set = found-set plan kept k.comp plan.graph.comps ∙ ap (option_map (set_comp plan kept)) here.there
-
   set-blobs : AreControls plan.controls now.controls
   set-blobs = controls-with k.comp (with_blob blob) plan.controls kept.controls (all plan.controls (each-found (λ (x : ControlPlan). x.comp) plan.controls sound.controls_ascend)) is.controls
     where
@@ -120,102 +116,83 @@ module _ (plan : Plan) (sound : IsSound plan) (kept : Record) (is : IsRecordOf p
     streams = (record_view plan kept).streams;
   }
 
-  now-twice : now ≡ with_control plan k.comp (with_blob blob) now
-  now-twice = ap (λ (rs : List ControlRec). record { power = kept.power; streams = kept.streams; controls = rs }) (sym (set-twice k.comp (with_blob blob) (λ r. refl) plan.controls kept.controls))
+  -- ---- its parts
 
-  -- ---- over any device
+  abbrev parts_from : ℕ → ℕ → List Act
+  parts_from j n = map (Part k.comp blob) (range_with_len j n)
 
-  module _ {D : Type 0} (means : Meaning D) (heap : ℕ) (w : World D) (agrees : Agrees means plan kept w.device) where
-    abbrev pub CarriedSo : Record → World D → Outcome → Type 0
-    CarriedSo kept' v result = Carried means plan heap (bytes_order_at plan kept k.comp blob) kept kept' w v result
+  -- the record changes with the last
+  left-by : (j : ℕ) (b : Bool) → is_last blob j ≡ b → after plan (Part k.comp blob j) kept ≡ cond b now kept
+  left-by j b so = ap (λ (b : Bool). cond b now kept) so
 
-    abbrev pub Both : Record → World D → Outcome → Type 0
-    Both kept' v result = CarriedSo kept' v result × Agrees means plan kept' v.device
+  pub part-record : (j : ℕ) → IsRecordOf plan (after plan (Part k.comp blob j) kept)
+  part-record j = by (is_last blob j)
+    where
+      by : (b : Bool) → IsRecordOf plan (cond b now kept)
+      by true = now-record
+      by false = is
 
-    -- where the power is on
-    module _ (power : kept.power ≡ powers.On) (mid : Record) (v : World D) (result : Outcome) (x : PartsPass means plan heap k.comp blob kept mid w v result) where
-      state : (f : FwState) × (means.on w.device ≡ Some f) × (view_of f ≡ record_view plan kept)
-      state = state-with (means.on w.device) (record_view plan kept) (subst (λ (p : Power). Sides means plan kept w.device p) power agrees.sides)
+  -- what is so of each is so of all of them, which leave the record with the blob
+  module _ (So : Record → Act → Type 0) (each : (j : ℕ) → j < parts blob → So kept (Part k.comp blob j)) where
+    abbrev AllSo : ℕ → ℕ → Record → Type 0
+    AllSo j n before = EachBy plan So before (parts_from j n) × (all_after plan (parts_from j n) before ≡ now)
 
-      came : Came means plan heap kept k.comp (id-low plan sound kept is i low) (set_comp plan kept here.comp) there-set an-equaliser blob a-blob (part_acts k.comp blob) w x.sent result
-      came = parts-come means plan heap kept k.comp (id-low plan sound kept is i low) (set_comp plan kept here.comp) there-set an-equaliser blob a-blob w x.sent result state.0 state.1 state.2 x.parts
+    from-each : (n j : ℕ) → j + suc n ≡ parts blob → AllSo j (suc n) kept
+    from-each zero j all = by (is_last blob j) refl
+      where
+        by : (b : Bool) → is_last blob j ≡ b → AllSo j (suc zero) kept
+        by true last = ((each j (omega (arith, all)), λ record_is. tt), left-by j true last)
+        by false more = absurd (let behind = (more-behind blob a-blob j (omega (arith, all)) more).0 in omega (arith, all, behind))
+    from-each (suc n) j all = by (is_last blob j) refl (from-each n (j + 1) (omega (arith, all)))
+      where
+        by : (b : Bool) → is_last blob j ≡ b → AllSo (j + 1) (suc n) kept → AllSo j (suc (suc n)) kept
+        by true last rest = absurd (let none = none-behind blob a-blob j (omega (arith, all)) last in omega (arith, all, none))
+        by false more rest = let r = subst (AllSo (j + 1) (suc n)) (sym (left-by j false more)) rest in ((each j (omega (arith, all)), λ record_is. r.0), r.1)
 
-      abbrev EndsSo : Record → World D → Record → Outcome → Type 0
-      EndsSo kept' u so o = let end = plain_end (with_control plan k.comp (with_blob blob)) so o in (kept' ≡ end.0) × Led means x.sent (calls_of heap end.1) u
+    pub parts-each : EachBy plan So kept (part_acts k.comp blob) × (all_after plan (part_acts k.comp blob) kept ≡ now)
+    parts-each = by (parts blob) refl (few-parts blob a-blob).0
+      where
+        by : (n : ℕ) → parts blob ≡ n → 1 ≤ n → AllSo 0 n kept
+        by zero same some = absurd (omega (arith, some))
+        by (suc n) same some = from-each n 0 (let all : 0 + suc n ≡ parts blob = omega (arith, same) in all)
 
-      carried : (kept' : Record) (o : Outcome) (walked : Record) → result ≡ o → (walk (act_rules plan heap) false next_of kept came.meetings (part_acts k.comp blob)).kept ≡ walked → EndsSo kept' v walked o → CarriedSo kept' v result
-      carried kept' o walked is_o is_walked ends =
-          subst (λ (p : Power). Carried means plan heap (sends p (part_acts k.comp blob) (with_control plan k.comp (with_blob blob)) Done) kept kept' w v result) (sym power)
-          (answering means plan heap (plain (part_acts k.comp blob) (with_control plan k.comp (with_blob blob))) Done kept kept' w v result record {
-            meetings = came.meetings;
-            begun = w;
-            sent = x.sent;
-            first = refl;
-            walked = came.did;
-            came = came.came_so;
-            ends = subst (λ (p : Record × Outcome). EndsSo kept' v p.0 p.1) (λ j. (sym is_walked j, (sym is_o ∙ came.came_so) j)) ends;
-          })
+  -- ---- what a firmware that shows the record makes of them
 
-      -- all parts passed
-      pub parts-done : result ≡ Ok tt → (kept' : Record) → kept' ≡ with_blob_here i blob mid → Both kept' v (Ok tt)
-      parts-done ok kept' so = (
-        subst (CarriedSo kept' v) ok
-            (carried kept' (Ok tt) now ok (subst (λ (o : Outcome). (walk (act_rules plan heap) false next_of kept came.meetings (part_acts k.comp blob)).kept ≡ left_by means plan heap kept k.comp (id-low plan sound kept is i low) (set_comp plan kept here.comp) there-set an-equaliser blob a-blob o) ok came.left)
-            (is_now ∙ now-twice, passed.1)),
-        subst (λ (y : Record). Agrees means plan y v.device) (sym is_now) record { record_is = now-record; sides = subst (λ (p : Power). Sides means plan now v.device p) (sym power) shown },
-      )
-        where
-          passed : PlainEnd means heap (Ok tt) kept mid x.sent v
-          passed = subst (λ (o : Outcome). PlainEnd means heap o kept mid x.sent v) ok x.ends
+  part-met : (heap : ℕ) → kept.power ≡ powers.On → (j : ℕ) → j < parts blob → IsMet plan heap kept (Part k.comp blob j)
+  part-met heap on j few = record {
+    on = on;
+    message = fits;
+    passes = λ f. bare-passes (body_of f (decoded (message_spelling (SetData k.comp (blob_part blob j))))) (ap (body_of f) (decoded-message (SetData k.comp (blob_part blob j)) fits));
+    answers = λ f shows staged. answered f (found-in plan sound kept is i low f shows) staged (is_last blob j) refl;
+    power = same-power (is_last blob j);
+    shown = λ f f' shows staged done. (part-record j, shown-so f f' shows staged done (is_last blob j) refl);
+  }
+    where
+      fits : IsMessage (SetData k.comp (blob_part blob j))
+      fits = part-message k.comp blob a-blob j few (id-low plan sound kept is i low)
 
-          is_now : kept' ≡ now
-          is_now = so ∙ ap (with_blob_here i blob) passed.0 ∙ blob-changed plan sound kept is i low blob
+      same-power : (b : Bool) → (cond b now kept).power ≡ kept.power
+      same-power true = refl
+      same-power false = refl
 
-          shown : option_map view_of (means.on v.device) ≡ Some (record_view plan now)
-          shown =
-              ap (λ (y : World D). option_map view_of (means.on y.device)) passed.1
-              ∙ subst (λ (o : Outcome). Ending means plan heap kept k.comp (id-low plan sound kept is i low) (set_comp plan kept here.comp) there-set an-equaliser blob a-blob x.sent o) ok came.ends
-              ∙ ap Some now-view
+      answered : (f : FwState) → comp_of f.graph k.comp ≡ Some (set_comp plan kept here.comp) → HasStaged k.comp blob j f → (b : Bool) → is_last blob j ≡ b → (next : FwState) × (row f (SetData k.comp (blob_part blob j)) ≡ Ok next)
+      answered f there staged true last = (_, part-last k.comp blob a-blob j few f staged (set_comp plan kept here.comp) there an-equaliser last)
+      answered f there staged false more = (_, part-more k.comp blob a-blob j few f staged (set_comp plan kept here.comp) there an-equaliser more)
 
-      -- one did not
-      pub parts-ended : (fault : HostFault) → result ≡ Err fault → Both mid v (Err fault)
-      parts-ended fault failed = (
-        subst (CarriedSo mid v) failed
-            (carried mid (Err fault) kept failed (subst (λ (o : Outcome). (walk (act_rules plan heap) false next_of kept came.meetings (part_acts k.comp blob)).kept ≡ left_by means plan heap kept k.comp (id-low plan sound kept is i low) (set_comp plan kept here.comp) there-set an-equaliser blob a-blob o) failed came.left)
-            (subst (λ (end : Record × List Moment). (mid ≡ end.0) × Led means x.sent (calls_of heap end.1) v) (same-end (with_control plan k.comp (with_blob blob)) kept fault) ended)),
-        by fault ended (subst (λ (o : Outcome). Ending means plan heap kept k.comp (id-low plan sound kept is i low) (set_comp plan kept here.comp) there-set an-equaliser blob a-blob x.sent o) failed came.ends),
-      )
-        where
-          ended : PlainEnd means heap (Err fault) kept mid x.sent v
-          ended = subst (λ (o : Outcome). PlainEnd means heap o kept mid x.sent v) failed x.ends
+      shown-so : (f f' : FwState) → view_of f ≡ record_view plan kept → HasStaged k.comp blob j f → row f (SetData k.comp (blob_part blob j)) ≡ Ok f' → (b : Bool) → is_last blob j ≡ b → view_of f' ≡ record_view plan (after plan (Part k.comp blob j) kept)
+      shown-so f f' shows staged done true last =
+          ap view_of (made-last k.comp blob a-blob j few f f' staged last done) ∙ ap (blob_view k.comp blob) shows ∙ now-view ∙ ap (record_view plan) (sym (left-by j true last))
+      shown-so f f' shows staged done false more =
+          ap view_of (made-more k.comp blob a-blob j few f f' staged more done) ∙ shows ∙ ap (record_view plan) (sym (left-by j false more))
 
-          ShowsSo : Type 0
-          ShowsSo = option_map view_of (means.on x.sent.device) ≡ Some (record_view plan kept)
+  abbrev installs : Record → Record
+  installs = with_control plan k.comp (with_blob blob)
 
-          -- the record and the blob in force stay
-          stays : (mid ≡ kept) × (v ≡ x.sent) → ShowsSo → Agrees means plan mid v.device
-          stays end shown = subst (λ (y : Record). Agrees means plan y v.device) (sym end.0) record {
-            record_is = is;
-            sides = subst (λ (p : Power). Sides means plan kept v.device p) (sym power) (ap (λ (y : World D). option_map view_of (means.on y.device)) end.1 ∙ shown);
-          }
-
-          by : (f : HostFault) → PlainEnd means heap (Err f) kept mid x.sent v → WhereUp (Err f) ShowsSo → Agrees means plan mid v.device
-          by LinkDown end shown = subst (λ (y : Record). Agrees means plan y v.device) (sym end.0) record {
-            record_is = down-record plan kept is;
-            sides = (down-rests kept.streams, ap (λ (y : World D). means.on y.device) end.1.2 ∙ end.1.1.0.on);
-          }
-          by fault end shown = stays end shown
-
-    -- where it is off, the record alone changes
-    module _ (off : kept.power ≡ powers.Off) where
-      pub blob-carried : CarriedSo (with_blob_here i blob kept) w (Ok tt)
-      blob-carried =
-          subst (λ (p : Power). Carried means plan heap (sends p (part_acts k.comp blob) (with_control plan k.comp (with_blob blob)) Done) kept (with_blob_here i blob kept) w w (Ok tt)) (sym off)
-          (no-acts means plan heap (with_control plan k.comp (with_blob blob)) kept (with_blob_here i blob kept) w (blob-changed plan sound kept is i low blob))
-
-      pub blob-agrees : Agrees means plan (with_blob_here i blob kept) w.device
-      blob-agrees =
-          subst (λ (y : Record). Agrees means plan y w.device) (sym (blob-changed plan sound kept is i low blob)) record {
-            record_is = now-record;
-            sides = subst (λ (p : Power). Sides means plan now w.device p) (sym off) (subst (λ (p : Power). Sides means plan kept w.device p) off agrees.sides);
-          }
+  -- where the two sides agree, what was answered was carried out
+  pub bytes-carried : {D : Type 0} (means : Meaning D) (heap : ℕ) (w : World D) → (kept.power ≡ powers.Unloaded → ⊥) → Agrees means plan kept w.device → (kept' : Record) (v : World D) (result : Outcome) →
+      OrderAnswered means plan heap (bytes_order_at plan kept k.comp blob) kept kept' w v result → Both means plan heap (bytes_order_at plan kept k.comp blob) kept kept' w v result
+  bytes-carried means heap w up agrees kept' v result =
+      sends-carried means plan heap kept.power (part_acts k.comp blob) installs Done kept kept' w v result (λ on. (parts-each (IsMet plan heap) (part-met heap on)).0) (parts-ready k.comp blob a-blob plan)
+      (λ on d. subst (λ (r : Record). Agrees means plan r d → Agrees means plan (installs r) d) (sym (parts-each (IsMet plan heap) (part-met heap on)).1)
+      (subst (λ (r : Record). Agrees means plan r d) (sym (control-twice plan k.comp (with_blob blob) (λ r. refl) kept))))
+      (λ off. off-agrees means plan kept k.comp (with_blob blob) up off now-record) agrees

@@ -1,7 +1,6 @@
 -- The law of one act for the parts of a blob at the equaliser of a place: those before the last leave all but what is staged, and
 -- with the last an epoch begins.
-use Rattle.std.proofs.Common.{◌≡◌, refl, sym, ap, subst, ◌∙◌, ℕ, zero, suc, ◌+◌, ◌<◌, Bool, true, false, cond, ◌==◌, List, [], ◌∷◌, ◌++◌, map, length, Option, Some, None, option_map, Ok, arith}
-use Rattle.std.specs.List.{range_with_len}
+use Rattle.std.proofs.Common.{◌≡◌, refl, sym, ap, subst, ◌∙◌, ℕ, ◌+◌, ◌<◌, Bool, true, false, cond, ◌==◌, List, [], ◌∷◌, ◌++◌, map, length, Option, Some, None, option_map, Ok}
 use Rattle.std.specs.Option.{option_map_or}
 use Rattle.sof_base.specs.Ports.{InputView}
 use Rattle.sof_base.specs.BlobFaults.{is_blob}
@@ -29,28 +28,25 @@ use Rattle.host_widgets.specs.declared.kept.ControlRec.{ControlRec}
 use Rattle.host_widgets.specs.declared.kept.Record.{Record}
 use Rattle.host_widgets.specs.ActLists.{part_acts}
 use Rattle.host_widgets.specs.Host.{IsRecordOf}
-use Rattle.host_widgets.specs.HostActs.{Act, Part, after, fresh_by, with_blob}
+use Rattle.host_widgets.specs.HostActs.{Part, after, fresh_by, with_blob}
 use Rattle.host_widgets.specs.Kept.{with_control}
 use Rattle.host_widgets.specs.Named.{is_named}
-use Rattle.host_widgets.specs.Orders.{sends}
 use Rattle.host_widgets.specs.declared.answers.Answer.TheVariants.{Done}
-use Rattle.host_widgets.specs.declared.kept.Power.{Power}
-use Rattle.host_widgets.specs.declared.kept.Power.TheVariants as powers
 use Rattle.host_widgets.specs.ViewOf.{set_comp, record_setting, record_view}
 use Rattle.host_widgets.proofs.Effects.{decoded-message}
 use Rattle.host_widgets.proofs.LookedUp.{found-is}
 use Rattle.host_widgets.proofs.OneActLaws.{IsTaken, LeavesSo, bare-passes}
-use Rattle.host_widgets.proofs.PartFacts.{front, none-behind}
+use Rattle.host_widgets.proofs.PartFacts.{front}
 use Rattle.host_widgets.proofs.PartRows.{HasStaged, part-message}
-use Rattle.host_widgets.proofs.PartsCome.{blob_view}
 use Rattle.host_widgets.proofs.PartsReady.{made-last, made-more, parts-ready}
-use Rattle.host_widgets.proofs.WalksHold.{AreTaken, HaveLaw, none-taken}
+use Rattle.host_widgets.proofs.WalksHold.{AreTaken}
 use Rattle.host_ctl.specs.ControlAsks.{bytes_fault, installing_fault, named_control}
 use Rattle.host_ctl.specs.ControlOrders.{bytes_order, installing_order}
 use Rattle.host_ctl.specs.ControlAnswers.{MayInstall}
 use Rattle.host_ctl.specs.ControlPlaces.{control_here, control_place}
-use Rattle.host_ctl.proofs.BlobCalls.{a-blob, now-record, now-view}
-use Rattle.host_ctl.proofs.BlobTests.{bytes-pass, installable}
+use Rattle.host_widgets.proofs.ActSteps.{each-law, sends-taken}
+use Rattle.host_ctl.proofs.BlobCalls.{a-blob, blob_view, now-record, now-view, parts-each}
+use Rattle.host_ctl.proofs.BlobTests.{installable-here}
 use Rattle.host_ctl.proofs.ControlActs.{same-controls}
 use Rattle.host_ctl.proofs.ControlTests.{loaded, place-low}
 use Rattle.host_ctl.proofs.ControlsThere.{lost-here, named-here}
@@ -161,31 +157,12 @@ module _ (plan : Plan) (sound : IsSound plan) (kept : Record) (is : IsRecordOf p
 
   -- ---- all of them
 
-  parts-law : (n k : ℕ) → k + n ≡ parts bytes → HaveLaw plan false kept (map (Part id bytes) (range_with_len k n))
-  parts-law zero k all = tt
-  parts-law (suc n) k all = (
-    part-taken k (omega (arith, all)),
-    (λ then_is. by (is_last bytes k) refl (omega (arith, all)) (parts-law n (k + 1) (omega (arith, all)))),
-    λ on. absurd (cc on),
-  )
-    where
-      by : (b : Bool) → is_last bytes k ≡ b → k < parts bytes → HaveLaw plan false kept (map (Part id bytes) (range_with_len (k + 1) n)) → HaveLaw plan false (after plan (Part id bytes k) kept) (map (Part id bytes) (range_with_len (k + 1) n))
-      by true last few more =
-          let none : 0 ≡ n = (let end = none-behind bytes whole-blob k few last in omega (arith, all, end)) in
-          subst (λ (m : ℕ). HaveLaw plan false (after plan (Part id bytes k) kept) (map (Part id bytes) (range_with_len (k + 1) m))) none tt
-      by false behind few more = subst (λ (r : Record). HaveLaw plan false r (map (Part id bytes) (range_with_len (k + 1) n))) (ap (λ (b : Bool). cond b now kept) (sym behind)) more
-
   pub parts-taken : AreTaken plan false kept (part_acts id bytes)
-  parts-taken = record { each = parts-law (parts bytes) 0 (let all : 0 + parts bytes ≡ parts bytes = omega arith in all); ready = parts-ready id bytes whole-blob plan }
+  parts-taken = record { each = each-law plan (part_acts id bytes) kept (parts-each plan sound kept is i low bytes may (IsTaken plan) part-taken).0; ready = parts-ready id bytes whole-blob plan }
 
 -- ---- the order of a call
 
 module _ (plan : Plan) (sound : IsSound plan) (kept : Record) (is : IsRecordOf plan kept) (name bytes : List ℕ) where
-  by-power : (power : Power) (acts : List Act) (done : Record → Record) → AreTaken plan false kept acts → AreTaken plan false kept (sends power acts done Done).acts
-  by-power powers.On acts done taken = taken
-  by-power powers.Off acts done taken = none-taken plan false kept
-  by-power powers.Unloaded acts done taken = none-taken plan false kept
-
   -- where no test fails, the law of one act holds of each part
   pub bytes-taken : bytes_fault plan kept name bytes ≡ None → AreTaken plan false kept (bytes_order plan kept name bytes).acts
   bytes-taken none = by (control_place plan name) refl
@@ -195,7 +172,6 @@ module _ (plan : Plan) (sound : IsSound plan) (kept : Record) (is : IsRecordOf p
       by (Some i) at =
           let low = place-low plan name i at in
           let k = control_here plan i in
-          let named = named-here plan sound kept is i low name at in
-          let may = installable name k.kind bytes (bytes-pass plan kept name bytes k named none) in
-          subst (λ (o : Option ControlPlan). AreTaken plan false kept (installing_order plan kept bytes o).acts) (sym named)
-          (by-power kept.power (part_acts k.comp bytes) (with_control plan k.comp (with_blob bytes)) (parts-taken plan sound kept is i low bytes may))
+          let may = installable-here plan sound kept is name i at bytes none in
+          subst (λ (o : Option ControlPlan). AreTaken plan false kept (installing_order plan kept bytes o).acts) (sym (named-here plan sound kept is i low name at))
+          (sends-taken plan kept kept.power (part_acts k.comp bytes) (with_control plan k.comp (with_blob bytes)) Done (parts-taken plan sound kept is i low bytes may))

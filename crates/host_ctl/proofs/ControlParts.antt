@@ -1,8 +1,7 @@
--- The acts that ask for the parts of an equaliser's blob: both laws of one act hold of each, and a device that shows the record takes
--- them one after another.
-use Rattle.std.proofs.Common.{◌≡◌, ⊎_elim, pos, refl, sym, ap, subst, ◌∙◌, ℕ, suc, ◌+◌, ◌-◌, ◌<◌, ◌≤◌, ◌^◌, Bool, true, false, not, cond, List, [], ◌∷◌, map, length, Option, Some, None, Result, Ok, Err, arith}
+-- The acts that ask for a control, and for the parts of an equaliser's blob: both laws of one act hold of each.
+use Rattle.std.proofs.Common.{◌≡◌, pos, refl, sym, ap, subst, ◌∙◌, ℕ, zero, suc, ◌+◌, ◌<◌, ◌≤◌, ◌^◌, Bool, true, false, not, cond, List, [], ◌∷◌, map, length, Option, Some, None, Result, Ok, Err, arith}
 use Rattle.std.specs.Prelude.{is_some, nat_lt, option_and_then}
-use Rattle.std.specs.List.{range_with_len}
+use Rattle.std.specs.List.{AllByRecursion, range_with_len}
 use Rattle.std.proofs.lemmas.Bool.{lt-ltb, le-leb}
 use Rattle.sof_base.specs.Slots.{AreSlots, IsSlot}
 use Rattle.sof_base.specs.declared.part.Part.{Part}
@@ -11,15 +10,13 @@ use Rattle.stream_law.specs.declared.graph.Kind.{Kind}
 use Rattle.stream_law.specs.declared.graph.Setting.{Setting}
 use Rattle.stream_law.specs.State.{FwState, view_of}
 use Rattle.stream_law.specs.Ways.{comp_of}
-use Rattle.ipc3_model.specs.declared.message.Message.{Message}
 use Rattle.ipc3_model.specs.declared.message.Message.TheVariants.{GetData}
-use Rattle.ipc3_model.specs.declared.reply.Body.{Body}
 use Rattle.ipc3_model.specs.declared.reply.Body.TheVariants as bodies
 use Rattle.ipc3_model.specs.declared.reply.Reply.{Reply}
 use Rattle.ipc3_model.specs.Messages.{message_spelling, decoded}
 use Rattle.ipc3_model.specs.Meanings.{IsMessage}
 use Rattle.ipc3_model.proofs.Spelled.{decoded_reply-exactly}
-use Rattle.mbox_link.specs.BlobParts.{parts, blob_part}
+use Rattle.mbox_link.specs.BlobParts.{parts, part_numbers, blob_part}
 use Rattle.mbox_link.specs.Step as fw
 use Rattle.mbox_link.specs.Step.{row, body_of, part_body, no_device, invalid}
 use Rattle.mbox_link.specs.Calls.{World, Meaning}
@@ -30,35 +27,28 @@ use Rattle.tplg_plan.specs.declared.plans.ControlKind.TheVariants.{Volume, Choic
 use Rattle.tplg_plan.specs.Ranges.{is_initial}
 use Rattle.tplg_plan.specs.Sound.{IsControlOf, IsLive, IsSound}
 use Rattle.host_widgets.specs.declared.answers.HostFault.{HostFault}
-use Rattle.host_widgets.specs.declared.answers.HostFault.TheVariants.{Refused, LinkDown}
 use Rattle.host_widgets.specs.declared.kept.ControlRec.{ControlRec}
-use Rattle.host_widgets.specs.declared.kept.Power.{Power}
 use Rattle.host_widgets.specs.declared.kept.Power.TheVariants.{On}
 use Rattle.host_widgets.specs.declared.kept.Record.{Record}
 use Rattle.host_widgets.specs.ActCalls.{came_to}
-use Rattle.host_widgets.specs.ActCarried.{Replied, Passes, PlainEnd}
+use Rattle.host_widgets.specs.ActCarried.{Replied}
 use Rattle.host_widgets.specs.ActMessages.{ask_message, get_message, act_message}
-use Rattle.host_widgets.specs.Host.{Agrees, IsRecordOf, Outcome, verdict, judged, errno}
+use Rattle.host_widgets.specs.Host.{IsRecordOf, verdict, judged}
 use Rattle.host_widgets.specs.HostActs.{Act, Ask}
-use Rattle.host_widgets.specs.Orders.{Carried, sends}
 use Rattle.host_widgets.specs.ViewOf.{set_comp, record_setting}
-use Rattle.host_widgets.proofs.ActSteps.{done, ended}
 use Rattle.host_widgets.proofs.ActsCome.{IsAnswered}
 use Rattle.host_widgets.proofs.ControlLists.{takes-by}
-use Rattle.host_widgets.proofs.Effects.{decoded-message, row-decoded}
-use Rattle.host_widgets.proofs.Exchanges.{came, verdict-number}
-use Rattle.host_widgets.proofs.OneActLaws.{IsShown, IsTaken}
-use Rattle.host_widgets.proofs.OneMessage.{passes}
+use Rattle.host_widgets.proofs.Effects.{decoded-message}
+use Rattle.host_widgets.proofs.OneActLaws.{IsPlain, IsShown, IsTaken}
 use Rattle.host_widgets.proofs.PartFacts.{few-parts, header-long, part-left, part-some, payload-long}
-use Rattle.host_widgets.proofs.OneOrder.{answering}
-use Rattle.host_widgets.proofs.PlainOrders.{CarriedBy, ends-with, goes-on, no-acts, plain}
 use Rattle.host_widgets.proofs.ReplyErrors.{done_reply, zero-fits}
-use Rattle.host_ctl.specs.ControlOrders.{ask_acts, reading_order, control_answer}
-use Rattle.host_ctl.specs.ControlAnswers.{HasBlob, HasSet, IsSetAt}
+use Rattle.host_ctl.specs.ControlOrders.{ask_acts}
+use Rattle.host_ctl.specs.ControlAnswers.{HasBlob, HasSet, IsSetAt, value_command}
 use Rattle.host_ctl.specs.ControlPlaces.{control_here, record_here}
+use Rattle.host_widgets.proofs.ActSteps.{AreMet, EachBy, IsMet, met-by}
 use Rattle.host_ctl.proofs.ControlActs.{still-taken}
-use Rattle.host_ctl.proofs.ControlShown.{IsThere, before, before-there, left-set, state}
-use Rattle.host_ctl.proofs.ControlsTaken.{found-in, id-low, shown-here}
+use Rattle.host_ctl.proofs.ControlShown.{IsThere, heard}
+use Rattle.host_ctl.proofs.ControlsTaken.{ask-comes, ask-is, ask-shown, done-stays, found-in, id-low, shown-here}
 use Rattle.host_widgets.proofs.DonePasses.{done-passes}
 use Rattle.host_ctl.proofs.ControlsThere.{Was, live, of-comp, was-here}
 use Rattle.host_ctl.proofs.PartsTold.{of-blob}
@@ -73,12 +63,7 @@ data-fits id index fits small =
 
 -- one that asked and was done leaves the state
 asked-stays : (f f' : FwState) (id index : ℕ) → row f (GetData id index) ≡ Ok f' → f' ≡ f
-asked-stays f f' id index done = by (fw.is_used f.graph id) (is_some (fw.part_at f.graph id index)) done
-  where
-    by : (b c : Bool) → cond (not b) (Err no_device) (cond (not c) (Err invalid) (Ok f)) ≡ Ok f' → f' ≡ f
-    by false c is = absurd (cc is)
-    by true false is = absurd (cc is)
-    by true true is = cc (sym is)
+asked-stays f f' id index = done-stays f f' (fw.is_used f.graph id) (is_some (fw.part_at f.graph id index))
 
 -- one for a part that is there is done
 part-asked : (f : FwState) (id index : ℕ) (x : Comp) (p : Part) → comp_of f.graph id ≡ Some x → fw.part_by x.kind x.setting index ≡ Some p → row f (GetData id index) ≡ Ok f
@@ -105,21 +90,18 @@ few-initial (b ∷ blob) is = (few-parts (b ∷ blob) is).1
 abbrev pub asks_from : ℕ → ℕ → ℕ → List Act
 asks_from comp a n = map (Ask comp) (range_with_len a n)
 
--- Of n parts the first ones were asked for, and the device still shows the record: what is to come after them decides what all come to.
-pub record Ahead {D : Type 0} (means : Meaning D) (plan : Plan) (heap comp n : ℕ) (kept : Record) (w m : World D) (j : ℕ) : Type 0 where
-  pub whole : (kept' : Record) (v : World D) (result : Outcome) → CarriedBy means plan heap (asks_from comp j (n - j)) (λ now. now) kept kept' m v result → CarriedBy means plan heap (asks_from comp 0 n) (λ now. now) kept kept' w v result
-  pub agrees : Agrees means plan kept m.device
+-- what is so of one that asks for each of so many parts
+asks-each : (plan : Plan) (So : Record → Act → Type 0) (comp m : ℕ) (kept : Record) → ((j : ℕ) → j < m → So kept (Ask comp j)) → (n j : ℕ) → j + n ≡ m → EachBy plan So kept (asks_from comp j n)
+asks-each plan So comp m kept each zero j all = tt
+asks-each plan So comp m kept each (suc n) j all = (each j (omega (arith, all)), λ now. asks-each plan So comp m kept each n (j + 1) (let rest : (j + 1) + n ≡ m = omega (arith, all) in rest))
 
-module _ {D : Type 0} (means : Meaning D) (plan : Plan) (heap comp n : ℕ) (kept : Record) where
-  pub ahead-none : (w : World D) → Agrees means plan kept w.device → Ahead means plan heap comp n kept w w 0
-  ahead-none w agrees = record {
-    whole = λ kept' v result all. subst (λ (m : ℕ). CarriedBy means plan heap (asks_from comp 0 m) (λ now. now) kept kept' w v result) (let same : n - 0 ≡ n = omega arith in same) all;
-    agrees = agrees;
-  }
+asks-ask-nothing : (comp : ℕ) (js : List ℕ) → AllByRecursion IsPlain (map (Ask comp) js)
+asks-ask-nothing comp [] = tt
+asks-ask-nothing comp (j ∷ js) = (tt, asks-ask-nothing comp js)
 
-  pub ahead-all : (w m : World D) (j : ℕ) → n ≤ j → Ahead means plan heap comp n kept w m j → CarriedBy means plan heap (asks_from comp 0 n) (λ now. now) kept kept w m (Ok tt)
-  ahead-all w m j all so = so.whole kept m (Ok tt)
-      (subst (λ (rest : ℕ). CarriedBy means plan heap (asks_from comp j rest) (λ now. now) kept kept m m (Ok tt)) (let none : 0 ≡ n - j = omega (arith, all) in none) (no-acts means plan heap (λ now. now) kept kept m refl))
+pub asks-plain : (comp : ℕ) (q : ControlKind) (c : ControlRec) → AllByRecursion IsPlain (ask_acts comp q c)
+asks-plain comp (Blob most initial) c = asks-ask-nothing comp (part_numbers c.blob)
+asks-plain comp q c = (tt, tt)
 
 -- ---- at a place
 
@@ -202,74 +184,32 @@ module _ (plan : Plan) (sound : IsSound plan) (kept : Record) (is : IsRecordOf p
     -- what an exchange that passed brings is the part, and the component stays as it is
     pub part-heard : {D : Type 0} (means : Meaning D) (heap : ℕ) (m : World D) (on : is_some (means.on m.device) ≡ true) (set : IsSetAt means plan kept k.comp m.device) (kept' : Record) (v : World D) (result : Result Reply HostFault) →
         Replied means heap (message_spelling (GetData k.comp j)) kept kept' m v result → (reply : Reply) → result ≡ Ok reply → (reply.body ≡ bodies.Part (blob_part r.blob j)) × HasSet means plan kept k.comp v.device
-    part-heard {D} means heap m on set kept' v result h reply ok = ⊎_elim
-        (λ took. (let same : Ok reply ≡ Ok (record { error = pos 0; body = bodies.Part (blob_part r.blob j) }) = sym ok ∙ h.said ∙ ap verdict took.said ∙ ap (λ (b : Body). verdict (Some (done_reply b))) (part-carried now there) ∙ part-read in
-        let one : reply ≡ record { error = pos 0; body = bodies.Part (blob_part r.blob j) } = cc same in
-        let end : v ≡ h.sent = (subst (λ (y : Result Reply HostFault). PlainEnd means heap (came_to y) kept kept' h.sent v) ok h.ends).1 in
-        let stays = asked-stays now took.next k.comp j (sym (row-decoded now (GetData k.comp j) (subst IsMessage part-asks part-fits)) ∙ took.row) in (
-          ap (λ (y : Reply). y.body) one,
-          subst (λ (x : World D). HasSet means plan kept k.comp x.device) (sym end) (left-set plan sound kept is i low means m on set h.sent took.next took.on stays),
-        )))
-        (λ rest. ⊎_elim
-        (λ it. absurd (let no : Ok reply ≡ Err (Refused (errno it.error)) = sym ok ∙ h.said ∙ ap verdict it.said ∙ verdict-number it.error it.number in cc no))
-        (λ rest. ⊎_elim
-        (λ it. absurd (let no : Ok reply ≡ Err (Refused (errno it.error)) = sym ok ∙ h.said ∙ ap verdict it.said ∙ verdict-number it.error it.number in cc no))
-        (λ it. absurd (let no : Ok reply ≡ Err LinkDown = sym ok ∙ h.said ∙ ap verdict it.said in cc no))
-        rest) rest)
-        (came means (message_spelling (GetData k.comp j)) h.answer m h.sent (state plan sound kept is i low means m on set).0 (state plan sound kept is i low means m on set).1 h.exchanged).way
-      where
-        now : FwState
-        now = (before plan sound kept is i low means m on set h.sent).0
-
-        there : IsThere plan sound kept is i low now
-        there = before-there plan sound kept is i low means m on set h.sent
+    part-heard means heap m on set =
+        heard plan sound kept is i low means m on set heap (GetData k.comp j) (subst IsMessage part-asks part-fits) (λ f f' so. asked-stays f f' k.comp j so) (bodies.Part (blob_part r.blob j)) (λ f there. (part-carried f there, part-read))
 
     pub part-comes : (heap : ℕ) → IsAnswered plan heap kept ask
     part-comes heap = record { message = part-fits; passes = part-passes; answers = λ f shows. (f, ap (row f) part-asks ∙ part-there f (found-in plan sound kept is i low f shows)) }
 
-  -- ---- over any device
+-- ---- all of them, by the control's kind
 
-  module _ {D : Type 0} (means : Meaning D) (heap : ℕ) where
-    abbrev IsAhead : World D → World D → ℕ → Type 0
-    IsAhead w m j = Ahead means plan heap k.comp (parts r.blob) kept w m j
+module _ (plan : Plan) (sound : IsSound plan) (kept : Record) (is : IsRecordOf plan kept) (i : ℕ) (low : i < length plan.controls) where
+  abbrev control : ControlPlan
+  control = control_here plan i
 
-    -- all were asked for, or one was refused or lost
-    pub reading-carried : kept.power ≡ On → (kept' : Record) (w v : World D) (result : Outcome) → CarriedBy means plan heap (asks_from k.comp 0 (parts r.blob)) (λ now. now) kept kept' w v result → Carried means plan heap (reading_order kept (Some (k, r))) kept kept' w v result
-    reading-carried power kept' w v result all =
-        subst (λ (p : Power). Carried means plan heap (sends p (ask_acts k.comp k.kind r) (λ now. now) (control_answer k.kind r)) kept kept' w v result) (sym power)
-        (subst (λ (q : ControlKind). Carried means plan heap (sends On (ask_acts k.comp q r) (λ now. now) (control_answer k.kind r)) kept kept' w v result) (sym kind)
-        (answering means plan heap (plain (asks_from k.comp 0 (parts r.blob)) (λ now. now)) (control_answer k.kind r) kept kept' w v result all))
+  abbrev c : ControlRec
+  c = record_here kept i
 
-    module _ (w m : World D) (j : ℕ) (few : j < parts r.blob) (so : IsAhead w m j) (power : kept.power ≡ On) (kept' : Record) (v : World D) (result : Result Reply HostFault) (h : Replied means heap (message_spelling (GetData k.comp j)) kept kept' m v result) where
-      h' : Replied means heap (message_spelling (act_message plan (Ask k.comp j))) kept kept' m v result
-      h' = subst (λ (msg : Message). Replied means heap (message_spelling msg) kept kept' m v result) (sym (part-asks j few)) h
+  asks-of : (So : Record → Act → Type 0) → ((command : ℕ) → value_command control.kind ≡ Some command → So kept (Ask control.comp 0)) →
+      ((most : ℕ) (initial : List ℕ) → control.kind ≡ Blob most initial → (j : ℕ) → j < parts c.blob → So kept (Ask control.comp j)) → (q : ControlKind) → control.kind ≡ q → EachBy plan So kept (ask_acts control.comp q c)
+  asks-of So one part (Volume min max channels lowest step mute) e = (one 0 (ap value_command e), λ now. tt)
+  asks-of So one part (Choice items) e = (one 1 (ap value_command e), λ now. tt)
+  asks-of So one part (Masks min max channels) e = (one 2 (ap value_command e), λ now. tt)
+  asks-of So one part (Blob most initial) e = asks-each plan So control.comp (parts c.blob) kept (part most initial e) (parts c.blob) 0 (let all : 0 + parts c.blob ≡ parts c.blob = omega arith in all)
 
-      x : Passes means heap (message_spelling (act_message plan (Ask k.comp j))) kept kept' m v (came_to result)
-      x = passes means heap (message_spelling (act_message plan (Ask k.comp j))) kept m kept' v result (came_to result) h' refl
+  -- both laws of one act hold of each
+  pub asks-taken : EachBy plan (IsTaken plan) kept (ask_acts control.comp control.kind c)
+  asks-taken = asks-of (IsTaken plan) (λ command at. ask-is plan sound kept is i low command at) (λ most initial e j few. part-is plan sound kept is i low most initial e j few) control.kind refl
 
-      abbrev behind : List Act
-      behind = asks_from k.comp (j + 1) (parts r.blob - (j + 1))
-
-      next-is : asks_from k.comp j (parts r.blob - j) ≡ Ask k.comp j ∷ behind
-      next-is = ap (asks_from k.comp j) (let more : parts r.blob - j ≡ suc (parts r.blob - (j + 1)) = omega (arith, few) in more)
-
-      -- one part more was asked for
-      pub ahead-more : (reply : Reply) → result ≡ Ok reply → IsAhead w v (j + 1)
-      ahead-more reply ok =
-          let both = done means plan heap kept (Ask k.comp j) (part-shown j few) (part-comes j few heap) m so.agrees power kept' v (came_to result) x (ap came_to ok) kept refl in
-          record {
-            whole = λ kept'' u end rest. so.whole kept'' u end
-                (subst (λ (acts : List Act). CarriedBy means plan heap acts (λ now. now) kept kept'' m u end) (sym next-is)
-                (goes-on means plan heap (Ask k.comp j) behind (λ now. now) kept m kept kept'' v u end both.0 rest));
-            agrees = both.1;
-          }
-
-      -- one was refused or lost
-      pub ahead-ends : (fault : HostFault) → result ≡ Err fault → CarriedBy means plan heap (asks_from k.comp 0 (parts r.blob)) (λ now. now) kept kept' w v (Err fault) × Agrees means plan kept' v.device
-      ahead-ends fault failed =
-          let both = ended means plan heap kept (Ask k.comp j) (part-shown j few) (part-comes j few heap) m so.agrees power kept' v (came_to result) x fault (ap came_to failed) in (
-            so.whole kept' v (Err fault)
-                (subst (λ (acts : List Act). CarriedBy means plan heap acts (λ now. now) kept kept' m v (Err fault)) (sym next-is)
-                (ends-with means plan heap (Ask k.comp j) behind (λ now. now) kept m fault kept' v both.0)),
-            both.1,
-          )
+  pub asks-met : (heap : ℕ) → kept.power ≡ On → AreMet plan heap kept (ask_acts control.comp control.kind c)
+  asks-met heap on = asks-of (IsMet plan heap) (λ command at. met-by plan heap kept (Ask control.comp 0) on (ask-shown plan sound kept is i low command at) (ask-comes plan sound kept is i low command at heap))
+      (λ most initial e j few. met-by plan heap kept (Ask control.comp j) on (part-shown plan sound kept is i low most initial e j few) (part-comes plan sound kept is i low most initial e j few heap)) control.kind refl

@@ -1,22 +1,34 @@
 -- A device that has the component of a control as the record sets it: right before a message, and after one that leaves it.
-use Rattle.std.proofs.Common.{◌≡◌, sym, ap, ◌∙◌, ℕ, ◌<◌, ◌-◌, List, length, true, Some}
+use Rattle.std.proofs.Common.{◌≡◌, ⊎_elim, sym, ap, subst, ◌∙◌, ℕ, ◌<◌, ◌-◌, List, length, true, pos, Some, Result, Ok, Err}
 use Rattle.std.specs.Prelude.{is_some}
 use Rattle.std.specs.Option.{option_map}
 use Rattle.sof_base.specs.Ports.{Io}
 use Rattle.stream_law.specs.State.{FwState, View, view_of}
 use Rattle.stream_law.specs.Ways.{comp_of}
+use Rattle.ipc3_model.specs.declared.message.Message.{Message}
+use Rattle.ipc3_model.specs.declared.reply.Body.{Body}
+use Rattle.ipc3_model.specs.declared.reply.Reply.{Reply}
+use Rattle.ipc3_model.specs.Meanings.{IsMessage}
+use Rattle.ipc3_model.specs.Messages.{message_spelling, decoded}
 use Rattle.mbox_link.specs.Calls.{World, Meaning}
 use Rattle.mbox_link.specs.Exchange.{ticks}
+use Rattle.mbox_link.specs.Step.{row, body_of}
 use Rattle.tplg_plan.specs.declared.plans.Plan.{Plan}
 use Rattle.tplg_plan.specs.declared.plans.ControlPlan.{ControlPlan}
 use Rattle.tplg_plan.specs.Sound.{IsLive, IsSound}
+use Rattle.host_widgets.specs.declared.answers.HostFault.{HostFault}
+use Rattle.host_widgets.specs.declared.answers.HostFault.TheVariants.{LinkDown, Refused}
 use Rattle.host_widgets.specs.declared.kept.Power.{Power}
 use Rattle.host_widgets.specs.declared.kept.Power.TheVariants.{Unloaded, On, Off}
 use Rattle.host_widgets.specs.declared.kept.Record.{Record}
-use Rattle.host_widgets.specs.Host.{Agrees, IsRecordOf, Sides}
+use Rattle.host_widgets.specs.ActCalls.{came_to}
+use Rattle.host_widgets.specs.ActCarried.{PlainEnd, Replied}
+use Rattle.host_widgets.specs.Host.{Agrees, IsRecordOf, Sides, errno, verdict}
 use Rattle.host_widgets.specs.ViewOf.{graph_by, record_view, set_comp}
 use Rattle.host_widgets.proofs.ActsCome.{still}
-use Rattle.host_widgets.proofs.Exchanges.{state_of}
+use Rattle.host_widgets.proofs.Effects.{row-decoded}
+use Rattle.host_widgets.proofs.Exchanges.{came, state_of, verdict-number}
+use Rattle.host_widgets.proofs.ReplyErrors.{done_reply}
 use Rattle.host_ctl.specs.ControlAnswers.{HasSet, IsSetAt, IsSetFor}
 use Rattle.host_ctl.specs.ControlPlaces.{control_here}
 use Rattle.host_ctl.proofs.ControlsThere.{live}
@@ -66,6 +78,30 @@ module _ (plan : Plan) (sound : IsSound plan) (kept : Record) (is : IsRecordOf p
     -- one that is left so has it still
     pub left-set : (v : World D) (next : FwState) → means.on v.device ≡ Some next → next ≡ (before v).0 → HasSet means plan kept k.comp v.device
     left-set v next on_next same = ((before v).0, on_next ∙ ap (λ (f : FwState). Some f) same, before-there v ∙ sym set-there)
+
+    -- What an exchange that passed brings, of a message that leaves the state: what the firmware has there, and has still.
+    pub heard : (heap : ℕ) (message : Message) → IsMessage message → ((f f' : FwState) → row f message ≡ Ok f' → f' ≡ f) → (body : Body) →
+        ((f : FwState) → IsThere f → (body_of f (decoded (message_spelling message)) ≡ body) × (verdict (Some (done_reply body)) ≡ Ok (record { error = pos 0; body = body }))) →
+        (kept' : Record) (v : World D) (result : Result Reply HostFault) → Replied means heap (message_spelling message) kept kept' w v result → (reply : Reply) → result ≡ Ok reply → (reply.body ≡ body) × HasSet means plan kept k.comp v.device
+    heard heap message fits stays body carries kept' v result h reply ok = ⊎_elim
+        (λ took. (let same : Ok reply ≡ Ok (record { error = pos 0; body = body }) = sym ok ∙ h.said ∙ ap verdict took.said ∙ ap (λ (b : Body). verdict (Some (done_reply b))) here.0 ∙ here.1 in
+        let one : reply ≡ record { error = pos 0; body = body } = cc same in
+        let end : v ≡ h.sent = (subst (λ (r : Result Reply HostFault). PlainEnd means heap (came_to r) kept kept' h.sent v) ok h.ends).1 in
+        let still = stays now took.next (sym (row-decoded now message fits) ∙ took.row) in
+        (ap (λ (r : Reply). r.body) one, subst (λ (x : World D). HasSet means plan kept k.comp x.device) (sym end) (left-set h.sent took.next took.on still))))
+        (λ rest. ⊎_elim
+        (λ it. absurd (let no : Ok reply ≡ Err (Refused (errno it.error)) = sym ok ∙ h.said ∙ ap verdict it.said ∙ verdict-number it.error it.number in cc no))
+        (λ rest. ⊎_elim
+        (λ it. absurd (let no : Ok reply ≡ Err (Refused (errno it.error)) = sym ok ∙ h.said ∙ ap verdict it.said ∙ verdict-number it.error it.number in cc no))
+        (λ it. absurd (let no : Ok reply ≡ Err LinkDown = sym ok ∙ h.said ∙ ap verdict it.said in cc no))
+        rest) rest)
+        (came means (message_spelling message) h.answer w h.sent state.0 state.1 h.exchanged).way
+      where
+        now : FwState
+        now = (before h.sent).0
+
+        here : (body_of now (decoded (message_spelling message)) ≡ body) × (verdict (Some (done_reply body)) ≡ Ok (record { error = pos 0; body = body }))
+        here = carries now (before-there h.sent)
 
 -- what it has, it has in each of its states
 pub has-set : {D : Type 0} (means : Meaning D) (plan : Plan) (kept : Record) (id : ℕ) (device : D) → HasSet means plan kept id device → IsSetAt means plan kept id device

@@ -12,20 +12,20 @@ use Rattle.tplg_plan.specs.declared.plans.Plan.{Plan}
 use Rattle.tplg_plan.specs.declared.plans.ControlPlan.{ControlPlan}
 use Rattle.tplg_plan.specs.declared.plans.ControlKind.{ControlKind}
 use Rattle.tplg_plan.specs.declared.plans.ControlKind.TheVariants.{Volume, Choice, Blob, Masks}
-use Rattle.tplg_plan.specs.Sound.{IsControlOf}
+use Rattle.tplg_plan.specs.Sound.{IsControlOf, IsSound}
 use Rattle.host_widgets.specs.declared.answers.HostFault.{HostFault}
 use Rattle.host_widgets.specs.declared.answers.HostFault.TheVariants as faults
 use Rattle.host_widgets.specs.declared.kept.Power.{Power}
 use Rattle.host_widgets.specs.declared.kept.Power.TheVariants.{Unloaded, On, Off}
 use Rattle.host_widgets.specs.declared.kept.Record.{Record}
-use Rattle.host_widgets.specs.Host.{Outcome}
+use Rattle.host_widgets.specs.Host.{IsRecordOf, Outcome}
 use Rattle.host_widgets.specs.Named.{is_named, loaded_fault}
 use Rattle.host_widgets.specs.Orders.{Procedure, Carried}
 use Rattle.host_widgets.specs.TestedOrders.{Tested}
 use Rattle.host_ctl.specs.ControlAsks.{named_control, channels_of, takes_value, spread, kind_fault, setting_fault, set_fault, name_fault, get_fault}
 use Rattle.host_ctl.specs.ControlAnswers.{MaySet}
 use Rattle.host_ctl.specs.ControlPlaces.{no_control, control_place, control_here}
-use Rattle.host_ctl.proofs.ControlsThere.{found-here, lost-here}
+use Rattle.host_ctl.proofs.ControlsThere.{found-here, live, lost-here, named-here}
 
 -- ---- a call by its test
 
@@ -168,3 +168,10 @@ settable name (Masks min max channels) values kind of none =
 pub handed : {X : Type 0} (result : Result X HostFault) (fault : HostFault) → IsErr result × IsErrAnd result (λ f. f ≡ fault) → result ≡ Err fault
 handed (Ok x) fault (err, same) = absurd (cc err)
 handed (Err f) fault (err, same) = ap (λ (x : HostFault). Err x) same
+
+-- of the control of this name
+pub settable-here : (plan : Plan) → IsSound plan → (kept : Record) → IsRecordOf plan kept → (name : List ℕ) (i : ℕ) → control_place plan name ≡ Some i → (values : List ℕ) → set_fault plan kept name values ≡ None → Settable (control_here plan i).kind values
+settable-here plan sound kept is name i at values none =
+    let low = place-low plan name i at in
+    let there = live plan sound kept is i low in
+    settable name (control_here plan i).kind values there.comp.kind there.kind (set-passes plan kept name values (control_here plan i) (named-here plan sound kept is i low name at) none)

@@ -91,13 +91,10 @@ few-values (Masks min max channels) values may kind of =
 few-values (Blob most initial) values may kind of = absurd (none-empty (may [] refl).2)
 
 -- one that asked and was done leaves the state
-asked-stays : (f f' : FwState) (id command : ℕ) → row f (GetValue id command) ≡ Ok f' → f' ≡ f
-asked-stays f f' id command done = by (fw.is_used f.graph id) (is_some (fw.control_values_at f.graph id command)) done
-  where
-    by : (b c : Bool) → cond (not b) (Err no_device) (cond (not c) (Err invalid) (Ok f)) ≡ Ok f' → f' ≡ f
-    by false c is = absurd (cc is)
-    by true false is = absurd (cc is)
-    by true true is = cc (sym is)
+pub done-stays : (f f' : FwState) (b c : Bool) → cond (not b) (Err no_device) (cond (not c) (Err invalid) (Ok f)) ≡ Ok f' → f' ≡ f
+done-stays f f' false c is = absurd (cc is)
+done-stays f f' true false is = absurd (cc is)
+done-stays f f' true true is = cc (sym is)
 
 -- ---- at a place
 
@@ -184,7 +181,7 @@ module _ (plan : Plan) (sound : IsSound plan) (kept : Record) (is : IsRecordOf p
     ask-fits = subst IsMessage (sym asks) (get-fits k.comp command id-low (few-commands k.kind command at))
 
     pub ask-stays : (f f' : FwState) → row f (act_message plan (Ask k.comp 0)) ≡ Ok f' → f' ≡ f
-    ask-stays f f' done = asked-stays f f' k.comp command (ap (row f) (sym asks) ∙ done)
+    ask-stays f f' done = done-stays f f' (fw.is_used f.graph k.comp) (is_some (fw.control_values_at f.graph k.comp command)) (ap (row f) (sym asks) ∙ done)
 
     passes : (f : FwState) → came_to (verdict (Some (done_reply (body_of f (decoded (message_spelling (act_message plan (Ask k.comp 0)))))))) ≡ Ok tt
     passes f = done-passes (body_of f (decoded (message_spelling (act_message plan (Ask k.comp 0)))))

@@ -134,7 +134,7 @@ module _ (plan : Plan) (sound : IsSound plan) (kept : Record) (is : IsRecordOf p
       (changed-at (λ (x : ControlPlan). x.comp) (with_values values) no_control no_values plan.controls sound.controls_ascend kept.controls i low within)
 
 -- what is set twice to the same is set
-pub set-twice : (comp : ℕ) (f : ControlRec → ControlRec) → ((r : ControlRec) → f (f r) ≡ f r) → (ks : List ControlPlan) (rs : List ControlRec) →
+set-twice : (comp : ℕ) (f : ControlRec → ControlRec) → ((r : ControlRec) → f (f r) ≡ f r) → (ks : List ControlPlan) (rs : List ControlRec) →
     changed (λ (k : ControlPlan). k.comp) comp f ks (changed (λ (k : ControlPlan). k.comp) comp f ks rs) ≡ changed (λ (k : ControlPlan). k.comp) comp f ks rs
 set-twice comp f same [] rs = refl
 set-twice comp f same (k ∷ ks) [] = refl
@@ -143,3 +143,6 @@ set-twice comp f same (k ∷ ks) (r ∷ rs) = λ i. by (k.comp == comp) i ∷ se
     by : (b : Bool) → (if b then f (if b then f r else r) else (if b then f r else r)) ≡ (if b then f r else r)
     by true = same r
     by false = refl
+
+pub control-twice : (plan : Plan) (comp : ℕ) (f : ControlRec → ControlRec) → ((r : ControlRec) → f (f r) ≡ f r) → (kept : Record) → with_control plan comp f (with_control plan comp f kept) ≡ with_control plan comp f kept
+control-twice plan comp f same kept = ap (λ (rs : List ControlRec). record { power = kept.power; streams = kept.streams; controls = rs }) (set-twice comp f same plan.controls kept.controls)

@@ -21,13 +21,16 @@ use Rattle.stream_law.specs.Stays.{SameWays, KeepsShape}
 use Rattle.stream_law.proofs.Shapes.{on_way_same, live-stays}
 use Rattle.stream_law.proofs.Standing.{Stands-now}
 use Rattle.stream_law.proofs.Remembering.{is_of-kinds}
+use Rattle.mbox_link.specs.Calls.{Meaning}
 use Rattle.tplg_plan.specs.declared.plans.Plan.{Plan}
 use Rattle.tplg_plan.specs.declared.plans.ControlPlan.{ControlPlan}
+use Rattle.host_widgets.specs.declared.kept.Power.{Power}
+use Rattle.host_widgets.specs.declared.kept.Power.TheVariants as powers
 use Rattle.host_widgets.specs.declared.kept.Record.{Record}
 use Rattle.host_widgets.specs.declared.kept.ControlRec.{ControlRec}
 use Rattle.host_widgets.specs.Kept.{control_at, with_control}
 use Rattle.host_widgets.specs.ViewOf.{record_view, graph_by, set_comp, record_setting}
-use Rattle.host_widgets.specs.Host.{IsRecordOf, AreControls}
+use Rattle.host_widgets.specs.Host.{Agrees, AreControls, IsRecordOf, Sides}
 use Rattle.host_ctl.proofs.PutShows.{found-set, there-at, elsewhere-at}
 use Rattle.host_widgets.proofs.ActsStand.{all-have}
 use Rattle.host_widgets.proofs.SameTouch.{touch_same}
@@ -200,3 +203,13 @@ module _ (plan : Plan) (kept : Record) (comp : ℕ) (g : ControlRec → ControlR
     -- and the record stays one of the plan, where its controls do
     pub put-record : IsRecordOf plan kept → AreControls plan.controls now.controls → IsRecordOf plan now
     put-record is are = record-with is are
+
+-- while the power is off, another control leaves the two sides agreeing
+pub off-agrees : {D : Type 0} (means : Meaning D) (plan : Plan) (kept : Record) (comp : ℕ) (f : ControlRec → ControlRec) → (kept.power ≡ powers.Unloaded → ⊥) → (kept.power ≡ powers.On → ⊥) → IsRecordOf plan (with_control plan comp f kept) →
+    (d : D) → Agrees means plan kept d → Agrees means plan (with_control plan comp f kept) d
+off-agrees means plan kept comp f up off is d agrees = record { record_is = is; sides = by kept.power up off agrees.sides }
+  where
+    by : (power : Power) → (power ≡ powers.Unloaded → ⊥) → (power ≡ powers.On → ⊥) → Sides means plan kept d power → Sides means plan (with_control plan comp f kept) d power
+    by powers.Off up off side = side
+    by powers.Unloaded up off side = absurd (up refl)
+    by powers.On up off side = absurd (off refl)

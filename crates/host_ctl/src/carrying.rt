@@ -7,12 +7,9 @@ ghost use Rattle.sof_base.specs.BlobFaults.{is_blob};
 ghost use Rattle.ipc3_model.specs.declared.reply.Body.TheVariants as bodies;
 ghost use Rattle.host_widgets.specs.declared.answers.Answer.TheVariants as answers;
 ghost use Rattle.host_widgets.specs.AnsweredOrders.{ActsAnswered, OrderAnswered};
-ghost use Rattle.host_widgets.specs.Host.{Agrees};
 ghost use Rattle.host_widgets.specs.HostActs.{Put, with_values};
 ghost use Rattle.host_widgets.specs.HostActs as acts;
 ghost use Rattle.host_widgets.specs.Kept.{with_control};
-ghost use Rattle.host_widgets.specs.Orders.{Carried};
-ghost use Rattle.host_widgets.specs.ActCarried.{ActCarried};
 ghost use Rattle.host_widgets.specs.Sides.{IsReady, SameSide, world_of};
 ghost use Rattle.host_ctl.specs.ControlAsks as asks;
 ghost use Rattle.host_ctl.specs.ControlOrders as orders;
@@ -86,9 +83,6 @@ fn put<P: Dsp>(
     requires values { MaySet (control_here side.old.plan.now place).kind values.now }
     ensures answered { ActsAnswered P.means side.old.plan.now side.old.heap (with_control side.old.plan.now (control_here side.old.plan.now place).comp (with_values values.now)) (Put (control_here side.old.plan.now place).comp values.now ∷ []) side.old.kept.now side.new.kept.now
         (world_of side.old) (world_of side.new) result }
-    ensures agree { Agrees P.means side.old.plan.now side.old.kept.now side.old.dsp.now →
-        ActCarried P.means side.old.plan.now side.old.heap (Put (control_here side.old.plan.now place).comp values.now) side.old.kept.now side.new.kept.now (world_of side.old) (world_of side.new) result
-        × Agrees P.means side.old.plan.now side.new.kept.now side.new.dsp.now }
     ensures same { SameSide side.old side.new }
 {
     let control = &side.plan.controls.items()[place];
@@ -110,10 +104,6 @@ pub fn set<P: Dsp>(
     requires values { MaySet (control_here side.old.plan.now place).kind values.now }
     ensures answered { OrderAnswered P.means side.old.plan.now side.old.heap (orders.put_order side.old.plan.now side.old.kept.now (control_here side.old.plan.now place).comp values.now) side.old.kept.now side.new.kept.now
         (world_of side.old) (world_of side.new) result }
-    ensures agree { Agrees P.means side.old.plan.now side.old.kept.now side.old.dsp.now →
-        Carried P.means side.old.plan.now side.old.heap (orders.put_order side.old.plan.now side.old.kept.now (control_here side.old.plan.now place).comp values.now) side.old.kept.now side.new.kept.now
-        (world_of side.old) (world_of side.new) result
-        × Agrees P.means side.old.plan.now side.new.kept.now side.new.dsp.now }
     ensures same { SameSide side.old side.new }
 {
     match side.kept.power {
@@ -164,10 +154,6 @@ fn install<P: Dsp>(side: &mut HostCall<'_, P>, place: usize, blob: &[u8]) -> Res
     requires blob { MayInstall (control_here side.old.plan.now place).kind blob.now }
     ensures answered { OrderAnswered P.means side.old.plan.now side.old.heap (orders.bytes_order_at side.old.plan.now side.old.kept.now (control_here side.old.plan.now place).comp blob.now) side.old.kept.now side.new.kept.now
         (world_of side.old) (world_of side.new) result }
-    ensures agree { Agrees P.means side.old.plan.now side.old.kept.now side.old.dsp.now →
-        Carried P.means side.old.plan.now side.old.heap (orders.bytes_order_at side.old.plan.now side.old.kept.now (control_here side.old.plan.now place).comp blob.now) side.old.kept.now side.new.kept.now
-        (world_of side.old) (world_of side.new) result
-        × Agrees P.means side.old.plan.now side.new.kept.now side.new.dsp.now }
     ensures same { SameSide side.old side.new }
 {
     let comp = side.plan.controls.items()[place].comp;
@@ -188,10 +174,6 @@ pub fn set_bytes<P: Dsp>(
     requires blob { MayInstall (control_here side.old.plan.now place).kind blob.now }
     ensures answered { OrderAnswered P.means side.old.plan.now side.old.heap (orders.bytes_order_at side.old.plan.now side.old.kept.now (control_here side.old.plan.now place).comp blob.now) side.old.kept.now side.new.kept.now
         (world_of side.old) (world_of side.new) result }
-    ensures agree { Agrees P.means side.old.plan.now side.old.kept.now side.old.dsp.now →
-        Carried P.means side.old.plan.now side.old.heap (orders.bytes_order_at side.old.plan.now side.old.kept.now (control_here side.old.plan.now place).comp blob.now) side.old.kept.now side.new.kept.now
-        (world_of side.old) (world_of side.new) result
-        × Agrees P.means side.old.plan.now side.new.kept.now side.new.dsp.now }
     ensures same { SameSide side.old side.new }
 {
     match side.kept.power {
@@ -225,9 +207,6 @@ fn ask<P: Dsp>(side: &mut HostCall<'_, P>, place: usize, command: u32) -> Result
     ensures told { IsSetAt P.means side.old.plan.now side.old.kept.now (control_here side.old.plan.now place).comp side.old.dsp.now → IfOk result (λ a. (a ≡ orders.control_answer (control_here side.old.plan.now place).kind (record_here side.old.kept.now place))
         × HasSet P.means side.old.plan.now side.old.kept.now (control_here side.old.plan.now place).comp side.new.dsp.now) }
     ensures still { IfOk result (λ a. side.new.kept.now ≡ side.old.kept.now) }
-    ensures agree { Agrees P.means side.old.plan.now side.old.kept.now side.old.dsp.now →
-        ActCarried P.means side.old.plan.now side.old.heap (acts.Ask (control_here side.old.plan.now place).comp 0) side.old.kept.now side.new.kept.now (world_of side.old) (world_of side.new) (control_answers.outcome_of result)
-        × Agrees P.means side.old.plan.now side.new.kept.now side.new.dsp.now }
     ensures same { SameSide side.old side.new }
 {
     let message = Message::GetValue {
@@ -299,10 +278,6 @@ fn ask_all<P: Dsp>(
     ensures told { IsSetAt P.means side.old.plan.now side.old.kept.now (control_here side.old.plan.now place).comp side.old.dsp.now → IfOk result (λ done. (told.new.items ≡ (record_here side.old.kept.now place).blob)
         × HasSet P.means side.old.plan.now side.old.kept.now (control_here side.old.plan.now place).comp side.new.dsp.now) }
     ensures still { IfOk result (λ done. side.new.kept.now ≡ side.old.kept.now) }
-    ensures agree { Agrees P.means side.old.plan.now side.old.kept.now side.old.dsp.now →
-        Carried P.means side.old.plan.now side.old.heap (orders.reading_order side.old.kept.now (Some (control_here side.old.plan.now place, record_here side.old.kept.now place))) side.old.kept.now side.new.kept.now
-        (world_of side.old) (world_of side.new) result
-        × Agrees P.means side.old.plan.now side.new.kept.now side.new.dsp.now }
     ensures same { SameSide side.old side.new }
 {
     for index in 0..count {
@@ -338,10 +313,6 @@ fn ask_parts<P: Dsp>(side: &mut HostCall<'_, P>, place: usize) -> Result<Answer,
     ensures told { IsSetAt P.means side.old.plan.now side.old.kept.now (control_here side.old.plan.now place).comp side.old.dsp.now → IfOk result (λ a. (a ≡ orders.control_answer (control_here side.old.plan.now place).kind (record_here side.old.kept.now place))
         × HasSet P.means side.old.plan.now side.old.kept.now (control_here side.old.plan.now place).comp side.new.dsp.now) }
     ensures still { IfOk result (λ a. side.new.kept.now ≡ side.old.kept.now) }
-    ensures agree { Agrees P.means side.old.plan.now side.old.kept.now side.old.dsp.now →
-        Carried P.means side.old.plan.now side.old.heap (orders.reading_order side.old.kept.now (Some (control_here side.old.plan.now place, record_here side.old.kept.now place))) side.old.kept.now side.new.kept.now
-        (world_of side.old) (world_of side.new) (control_answers.outcome_of result)
-        × Agrees P.means side.old.plan.now side.new.kept.now side.new.dsp.now }
     ensures same { SameSide side.old side.new }
 {
     let count = parts_of(side.kept.controls.items()[place].blob.items());
@@ -360,10 +331,6 @@ pub fn read<P: Dsp>(side: &mut HostCall<'_, P>, place: usize) -> Result<Answer, 
     ensures told { IsSetAt P.means side.old.plan.now side.old.kept.now (control_here side.old.plan.now place).comp side.old.dsp.now → IfOk result (λ a. (a ≡ orders.control_answer (control_here side.old.plan.now place).kind (record_here side.old.kept.now place))
         × HasSet P.means side.old.plan.now side.old.kept.now (control_here side.old.plan.now place).comp side.new.dsp.now) }
     ensures still { IfOk result (λ a. side.new.kept.now ≡ side.old.kept.now) }
-    ensures agree { Agrees P.means side.old.plan.now side.old.kept.now side.old.dsp.now →
-        Carried P.means side.old.plan.now side.old.heap (orders.reading_order side.old.kept.now (Some (control_here side.old.plan.now place, record_here side.old.kept.now place))) side.old.kept.now side.new.kept.now
-        (world_of side.old) (world_of side.new) (control_answers.outcome_of result)
-        × Agrees P.means side.old.plan.now side.new.kept.now side.new.dsp.now }
     ensures same { SameSide side.old side.new }
 {
     match side.plan.controls.items()[place].kind {

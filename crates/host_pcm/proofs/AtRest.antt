@@ -1,16 +1,15 @@
--- A stream that is opened or closed by no message: its order is carried out, and the two sides go on agreeing.
-use Rattle.std.proofs.Common.{◌≡◌, ◌⊎◌, inl, inr, ⊎_elim, ℕ, zero, suc, ◌<◌, Bool, true, false, ◌||◌, ◌==◌, List, [], ◌∷◌, length, map, zip, get_or, Option, Some, None, Ok, refl, sym, ap, subst, ◌∙◌, if◌then◌else◌}
+-- A stream that is opened or closed by no message: the two sides go on agreeing.
+use Rattle.std.proofs.Common.{◌≡◌, ◌⊎◌, inl, inr, ⊎_elim, ℕ, zero, suc, ◌<◌, Bool, true, false, ◌||◌, ◌==◌, List, [], ◌∷◌, length, map, zip, get_or, Option, Some, None, refl, sym, ap, subst, ◌∙◌, if◌then◌else◌}
 use Rattle.std.specs.List.{list_any, list_all}
 use Rattle.std.proofs.lemmas.Bool.{and_parts, or_parts}
 use Rattle.sof_base.specs.declared.format.Params.{Params}
 use Rattle.stream_law.specs.declared.stream.Phase.TheVariants.{Idle}
 use Rattle.stream_law.specs.declared.stream.StreamView.{StreamView}
 use Rattle.stream_law.specs.Ways.{is_live_phase}
-use Rattle.mbox_link.specs.Calls.{World, Meaning}
+use Rattle.mbox_link.specs.Calls.{Meaning}
 use Rattle.tplg_plan.specs.declared.plans.Plan.{Plan}
 use Rattle.tplg_plan.specs.declared.plans.StreamPlan.{StreamPlan}
 use Rattle.tplg_plan.specs.Sound.{IsSound}
-use Rattle.host_widgets.specs.declared.answers.Answer.TheVariants.{Done}
 use Rattle.host_widgets.specs.declared.kept.Found.{Found}
 use Rattle.host_widgets.specs.declared.kept.Found.TheVariants.{Closed, Open, Prepared, Running, Paused, On as Found_On}
 use Rattle.host_widgets.specs.declared.kept.Power.{Power}
@@ -24,17 +23,12 @@ use Rattle.host_widgets.specs.ActLists.{close_by}
 use Rattle.host_widgets.specs.Expected.{phase_of, stream_view}
 use Rattle.host_widgets.specs.ViewOf.{graph_by}
 use Rattle.host_widgets.specs.Host.{Agrees, Sides}
-use Rattle.host_widgets.specs.Orders.{Procedure, Carried, sends}
 use Rattle.host_widgets.proofs.StreamRows.{AllAt}
 use Rattle.host_widgets.proofs.StreamPlaces.{place-all}
 use Rattle.host_widgets.proofs.RecordsStay.{may, Less, record-less}
-use Rattle.host_pcm.specs.declared.asking.Ask.TheVariants.{Opening, Closing}
 use Rattle.host_pcm.specs.Asks.{stream_at, is_closed}
-use Rattle.host_pcm.specs.StreamCalls.{with_stream_at}
-use Rattle.host_pcm.specs.StreamCalls.{host_at, place_order, opened_stream, shut}
-use Rattle.host_widgets.proofs.PlainOrders.{plain, no-acts}
+use Rattle.host_pcm.specs.StreamCalls.{host_at}
 use Rattle.host_widgets.proofs.StreamAnswers.{anywhere}
-use Rattle.host_pcm.proofs.Places.{place-changed}
 
 -- ---- streams that show nothing
 
@@ -92,19 +86,6 @@ module _ (host : ℕ) (c : StreamRec) (idle : IsIdle c) where
       by true was = ap is_live_phase idle.0
       by false was = was
 
--- ---- both sides
-
-loaded : (power : Power) → (power ≡ Unloaded → ⊥) → (power ≡ On) ⊎ (power ≡ Off)
-loaded On is = inl refl
-loaded Off is = inr refl
-loaded Unloaded is = absurd (is refl)
-
--- orders of no acts
-sends-none : (power : Power) (done : Record → Record) → sends power [] done Done ≡ plain [] done
-sends-none On done = refl
-sends-none Off done = refl
-sends-none Unloaded done = refl
-
 pub close-none : (host : ℕ) (found : Found) → is_idle found ≡ true → close_by host found ≡ []
 close-none host Closed is = refl
 close-none host Open is = refl
@@ -113,55 +94,35 @@ close-none host Running is = absurd (cc is)
 close-none host Paused is = absurd (cc is)
 close-none host Found_On is = refl
 
--- an opening sends nothing
-pub open-carried : {D : Type 0} (means : Meaning D) (plan : Plan) (sound : IsSound plan) (heap k : ℕ) (within : k < length plan.streams) (kept : Record) (w : World D) → length kept.streams ≡ length plan.streams →
-    Carried means plan heap (place_order plan kept k Opening) kept (with_stream_at k (opened_stream closed) kept) w w (Ok tt)
-open-carried means plan sound heap k within kept w long =
-    subst (λ (o : Procedure). Carried means plan heap o kept (with_stream_at k (opened_stream closed) kept) w w (Ok tt)) (sym (sends-none kept.power (with_stream plan (host_at plan k) opened_stream)))
-    (no-acts means plan heap (with_stream plan (host_at plan k) opened_stream) kept (with_stream_at k (opened_stream closed) kept) w (place-changed plan sound k within opened_stream kept long))
+-- ---- both sides
 
-module _ {D : Type 0} (means : Meaning D) (plan : Plan) (sound : IsSound plan) (heap k : ℕ) (within : k < length plan.streams) (kept : Record) (w : World D) (agrees : Agrees means plan kept w.device)
-    (up : kept.power ≡ Unloaded → ⊥) where
-  -- a stream that shows nothing, in place of one that shows nothing or while the power is off
-  module _ (c : StreamRec) (idle : IsIdle c) (may-c : may c ≡ true) (was : kept.power ≡ On → is_idle (stream_at kept k).found ≡ true) where
-    abbrev later : Record
+loaded : (power : Power) → (power ≡ Unloaded → ⊥) → (power ≡ On) ⊎ (power ≡ Off)
+loaded On is = inl refl
+loaded Off is = inr refl
+loaded Unloaded is = absurd (is refl)
+
+-- they agree as before, with a stream that shows nothing in place of one that shows nothing, or while the power is off
+pub later-agrees : {D : Type 0} (means : Meaning D) (plan : Plan) (sound : IsSound plan) (k : ℕ) (within : k < length plan.streams) (kept : Record) → (kept.power ≡ Unloaded → ⊥) → (c : StreamRec) → IsIdle c → may c ≡ true →
+    (kept.power ≡ On → is_idle (stream_at kept k).found ≡ true) → (d : D) → Agrees means plan kept d → Agrees means plan (with_stream plan (host_at plan k) (λ r. c) kept) d
+later-agrees means plan sound k within kept up c idle may-c was d agrees = record {
+  record_is = record-less plan kept (host_at plan k) (λ r. c) agrees.record_is
+      (anywhere (λ r. may c ≡ true) (λ r. may-c) (host_at plan k) plan.streams kept.streams)
+      (anywhere (λ r. Less c.params r.params) (λ r. inr idle.1) (host_at plan k) plan.streams kept.streams);
+  sides = ⊎_elim
+      (λ on.
+      let side = subst (λ (x : Power). Sides means plan kept d x) on agrees.sides in
+      let here : IsIdle (stream_at kept k) = idle-shows (stream_at kept k).found (stream_at kept k).params (was on) (may-at kept.streams k agrees.record_is.each) in
+      let same = same-shown (host_at plan k) c idle plan.streams kept.streams (place-all plan sound k within IsIdle kept.streams here) in
+      subst (λ (x : Power). Sides means plan later d x) (sym on)
+      (side ∙ ap (λ (ss : List StreamView). Some (record { graph = graph_by plan kept; streams = ss })) (sym same)))
+      (λ off.
+      let side = subst (λ (x : Power). Sides means plan kept d x) off agrees.sides in
+      subst (λ (x : Power). Sides means plan later d x) (sym off) (none-live (host_at plan k) c idle plan.streams kept.streams side.0, side.1))
+      (loaded kept.power up);
+}
+  where
+    later : Record
     later = with_stream plan (host_at plan k) (λ r. c) kept
-
-    agrees-later : Agrees means plan later w.device
-    agrees-later = record {
-      record_is = record-less plan kept (host_at plan k) (λ r. c) agrees.record_is
-          (anywhere (λ r. may c ≡ true) (λ r. may-c) (host_at plan k) plan.streams kept.streams)
-          (anywhere (λ r. Less c.params r.params) (λ r. inr idle.1) (host_at plan k) plan.streams kept.streams);
-      sides = ⊎_elim
-          (λ on.
-          let side = subst (λ (x : Power). Sides means plan kept w.device x) on agrees.sides in
-          let here : IsIdle (stream_at kept k) = idle-shows (stream_at kept k).found (stream_at kept k).params (was on) (may-at kept.streams k agrees.record_is.each) in
-          let same = same-shown (host_at plan k) c idle plan.streams kept.streams (place-all plan sound k within IsIdle kept.streams here) in
-          subst (λ (x : Power). Sides means plan later w.device x) (sym on)
-          (side ∙ ap (λ (ss : List StreamView). Some (record { graph = graph_by plan kept; streams = ss })) (sym same)))
-          (λ off.
-          let side = subst (λ (x : Power). Sides means plan kept w.device x) off agrees.sides in
-          subst (λ (x : Power). Sides means plan later w.device x) (sym off) (none-live (host_at plan k) c idle plan.streams kept.streams side.0, side.1))
-          (loaded kept.power up);
-    }
-
-    pub rest-agrees : Agrees means plan (with_stream_at k c kept) w.device
-    rest-agrees = subst (λ (r : Record). Agrees means plan r w.device) (sym (place-changed plan sound k within (λ r. c) kept agrees.record_is.streams)) agrees-later
-
-  abbrev CarriedSo : Procedure → Record → Type 0
-  CarriedSo order kept' = Carried means plan heap order kept kept' w w (Ok tt)
-
-  -- nor does a closing of a stream without parameters, or while the power is off
-  close-order : (kept.power ≡ On → is_idle (stream_at kept k).found ≡ true) → place_order plan kept k Closing ≡ plain [] (with_stream plan (host_at plan k) shut)
-  close-order was = ⊎_elim
-      (λ on. ap (λ (p : Power). sends p (close_by (host_at plan k) (stream_at kept k).found) (with_stream plan (host_at plan k) shut) Done) on
-      ∙ ap (λ (acts : List Act). plain acts (with_stream plan (host_at plan k) shut)) (close-none (host_at plan k) (stream_at kept k).found (was on)))
-      (λ off. ap (λ (p : Power). sends p (close_by (host_at plan k) (stream_at kept k).found) (with_stream plan (host_at plan k) shut) Done) off)
-      (loaded kept.power up)
-
-  pub close-carried : (kept.power ≡ On → is_idle (stream_at kept k).found ≡ true) → CarriedSo (place_order plan kept k Closing) (with_stream_at k closed kept)
-  close-carried was = subst (λ (o : Procedure). CarriedSo o (with_stream_at k closed kept)) (sym (close-order was))
-      (no-acts means plan heap (with_stream plan (host_at plan k) shut) kept (with_stream_at k closed kept) w (place-changed plan sound k within shut kept agrees.record_is.streams))
 
 -- ---- what the arms of a match know
 

@@ -27,7 +27,7 @@ pub record Stood (caps : Caps) (ask : Ask) (found : Found) (power : Power) : Typ
   pub takes_it : takes_ask ask found ≡ true
   pub range : range_fault caps ask ≡ None
 
-tests : (t : Bool) (x : HostFault) (rest : Option HostFault) → cond (not t) (Some x) rest ≡ None → (t ≡ true) × (rest ≡ None)
+pub tests : (t : Bool) (x : HostFault) (rest : Option HostFault) → cond (not t) (Some x) rest ≡ None → (t ≡ true) × (rest ≡ None)
 tests true x rest is = (refl, is)
 tests false x rest is = absurd (cc is)
 

@@ -1,6 +1,5 @@
 pub mod Places
 pub mod StreamCalls
-pub mod OneOrders
 pub mod AtRest
 pub mod AnsweredCalls
 pub mod HostTests

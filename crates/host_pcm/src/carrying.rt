@@ -1,18 +1,14 @@
 // What each call does once its tests have passed, for the stream at a place: the record changes after the reply.
-ghost use Rattle.std.specs.Prelude.{◌≡◌, ◌<◌, ◌*◌, [], ◌∷◌, true, None, Ok, is_some, length};
+ghost use Rattle.std.specs.Prelude.{◌≡◌, ◌<◌, ◌*◌, [], ◌∷◌, true, Ok, is_some, length};
 ghost use Rattle.sof_base.specs.Ports.{HasRoom};
 ghost use Rattle.tplg_plan.specs.Sound.{IsSound};
 ghost use Rattle.host_widgets.specs.AnsweredOrders.{ActsAnswered, OrderAnswered};
 ghost use Rattle.host_widgets.specs.HostRecord.{closed};
-ghost use Rattle.host_widgets.specs.Host.{Agrees, IsRecordOf};
+ghost use Rattle.host_widgets.specs.Host.{IsRecordOf};
 ghost use Rattle.host_widgets.specs.HostActs.{Prepare, Trig, Free, triggered_found};
 ghost use Rattle.host_widgets.specs.Kept.{with_stream};
-ghost use Rattle.host_widgets.specs.Orders.{Carried};
-ghost use Rattle.host_pcm.specs.Asks.{stream_at, takes_ask, range_fault};
-ghost use Rattle.host_pcm.specs.StreamCalls.{stream_caps};
-ghost use Rattle.host_pcm.specs.StreamCalls.{with_stream_at};
-ghost use Rattle.host_pcm.specs.StreamCalls.{host_at, opened_stream, place_order, shut};
-ghost use Rattle.host_widgets.specs.ActCarried.{ActCarried};
+ghost use Rattle.host_pcm.specs.Asks.{stream_at, takes_ask};
+ghost use Rattle.host_pcm.specs.StreamCalls.{host_at, opened_stream, place_order, shut, with_stream_at};
 ghost use Rattle.host_widgets.specs.Sides.{IsReady, SameSide, world_of};
 
 use crate::asking::Ask;
@@ -53,13 +49,8 @@ pub fn prepare<P: Dsp>(side: &mut HostCall<'_, P>, place: usize, p: Params) -> R
     requires ready { IsReady P.means side.old }
     requires power { side.old.kept.now.power ≡ Power.On }
     requires place { place < length side.old.plan.now.streams }
-    requires found { takes_ask (Ask.Preparing p) (stream_at side.old.kept.now place).found ≡ true }
-    requires range { range_fault (stream_caps side.old.plan.now place) (Ask.Preparing p) ≡ None }
     ensures answered { ActsAnswered P.means side.old.plan.now side.old.heap (λ now. now) (Prepare (host_at side.old.plan.now place) p ∷ []) side.old.kept.now side.new.kept.now
         (world_of side.old) (world_of side.new) result }
-    ensures agree { Agrees P.means side.old.plan.now side.old.kept.now side.old.dsp.now →
-        ActCarried P.means side.old.plan.now side.old.heap (Prepare (host_at side.old.plan.now place) p) side.old.kept.now side.new.kept.now (world_of side.old) (world_of side.new) result
-        × Agrees P.means side.old.plan.now side.new.kept.now side.new.dsp.now }
     ensures same { SameSide side.old side.new }
 {
     let stream = &side.plan.streams.items()[place];
@@ -88,12 +79,8 @@ pub fn trigger<P: Dsp>(
     requires ready { IsReady P.means side.old }
     requires power { side.old.kept.now.power ≡ Power.On }
     requires place { place < length side.old.plan.now.streams }
-    requires found { takes_ask (Ask.Triggering what) (stream_at side.old.kept.now place).found ≡ true }
     ensures answered { ActsAnswered P.means side.old.plan.now side.old.heap (λ now. now) (Trig (host_at side.old.plan.now place) what ∷ []) side.old.kept.now side.new.kept.now
         (world_of side.old) (world_of side.new) result }
-    ensures agree { Agrees P.means side.old.plan.now side.old.kept.now side.old.dsp.now →
-        ActCarried P.means side.old.plan.now side.old.heap (Trig (host_at side.old.plan.now place) what) side.old.kept.now side.new.kept.now (world_of side.old) (world_of side.new) result
-        × Agrees P.means side.old.plan.now side.new.kept.now side.new.dsp.now }
     ensures same { SameSide side.old side.new }
 {
     let host = side.plan.streams.items()[place].host;
@@ -115,14 +102,9 @@ fn free<P: Dsp>(side: &mut HostCall<'_, P>, place: usize) -> Result<(), HostFaul
     requires streams { length side.old.kept.now.streams ≡ length side.old.plan.now.streams }
     requires on { is_some (P.means.on side.old.dsp.now) ≡ true }
     requires room { HasRoom (61440 * P.means.pending side.old.dsp.now) side.old.out.now }
-    requires power { side.old.kept.now.power ≡ Power.On }
     requires place { place < length side.old.plan.now.streams }
-    requires found { (stream_at side.old.kept.now place).found ≡ Found.Prepared }
     ensures answered { ActsAnswered P.means side.old.plan.now side.old.heap (with_stream side.old.plan.now (host_at side.old.plan.now place) shut) (Free (host_at side.old.plan.now place) ∷ []) side.old.kept.now side.new.kept.now
         (world_of side.old) (world_of side.new) result }
-    ensures agree { Agrees P.means side.old.plan.now side.old.kept.now side.old.dsp.now →
-        ActCarried P.means side.old.plan.now side.old.heap (Free (host_at side.old.plan.now place)) side.old.kept.now side.new.kept.now (world_of side.old) (world_of side.new) result
-        × Agrees P.means side.old.plan.now side.new.kept.now side.new.dsp.now }
     ensures same { SameSide side.old side.new }
 {
     let host = side.plan.streams.items()[place].host;
@@ -153,10 +135,6 @@ fn stop_and_free<P: Dsp>(side: &mut HostCall<'_, P>, place: usize) -> Result<(),
     requires found { takes_ask (Ask.Triggering Trigger.Stop) (stream_at side.old.kept.now place).found ≡ true }
     ensures answered { OrderAnswered P.means side.old.plan.now side.old.heap (place_order side.old.plan.now side.old.kept.now place Ask.Closing) side.old.kept.now side.new.kept.now
         (world_of side.old) (world_of side.new) result }
-    ensures agree { Agrees P.means side.old.plan.now side.old.kept.now side.old.dsp.now →
-        Carried P.means side.old.plan.now side.old.heap (place_order side.old.plan.now side.old.kept.now place Ask.Closing) side.old.kept.now side.new.kept.now
-        (world_of side.old) (world_of side.new) result
-        × Agrees P.means side.old.plan.now side.new.kept.now side.new.dsp.now }
     ensures same { SameSide side.old side.new }
 {
     trigger(side, place, Trigger::Stop)?;
@@ -170,10 +148,6 @@ fn close_on<P: Dsp>(side: &mut HostCall<'_, P>, place: usize) -> Result<(), Host
     requires place { place < length side.old.plan.now.streams }
     ensures answered { OrderAnswered P.means side.old.plan.now side.old.heap (place_order side.old.plan.now side.old.kept.now place Ask.Closing) side.old.kept.now side.new.kept.now
         (world_of side.old) (world_of side.new) result }
-    ensures agree { Agrees P.means side.old.plan.now side.old.kept.now side.old.dsp.now →
-        Carried P.means side.old.plan.now side.old.heap (place_order side.old.plan.now side.old.kept.now place Ask.Closing) side.old.kept.now side.new.kept.now
-        (world_of side.old) (world_of side.new) result
-        × Agrees P.means side.old.plan.now side.new.kept.now side.new.dsp.now }
     ensures same { SameSide side.old side.new }
 {
     match side.kept.streams.items()[place].found {
@@ -193,10 +167,6 @@ pub fn close<P: Dsp>(side: &mut HostCall<'_, P>, place: usize) -> Result<(), Hos
     requires place { place < length side.old.plan.now.streams }
     ensures answered { OrderAnswered P.means side.old.plan.now side.old.heap (place_order side.old.plan.now side.old.kept.now place Ask.Closing) side.old.kept.now side.new.kept.now
         (world_of side.old) (world_of side.new) result }
-    ensures agree { Agrees P.means side.old.plan.now side.old.kept.now side.old.dsp.now →
-        Carried P.means side.old.plan.now side.old.heap (place_order side.old.plan.now side.old.kept.now place Ask.Closing) side.old.kept.now side.new.kept.now
-        (world_of side.old) (world_of side.new) result
-        × Agrees P.means side.old.plan.now side.new.kept.now side.new.dsp.now }
     ensures record_is { result ≡ Ok tt → IsRecordOf side.old.plan.now side.new.kept.now }
     ensures same { SameSide side.old side.new }
 {

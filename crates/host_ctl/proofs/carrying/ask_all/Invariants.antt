@@ -2,11 +2,9 @@ use Rattle.std.proofs.Common.{◌≡◌, ◌*◌, true}
 use Rattle.std.specs.Prelude.{is_some}
 use Rattle.sof_base.specs.Ports.{HasRoom}
 use Rattle.host_widgets.specs.Sides.{SameSide, world_of}
-use Rattle.host_widgets.specs.Host.{Agrees}
 use Rattle.host_ctl.specs.ControlAnswers.{IsSetAt}
 use Rattle.host_ctl.specs.ControlPlaces.{control_here, record_here}
 use Rattle.host_ctl.proofs.ControlAnswered.{AskedAhead}
-use Rattle.host_ctl.proofs.ControlParts.{Ahead}
 use Rattle.host_ctl.proofs.PartsTold.{first_bytes}
 use Rattle.host_ctl.proofs.carrying.ask_all.Given as goal
 
@@ -20,5 +18,4 @@ invariant-loop-index g l = record {
   asked : AskedAhead g.P.Dsp.means l.fn.side.plan.now l.fn.side.heap (control_here l.fn.side.plan.now l.place).comp l.count l.fn.side.kept.now (world_of l.fn.side) (world_of l.side) l.index;
   told : IsSetAt g.P.Dsp.means l.fn.side.plan.now l.fn.side.kept.now (control_here l.fn.side.plan.now l.place).comp l.fn.side.dsp.now →
       (l.told.items ≡ first_bytes (record_here l.fn.side.kept.now l.place).blob l.index) × IsSetAt g.P.Dsp.means l.fn.side.plan.now l.fn.side.kept.now (control_here l.fn.side.plan.now l.place).comp l.side.dsp.now;
-  ahead : Agrees g.P.Dsp.means l.fn.side.plan.now l.fn.side.kept.now l.fn.side.dsp.now → Ahead g.P.Dsp.means l.fn.side.plan.now l.fn.side.heap (control_here l.fn.side.plan.now l.place).comp l.count l.fn.side.kept.now (world_of l.fn.side) (world_of l.side) l.index;
 }

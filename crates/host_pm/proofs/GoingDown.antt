@@ -13,7 +13,7 @@ use Rattle.stream_law.specs.Stands.{Stands}
 use Rattle.ipc3_model.specs.Messages.{decoded, message_spelling}
 use Rattle.ipc3_model.specs.Meanings.{IsMessage}
 use Rattle.ipc3_model.specs.declared.message.Message.TheVariants.{CtxSave}
-use Rattle.mbox_link.specs.Step.{body_of, fresh}
+use Rattle.mbox_link.specs.Step.{row, body_of, fresh}
 use Rattle.mbox_link.specs.Meetings.{Meeting}
 use Rattle.tplg_plan.specs.declared.plans.Plan.{Plan}
 use Rattle.tplg_plan.specs.declared.plans.StreamPlan.{StreamPlan}
@@ -45,7 +45,8 @@ use Rattle.host_widgets.proofs.WalksHold.{AreTaken, HaveLaw}
 use Rattle.host_widgets.specs.StreamStands.{takes_trigger}
 use Rattle.host_widgets.proofs.StreamAnswers.{all-at}
 use Rattle.host_widgets.proofs.StreamsTaken.{trig-is, trig-comes}
-use Rattle.host_pm.proofs.TurnsCome.{IsMet, AreMet}
+use Rattle.host_pm.proofs.TurnsCome.{IsMet, AreSaid}
+use Rattle.host_widgets.proofs.ActsCome.{answer-says}
 
 -- ---- one stream
 
@@ -97,9 +98,19 @@ module _ (plan : Plan) (heap : ℕ) where
   have-law [] now are = tt
   have-law (act ∷ acts) now are = (are.0.taken, (λ will. have-law acts (after plan act now) are.1), λ on. have-law acts now are.2)
 
-  pub are-met : (acts : List Act) (now : Record) → AreDown now acts → AreMet plan heap true (λ v. Unit {0}) (λ f. Unit {0}) now (record_view plan now) acts
-  are-met [] now are = tt
-  are-met (act ∷ acts) now are = (record_view plan (after plan act now), are.0.met, are-met acts (after plan act now) are.1, λ goes. are-met acts now are.2)
+  -- and the firmware says to each what the record says
+  pub are-said : (acts : List Act) (now : Record) → AreDown now acts → (f : FwState) → view_of f ≡ record_view plan now → AreSaid plan (own plan heap) (after plan) (record_view plan) true acts now f
+  are-said [] now are f shows = tt
+  are-said (act ∷ acts) now are f shows = (
+    are.0.met.message,
+    λ g same.
+        let shown = same.view ∙ shows in
+        let a = are.0.met.answers g shown in (
+          answer-says (own plan heap now act) (row g (act_message plan act)) a.0 a.1,
+          λ free h done. are-said acts (after plan act now) are.1 h (are.0.met.shows g h shown done),
+          λ goes. are-said acts now are.2 g shown,
+        ),
+  )
 
   -- whatever their messages met
   pub walk-down : (acts : List Act) (ms : List Meeting) (now : Record) → AreDown now acts → went_down (walk (act_rules plan heap) true next_of now ms acts).kept ≡ went_down now

@@ -29,11 +29,12 @@ use Rattle.host_widgets.specs.StateOf.{state_by}
 use Rattle.host_widgets.specs.ViewOf.{record_view}
 use Rattle.host_widgets.proofs.BuildingActs.{bring-leaves}
 use Rattle.host_widgets.proofs.ManyEffects.{Followed, follow-sent}
+use Rattle.host_widgets.proofs.Walks.{did-keep}
 use Rattle.host_widgets.proofs.SilentTicks.{AreInputs, at}
 use Rattle.host_pm.specs.InTurn.{InTurn}
 use Rattle.host_pm.specs.Resumed.{Resumed}
 use Rattle.host_pm.proofs.TurnsCome.{turn-sent, turns-come}
-use Rattle.host_pm.proofs.GoingDown.{are-met, walk-down, going-down}
+use Rattle.host_pm.proofs.GoingDown.{are-said, walk-down, going-down}
 use Rattle.host_pm.proofs.PreparesTaken.{empty-buffers, prepared_state, prepares-end, prepares-follow, prepares-leave}
 
 -- ---- walks that end at the first failure
@@ -100,16 +101,7 @@ module _ {D : Type 0} (means : Meaning D) (plan : Plan) (heap : ℕ) where
 
   -- no more ticks are pending after them
   acts-fewer : (acts : List Act) (ms : List Meeting) (kept : Record) (w v : World D) → did_acts kept acts ms w v → means.pending v.device ≤ means.pending w.device
-  acts-fewer [] ms kept w v did = let same : means.pending v.device ≡ means.pending w.device = ap (λ (x : World D). means.pending x.device) did.1 in omega (arith, same)
-  acts-fewer (act ∷ acts) [] kept w v did = absurd did
-  acts-fewer (act ∷ acts) (one ∷ ms) kept w v (mid, did, onwards) =
-      let a = performed (act_rules plan heap) act kept (lag_of one) (outcome_by one.fate (own plan heap kept act)) in
-      let first = did.exchanged.steady.pending in
-      let rest = by (goes_past false a.outcome) (did_acts a.kept acts ms mid v) onwards (λ more. acts-fewer acts ms a.kept mid v more) in omega (arith, first, rest)
-    where
-      by : (b : Bool) (Rest : Type 0) → Onwards b ms mid v Rest → (Rest → means.pending v.device ≤ means.pending mid.device) → means.pending v.device ≤ means.pending mid.device
-      by true Rest rest go = go rest
-      by false Rest ended go = let same : means.pending v.device ≡ means.pending mid.device = ap (λ (x : World D). means.pending x.device) ended.1 in omega (arith, same)
+  acts-fewer acts ms kept w v did = did-keep means plan (λ (x : World D). means.pending x.device ≤ means.pending w.device) (λ request answer a b x few. omega (arith, few, x.steady.pending)) heap false acts ms kept w v did (omega arith)
 
   -- acts that leave the record do so wherever they end
   pub walk-stays : (kept : Record) (acts : List Act) (ms : List Meeting) → AllByRecursion (λ (act : Act). after plan act kept ≡ kept) acts → (walked kept ms acts).kept ≡ kept
@@ -134,7 +126,7 @@ module _ {D : Type 0} (means : Meaning D) (plan : Plan) (heap : ℕ) where
       InTurn means plan true (go_down plan kept) w s result → Did means Cut s v → kept' ≡ went_down kept → Carried means plan heap (suspending plan kept) kept kept' w v result
   went-down sound kept kept' is w s v result f on shows turn cut now =
       let are = going-down plan heap sound kept is in
-      let c = turns-come plan heap true (λ x. Unit {0}) (λ f. Unit {0}) means (go_down plan kept) kept (record_view plan kept) w s result (f, on, shows) (are-met plan heap (go_down plan kept) kept are) turn in
+      let c = turns-come plan (own plan heap) (after plan) (record_view plan) true means (go_down plan kept) kept w s result f on (are-said plan heap (go_down plan kept) kept are f shows) turn in
       record {
         meetings = c.meetings;
         begun = w;

@@ -115,13 +115,13 @@ module _ (plan : Plan) (sound : IsSound plan) (heap : ℕ) (kept : Record) (is :
     abbrev before : There
     before = at_part plan sound kept all (whole_stage plan sound) all-rest (loaded_heap plan heap) done (q ∷ rest)
 
-    abbrev behind : There
-    behind = at_part plan sound kept all (whole_stage plan sound) all-rest (loaded_heap plan heap) (done ++ q ∷ []) rest
+    abbrev later : There
+    later = at_part plan sound kept all (whole_stage plan sound) all-rest (loaded_heap plan heap) (done ++ q ∷ []) rest
 
     free-so : own plan heap kept act ≡ None
     free-so = ap (λ (b : Bool). if b then Some (errno invalid) else None) (none-conflicts plan sound kept all (whole_stage plan sound) all-rest done rest q cut params found_is params_are)
 
-    taken : (g : FwState) → there_in g ≡ before → (row g m ≡ Ok (effect m g)) × (there_in (effect m g) ≡ behind)
+    taken : (g : FwState) → there_in g ≡ before → (row g m ≡ Ok (effect m g)) × (there_in (effect m g) ≡ later)
     taken g at_before =
         let said : told (row g m) ≡ Ok (there_after plan act before) = subst (λ (o : Option Errno). SaysSo plan (record { kept = kept; up = all; there = before }) act o (told (row g m))) free-so
         (own-prepared plan sound kept all (whole_stage plan sound) all-rest done rest q cut params found_is params_are (loaded_heap plan heap) g at_before) in
@@ -136,7 +136,6 @@ module _ (plan : Plan) (sound : IsSound plan) (heap : ℕ) (kept : Record) (is :
         record {
           follow = (
             record {
-              told = tt;
               still = quiet-still f quiet;
               message = fits-so plan sound kept all (whole_stage plan sound) all-rest done rest q cut params found_is params_are (loaded_heap plan heap);
               passes = λ free n. (taken (at f n) same).0;

@@ -16,12 +16,13 @@ pub mod UpNamed
 pub mod UpAnswers
 pub mod UpAsked
 pub mod UpAnswered
+pub mod DownActs
 pub mod UpGoingDown
 pub mod NeededWalks
 pub mod Noted
 pub mod Marked
 pub mod Searchable
-pub mod ListsSent
+pub mod ListedPipelines
 pub mod UpMade
 pub mod JobLegs
 pub mod UpAgreeing
@@ -35,7 +36,6 @@ pub mod UpDone
 pub mod UpResumes
 pub mod UpCalled
 pub mod UpFew
-pub mod MakesListed
 pub mod NeededNoted
 pub mod UpTold
 pub mod NamedControls

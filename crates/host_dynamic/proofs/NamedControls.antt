@@ -1,5 +1,5 @@
--- The control of a name, looked for one after another.
-use Rattle.std.proofs.Common.{◌≡◌, sym, ap, ◌∙◌, ℕ, zero, suc, ◌+◌, ◌<◌, ◌≤◌, List, [], ◌∷◌, ◌++◌, length, get_or, take, Bool, true, false, cond, Some, None, arith}
+-- The control of a name: its place, and how it is looked for one after another.
+use Rattle.std.proofs.Common.{◌≡◌, refl, sym, ap, subst, ◌∙◌, ℕ, zero, suc, ◌+◌, ◌<◌, ◌≤◌, List, [], ◌∷◌, ◌++◌, length, get_or, take, Bool, true, false, cond, Some, None, arith}
 use Rattle.std.specs.Prelude.{Option, find}
 use Rattle.std.specs.Option.{option_map_or}
 use Rattle.std.proofs.lemmas.List.{take_more, take_all}
@@ -8,9 +8,15 @@ use Rattle.stream_law.proofs.Members.{in-all, find-in}
 use Rattle.tplg_plan.specs.declared.plans.Plan.{Plan}
 use Rattle.tplg_plan.specs.declared.plans.ControlPlan.{ControlPlan}
 use Rattle.tplg_plan.specs.Sound.{IsSound, IsLive}
+use Rattle.host_widgets.specs.declared.answers.HostFault.{HostFault}
+use Rattle.host_widgets.specs.declared.kept.Record.{Record}
 use Rattle.host_widgets.specs.Acts.{widget_words}
-use Rattle.host_widgets.specs.Named.{is_named}
+use Rattle.host_widgets.specs.Host.{IsRecordOf}
+use Rattle.host_widgets.specs.Named.{is_named, loaded_fault}
 use Rattle.host_ctl.specs.ControlAsks.{named_control}
+use Rattle.host_ctl.specs.ControlPlaces.{control_place, control_here}
+use Rattle.host_ctl.proofs.ControlTests.{loaded, place-low}
+use Rattle.host_ctl.proofs.ControlsThere.{lost-here, named-here}
 use Rattle.host_dynamic.specs.Dynamic.{is_control_up}
 use Rattle.host_widgets.proofs.UpContext.{comp-up-by}
 use Rattle.host_widgets.specs.Indices.{is_up}
@@ -55,3 +61,23 @@ module _ (plan : Plan) (name : List ℕ) where
       let found : named_control plan name ≡ Some k = found-next has_name plan.controls i d low none here in
       let live : IsLive plan.graph k = in-all (IsLive plan.graph) plan.controls k sound.live (find-in has_name plan.controls k found).0 in
       sym (ap (λ (o : Option ControlPlan). option_map_or (λ (x : ControlPlan). is_up plan.graph up x.comp) o true) found ∙ comp-up-by plan sound up k.comp live.comp live.there)
+
+-- ---- its place
+
+pub lost : (plan : Plan) (name : List ℕ) → control_place plan name ≡ None → named_control plan name ≡ None
+lost plan name at = lost-here (λ (k : ControlPlan). is_named plan name k.comp) plan.controls at
+
+-- a test that fails where there is none of this name: once it passes, there is one, at a place
+pub at-place : (plan : Plan) → IsSound plan → (kept : Record) → IsRecordOf plan kept → (name : List ℕ) (test : Option ControlPlan → Option HostFault) (fault : HostFault) → test None ≡ Some fault → loaded_fault kept.power (test (named_control plan name)) ≡ None →
+    (P : Option ControlPlan → Type 0) → ((i : ℕ) → i < length plan.controls → control_place plan name ≡ Some i → test (Some (control_here plan i)) ≡ None → P (Some (control_here plan i))) → P (named_control plan name)
+at-place plan sound kept record_is name test fault fails none P here = by (control_place plan name) refl
+  where
+    passes : test (named_control plan name) ≡ None
+    passes = (loaded kept.power (test (named_control plan name)) none).1
+
+    by : (place : Option ℕ) → control_place plan name ≡ place → P (named_control plan name)
+    by None at = absurd (cc (sym fails ∙ ap test (sym (lost plan name at)) ∙ passes))
+    by (Some i) at =
+        let low = place-low plan name i at in
+        let named = named-here plan sound kept record_is i low name at in
+        subst P (sym named) (here i low at (ap test (sym named) ∙ passes))

@@ -156,14 +156,7 @@ module _ {D : Type 0} (means : Meaning D) (plan : Plan) (sound : IsSound plan) (
         by : (o : Outcome) → AfterMaking means plan heap made.made o kept kept1 made.mid v result → kept1 ≡ kept
         by (Ok done) (told, same, stays) = same
         by (Err (faults.Refused e)) (done, un, told) = absurd (first-fails (faults.Refused e) done (sym told ∙ ok))
-        by (Err faults.LinkDown) (told, cut) = absurd (cc (sym told ∙ ok))
-        by (Err faults.NotLoaded) (told, cut) = absurd (cc (sym told ∙ ok))
-        by (Err faults.Loaded) (told, cut) = absurd (cc (sym told ∙ ok))
-        by (Err (faults.NoSuch other)) (told, cut) = absurd (cc (sym told ∙ ok))
-        by (Err (faults.State stands)) (told, cut) = absurd (cc (sym told ∙ ok))
-        by (Err faults.Off) (told, cut) = absurd (cc (sym told ∙ ok))
-        by (Err (faults.Range c)) (told, cut) = absurd (cc (sym told ∙ ok))
-        by (Err (faults.Blob c)) (told, cut) = absurd (cc (sym told ∙ ok))
+        by (Err fault) after = absurd (cc (sym after.0 ∙ ok))
 
     module _ (ids : List ℕ) (ids_are : ids ≡ n) (kept1 : Record) (v : World D) (result : Outcome) (made : MadeWhereOn means plan heap ids kept.power kept kept1 w v result) where
       made-n : MadeWhereOn means plan heap n kept.power kept kept1 w v result

@@ -30,6 +30,7 @@ use Rattle.tplg_plan.specs.declared.plans.ControlKind.TheVariants.{Volume, Choic
 use Rattle.tplg_plan.specs.GainOf.{control_gain}
 use Rattle.tplg_plan.specs.Sound.{IsControlOf, IsLive, IsSound}
 use Rattle.host_widgets.specs.declared.answers.Answer.TheVariants as answers
+use Rattle.host_widgets.specs.declared.answers.HostFault.TheVariants as faults
 use Rattle.host_widgets.specs.declared.kept.Power.{Power}
 use Rattle.host_widgets.specs.declared.kept.Power.TheVariants as powers
 use Rattle.host_widgets.specs.declared.kept.ControlRec.{ControlRec}
@@ -38,9 +39,9 @@ use Rattle.host_widgets.specs.ActLists.{part_acts}
 use Rattle.host_widgets.specs.ActMessages.{act_message, set_message, get_message, ask_message}
 use Rattle.host_widgets.specs.Controls.{control_of, eight_masks}
 use Rattle.host_widgets.specs.Host.{IsRecordOf}
-use Rattle.host_widgets.specs.HostActs.{Put, Part, Ask, with_values, with_blob}
+use Rattle.host_widgets.specs.HostActs.{Act, Put, Part, Ask, with_values, with_blob}
 use Rattle.host_widgets.specs.Kept.{changed, control_at, with_control}
-use Rattle.host_widgets.specs.Named.{is_named}
+use Rattle.host_widgets.specs.Orders.{sends}
 use Rattle.host_widgets.specs.ViewOf.{set_comp, record_setting}
 use Rattle.host_widgets.proofs.ControlLists.{takes-by}
 use Rattle.host_widgets.proofs.EightMasks.{is_mask, eight, few-masks, ranged-masks}
@@ -52,12 +53,12 @@ use Rattle.host_widgets.proofs.PartFacts.{few-parts, more-behind, none-behind, n
 use Rattle.host_ctl.specs.ControlAnswers.{MaySet, MayInstall}
 use Rattle.host_ctl.specs.ControlAsks.{named_control, channels_of, spread, setting_fault, set_fault, installing_fault, bytes_fault}
 use Rattle.host_ctl.specs.ControlOrders.{put_order, setting_order, set_order, bytes_order_at, installing_order, bytes_order, control_answer, ask_acts, named_at, reading_order, read_order}
-use Rattle.host_ctl.specs.ControlPlaces.{control_place, control_here, record_here}
+use Rattle.host_ctl.specs.ControlPlaces.{control_here, record_here}
 use Rattle.host_ctl.proofs.BlobCalls.{a-blob, an-equaliser, now-record}
-use Rattle.host_ctl.proofs.BlobTests.{bytes-pass, installable}
-use Rattle.host_ctl.proofs.ControlTests.{loaded, place-low, settable, set-passes}
+use Rattle.host_ctl.proofs.BlobTests.{installable}
+use Rattle.host_ctl.proofs.ControlTests.{loaded, settable}
 use Rattle.host_ctl.proofs.ControlsTaken.{set-all, puts}
-use Rattle.host_ctl.proofs.ControlsThere.{Was, lost-here, live, at-here, was-here, named-here}
+use Rattle.host_ctl.proofs.ControlsThere.{Was, live, at-here, was-here}
 use Rattle.host_ctl.proofs.PutAnswers.{control, gains-new}
 use Rattle.host_ctl.proofs.PutShows.{AreKind, there-at, elsewhere-at, all-set}
 use Rattle.host_ctl.proofs.PutStands.{put-record}
@@ -69,6 +70,7 @@ use Rattle.host_widgets.proofs.RowsTold.{told, left-told}
 use Rattle.host_widgets.proofs.StageBetween.{comp-at}
 use Rattle.host_widgets.proofs.StageJoins.{used-comp}
 use Rattle.host_widgets.proofs.UpContext.{comp-up-by}
+use Rattle.host_dynamic.proofs.NamedControls.{at-place}
 use Rattle.host_dynamic.proofs.UpPlain.{settled-state, sends-keeps, unsent-keeps, quiet-keeps}
 use Rattle.host_widgets.proofs.UpStages.{Stage, pipe_as, comps_left, edges_left, pipes_left, stage_graph, stage_streams, at_stage, IsStage, index_of_id, up_stage}
 use Rattle.host_dynamic.proofs.UpStanding.{there-stage, stage-there}
@@ -214,6 +216,20 @@ module _ (plan : Plan) (sound : IsSound plan) (s : UpState) (is : IsUpState plan
   up-is : is_up plan.graph s.up k.comp ≡ is_among s.up (index_of_id plan k.comp)
   up-is = comp-up-by plan sound s.up k.comp here.comp here.there
 
+  -- it is changed in the record, and by these messages where it is up
+  module _ (g : ControlRec → ControlRec) (acts : List Act) where
+    abbrev change : Record → Record
+    change = with_control plan k.comp g
+
+    change-keeps : {Q : Type 0} (next : Q → Meeting × Q) (q : Q) → (s.kept.power ≡ powers.Unloaded → ⊥) → IsRecordOf plan (change s.kept) →
+        (s.kept.power ≡ powers.On → is_among s.up (index_of_id plan k.comp) ≡ true → Steps plan (IsUpState plan) s acts (λ u. IsUpState plan (settled (change u.kept) u))) →
+        Keeps plan next (IsUpState plan) s q (plain_job plan s (if is_up plan.graph s.up k.comp then sends s.kept.power acts change answers.Done else unsent (sends s.kept.power acts change answers.Done))).routine
+    change-keeps {Q} next q some record_is steps = by (is_up plan.graph s.up k.comp) refl
+      where
+        by : (b : Bool) → is_up plan.graph s.up k.comp ≡ b → Keeps plan next (IsUpState plan) s q (plain_job plan s (if b then sends s.kept.power acts change answers.Done else unsent (sends s.kept.power acts change answers.Done))).routine
+        by true e = sends-keeps plan sound next change s q acts answers.Done (λ on. steps on (sym up-is ∙ e)) (λ off. unsent-done plan sound s is k.comp g record_is (λ on. absurd (off on)) some)
+        by false e = unsent-keeps plan sound next change s q s.kept.power acts answers.Done (unsent-done plan sound s is k.comp g record_is (λ on. sym up-is ∙ e) some)
+
   -- ---- values
 
   module _ (values : List ℕ) (may : MaySet k.kind values) where
@@ -275,18 +291,12 @@ module _ (plan : Plan) (sound : IsSound plan) (s : UpState) (is : IsUpState plan
 
     pub put-keeps : {Q : Type 0} (next : Q → Meeting × Q) (q : Q) → (s.kept.power ≡ powers.Unloaded → ⊥) →
         Keeps plan next (IsUpState plan) s q (plain_job plan s (if is_up plan.graph s.up k.comp then put_order plan s.kept k.comp values else unsent (put_order plan s.kept k.comp values))).routine
-    put-keeps {Q} next q some = by (is_up plan.graph s.up k.comp) refl
-      where
-        by : (b : Bool) → is_up plan.graph s.up k.comp ≡ b → Keeps plan next (IsUpState plan) s q (plain_job plan s (if b then put_order plan s.kept k.comp values else unsent (put_order plan s.kept k.comp values))).routine
-        by true e = sends-keeps plan sound next put s q (Put k.comp values ∷ []) answers.Done
-            (λ on. (
-              is,
-              λ free.
-                  sent-done plan sound s is k.comp (with_values values) (λ c. refl) put-record-is on (there_after plan (Put k.comp values) s.there)
-                  (ap (there_after plan (Put k.comp values)) (begun plan sound s.up k.comp s is refl on).is ∙ put-there (sym up-is ∙ e) s.there.heap),
-            ))
-            (λ off. unsent-done plan sound s is k.comp (with_values values) put-record-is (λ on. absurd (off on)) some)
-        by false e = unsent-keeps plan sound next put s q s.kept.power (Put k.comp values ∷ []) answers.Done (unsent-done plan sound s is k.comp (with_values values) put-record-is (λ on. sym up-is ∙ e) some)
+    put-keeps next q some = change-keeps (with_values values) (Put k.comp values ∷ []) next q some put-record-is (λ on has. (
+      is,
+      λ free.
+          sent-done plan sound s is k.comp (with_values values) (λ c. refl) put-record-is on (there_after plan (Put k.comp values) s.there)
+          (ap (there_after plan (Put k.comp values)) (begun plan sound s.up k.comp s is refl on).is ∙ put-there has s.there.heap),
+    ))
 
   -- ---- a blob
 
@@ -348,12 +358,7 @@ module _ (plan : Plan) (sound : IsSound plan) (s : UpState) (is : IsUpState plan
 
     pub install-keeps : {Q : Type 0} (next : Q → Meeting × Q) (q : Q) → (s.kept.power ≡ powers.Unloaded → ⊥) →
         Keeps plan next (IsUpState plan) s q (plain_job plan s (if is_up plan.graph s.up k.comp then bytes_order_at plan s.kept k.comp blob else unsent (bytes_order_at plan s.kept k.comp blob))).routine
-    install-keeps {Q} next q some = by (is_up plan.graph s.up k.comp) refl
-      where
-        by : (b : Bool) → is_up plan.graph s.up k.comp ≡ b → Keeps plan next (IsUpState plan) s q (plain_job plan s (if b then bytes_order_at plan s.kept k.comp blob else unsent (bytes_order_at plan s.kept k.comp blob))).routine
-        by true e = sends-keeps plan sound next install s q (part_acts k.comp blob) answers.Done (λ on. all-steps on (sym up-is ∙ e))
-            (λ off. unsent-done plan sound s is k.comp (with_blob blob) install-record (λ on. absurd (off on)) some)
-        by false e = unsent-keeps plan sound next install s q s.kept.power (part_acts k.comp blob) answers.Done (unsent-done plan sound s is k.comp (with_blob blob) install-record (λ on. sym up-is ∙ e) some)
+    install-keeps next q some = change-keeps (with_blob blob) (part_acts k.comp blob) next q some install-record all-steps
 
 -- ---- what is asked for
 
@@ -385,43 +390,20 @@ asks-stay plan comp j t = by (control_of plan comp)
 -- ---- the control of a name
 
 module _ (plan : Plan) (sound : IsSound plan) (s : UpState) (is : IsUpState plan s) {Q : Type 0} (next : Q → Meeting × Q) (q : Q) (name : List ℕ) where
-  lost : control_place plan name ≡ None → named_control plan name ≡ None
-  lost at = lost-here (λ (k : ControlPlan). is_named plan name k.comp) plan.controls at
-
   -- values are set
   pub set-keeps : (values : List ℕ) → set_fault plan s.kept name values ≡ None → Keeps plan next (IsUpState plan) s q (plain_job plan s (control_order plan s.up name (set_order plan s.kept name values))).routine
-  set-keeps values none = by (control_place plan name) refl
-    where
-      passes : (s.kept.power ≡ powers.Unloaded → ⊥) × (setting_fault name values (named_control plan name) ≡ None)
-      passes = loaded s.kept.power (setting_fault name values (named_control plan name)) none
-
-      by : (place : Option ℕ) → control_place plan name ≡ place → Keeps plan next (IsUpState plan) s q (plain_job plan s (control_order plan s.up name (set_order plan s.kept name values))).routine
-      by None at = absurd (cc (sym (ap (setting_fault name values) (lost at)) ∙ passes.1))
-      by (Some i) at =
-          let low = place-low plan name i at in
-          let k = control_here plan i in
-          let named = named-here plan sound s.kept is.record_is i low name at in
-          let there = live plan sound s.kept is.record_is i low in
-          let fits = settable name k.kind values there.comp.kind there.kind (set-passes plan s.kept name values k named none) in
-          subst (λ (o : Option ControlPlan). Keeps plan next (IsUpState plan) s q (plain_job plan s (if option_map_or (λ (x : ControlPlan). is_up plan.graph s.up x.comp) o true then setting_order plan s.kept values o else unsent (setting_order plan s.kept values o))).routine) (sym named)
-          (put-keeps plan sound s is i low (spread (unwrap_or (channels_of k.kind) 0) values) fits.may next q passes.0)
+  set-keeps values none = at-place plan sound s.kept is.record_is name (setting_fault name values) (faults.NoSuch name) refl none
+      (λ (o : Option ControlPlan). Keeps plan next (IsUpState plan) s q (plain_job plan s (if option_map_or (λ (x : ControlPlan). is_up plan.graph s.up x.comp) o true then setting_order plan s.kept values o else unsent (setting_order plan s.kept values o))).routine)
+      (λ i low at passes.
+      let k = control_here plan i in
+      let there = live plan sound s.kept is.record_is i low in
+      put-keeps plan sound s is i low (spread (unwrap_or (channels_of k.kind) 0) values) (settable name k.kind values there.comp.kind there.kind passes).may next q (loaded s.kept.power (setting_fault name values (named_control plan name)) none).0)
 
   -- a blob is installed
   pub bytes-keep : (blob : List ℕ) → bytes_fault plan s.kept name blob ≡ None → Keeps plan next (IsUpState plan) s q (plain_job plan s (control_order plan s.up name (bytes_order plan s.kept name blob))).routine
-  bytes-keep blob none = by (control_place plan name) refl
-    where
-      passes : (s.kept.power ≡ powers.Unloaded → ⊥) × (installing_fault name blob (named_control plan name) ≡ None)
-      passes = loaded s.kept.power (installing_fault name blob (named_control plan name)) none
-
-      by : (place : Option ℕ) → control_place plan name ≡ place → Keeps plan next (IsUpState plan) s q (plain_job plan s (control_order plan s.up name (bytes_order plan s.kept name blob))).routine
-      by None at = absurd (cc (sym (ap (installing_fault name blob) (lost at)) ∙ passes.1))
-      by (Some i) at =
-          let low = place-low plan name i at in
-          let k = control_here plan i in
-          let named = named-here plan sound s.kept is.record_is i low name at in
-          let may = installable name k.kind blob (bytes-pass plan s.kept name blob k named none) in
-          subst (λ (o : Option ControlPlan). Keeps plan next (IsUpState plan) s q (plain_job plan s (if option_map_or (λ (x : ControlPlan). is_up plan.graph s.up x.comp) o true then installing_order plan s.kept blob o else unsent (installing_order plan s.kept blob o))).routine) (sym named)
-          (install-keeps plan sound s is i low blob may next q passes.0)
+  bytes-keep blob none = at-place plan sound s.kept is.record_is name (installing_fault name blob) (faults.NoSuch name) refl none
+      (λ (o : Option ControlPlan). Keeps plan next (IsUpState plan) s q (plain_job plan s (if option_map_or (λ (x : ControlPlan). is_up plan.graph s.up x.comp) o true then installing_order plan s.kept blob o else unsent (installing_order plan s.kept blob o))).routine)
+      (λ i low at passes. install-keeps plan sound s is i low blob (installable name (control_here plan i).kind blob passes) next q (loaded s.kept.power (installing_fault name blob (named_control plan name)) none).0)
 
   -- it is asked for
   asks-steps : (comp : ℕ) (js : List ℕ) → Steps plan (IsUpState plan) s (map (Ask comp) js) (λ u. IsUpState plan (settled u.kept u))

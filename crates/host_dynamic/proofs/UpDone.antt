@@ -22,7 +22,7 @@ use Rattle.host_widgets.specs.declared.kept.Record.{Record}
 use Rattle.host_widgets.specs.ActLists.{part_acts}
 use Rattle.host_widgets.specs.AnsweredOrders.{OrderAnswered, TestedAnswered}
 use Rattle.host_widgets.specs.Host.{Outcome}
-use Rattle.host_widgets.specs.HostActs.{Part, Put, Prepare, Trig, Ask, with_values, with_blob}
+use Rattle.host_widgets.specs.HostActs.{Act, Part, Put, Prepare, Trig, Ask, with_values, with_blob}
 use Rattle.host_widgets.specs.HostRecord.{no_stream}
 use Rattle.host_widgets.specs.Kept.{control_at, with_control}
 use Rattle.host_widgets.specs.Orders.{Procedure, sends}
@@ -35,17 +35,18 @@ use Rattle.host_pcm.specs.StreamCalls.{stream_caps, host_at}
 use Rattle.host_pcm.specs.StreamOrders.{asking_order, stream_order}
 use Rattle.host_pcm.proofs.HostTests.{Found_place, found_place}
 use Rattle.host_pcm.proofs.StreamCalls.{ranges}
-use Rattle.host_ctl.specs.ControlAsks.{named_control, channels_of, spread, setting_fault, set_fault, installing_fault, bytes_fault, read_fault, name_fault}
-use Rattle.host_ctl.specs.ControlOrders.{setting_order, set_order, installing_order, bytes_order, control_answer, ask_acts, named_at, reading_order, read_order, KeptAlone}
+use Rattle.host_ctl.specs.ControlAsks.{channels_of, spread, setting_fault, set_fault, installing_fault, bytes_fault, read_fault, name_fault}
+use Rattle.host_ctl.specs.ControlOrders.{setting_order, set_order, installing_order, bytes_order, control_answer, ask_acts, reading_order, read_order, KeptAlone}
 use Rattle.host_ctl.specs.ControlPlaces.{control_place, control_here, record_here}
-use Rattle.host_ctl.proofs.BlobTests.{bytes-pass, installable}
-use Rattle.host_ctl.proofs.ControlTests.{loaded, place-low, settable, set-passes}
-use Rattle.host_ctl.proofs.ControlsThere.{lost-here, live, at-here, named-here}
-use Rattle.host_widgets.specs.Named.{is_named, off_fault}
+use Rattle.host_ctl.proofs.BlobTests.{installable}
+use Rattle.host_ctl.proofs.ControlTests.{loaded, settable}
+use Rattle.host_ctl.proofs.ControlsThere.{live, at-here, named-here}
+use Rattle.host_widgets.specs.Named.{off_fault}
 use Rattle.host_dynamic.specs.Dynamic.{plain_job, unsent, is_control_up, control_order, read_up_fault}
 use Rattle.host_widgets.specs.UpState.{UpState, up_act_rules}
 use Rattle.host_dynamic.specs.UpDevices.{up_state_in}
 use Rattle.host_dynamic.specs.UpStates.{IsUpState}
+use Rattle.host_dynamic.proofs.NamedControls.{at-place}
 use Rattle.host_dynamic.proofs.UpAgreeing.{IsSwitched}
 use Rattle.host_dynamic.proofs.UpAsked.{trigger-answered, params-answered, put-answered, install-answered, ask-answered}
 use Rattle.host_widgets.proofs.UpContext.{comp-up-by}
@@ -121,9 +122,6 @@ module _ {D : Type 0} (means : Meaning D) (plan : Plan) (sound : IsSound plan) (
   -- ---- controls
 
   module _ (name : List ℕ) where
-    pub lost : control_place plan name ≡ None → named_control plan name ≡ None
-    lost at = lost-here (λ (k : ControlPlan). is_named plan name k.comp) plan.controls at
-
     -- the component of a control that is up
     pub here-up : (i : ℕ) (low : i < length plan.controls) → control_place plan name ≡ Some i → is_control_up plan up name ≡ true → is_among up (index_of_id plan (control_here plan i).comp) ≡ true
     here-up i low at here =
@@ -131,120 +129,62 @@ module _ {D : Type 0} (means : Meaning D) (plan : Plan) (sound : IsSound plan) (
         sym (comp-up-by plan sound up (control_here plan i).comp there.comp there.there)
         ∙ ap (λ (o : Option ControlPlan). option_map_or (λ (k : ControlPlan). is_up plan.graph up k.comp) o true) (sym (named-here plan sound kept is.record_is i low name at)) ∙ here
 
-    up-order : (o : Procedure) → is_control_up plan up name ≡ true → o ≡ control_order plan up name o
-    up-order o here = ap (λ (b : Bool). if b then o else unsent o) (sym here)
+    -- its order is done where it is up
+    done-up : (test : Option HostFault) (o : Procedure) (kept' : Record) (v : World D) (result : Outcome) → is_control_up plan up name ≡ true → (test ≡ None → OrderAnswered means plan heap o kept kept' w v result → IsDoneSo means plan heap up o kept kept' w v result) →
+        TestedAnswered means plan heap test o kept kept' w v result → HasTested test (control_order plan up name o) kept' v result
+    done-up test o kept' v result here so t =
+        subst (λ (x : Procedure). HasTested test x kept' v result) (ap (λ (b : Bool). if b then o else unsent o) (sym here)) (tested-by test o kept' v result t.early (λ none. so none (t.late none)))
 
-    down-order : (o : Procedure) → is_control_up plan up name ≡ false → unsent o ≡ control_order plan up name o
-    down-order o down = ap (λ (b : Bool). if b then o else unsent o) (sym down)
+    -- and in the record alone where it is down
+    kept-down : (test : Option HostFault) (o : Procedure) (kept' : Record) (result : Outcome) → is_control_up plan up name ≡ false → (test ≡ None → kept' ≡ o.done kept → result ≡ Ok tt → IsDoneSo means plan heap up (unsent o) kept kept' w w result) →
+        KeptAlone test o.done kept kept' result → HasTested test (control_order plan up name o) kept' w result
+    kept-down test o kept' result down so t =
+        subst (λ (x : Procedure). HasTested test x kept' w result) (ap (λ (b : Bool). if b then o else unsent o) (sym down))
+        (tested-by test (unsent o) kept' w result (λ fault is. ((t.early fault is).0, refl, (t.early fault is).1)) (λ none. so none (t.late none).1 (t.late none).0))
+
+    unsent-so : (comp : ℕ) (g : ControlRec → ControlRec) (acts : List Act) (kept' : Record) (result : Outcome) → kept' ≡ (sends kept.power acts (with_control plan comp g) answers.Done).done kept → result ≡ Ok tt →
+        IsDoneSo means plan heap up (unsent (sends kept.power acts (with_control plan comp g) answers.Done)) kept kept' w w result
+    unsent-so comp g acts kept' result left ok = unsent-done plan means heap (with_control plan comp g) (λ now. refl) kept up w is switched answers.Done kept.power acts kept' w result (left ∙ done-of kept.power) refl ok
+      where
+        done-of : (power : Power) → (sends power acts (with_control plan comp g) answers.Done).done kept ≡ with_control plan comp g kept
+        done-of powers.On = refl
+        done-of power = refl
 
     -- ---- values
 
-    set-so : (values : List ℕ) (kept' : Record) (v : World D) (result : Outcome) → is_control_up plan up name ≡ true → set_fault plan kept name values ≡ None → OrderAnswered means plan heap (set_order plan kept name values) kept kept' w v result →
-        IsDoneSo means plan heap up (set_order plan kept name values) kept kept' w v result
-    set-so values kept' v result here none all = by (control_place plan name) refl
-      where
-        passes : setting_fault name values (named_control plan name) ≡ None
-        passes = (loaded kept.power (setting_fault name values (named_control plan name)) none).1
-
-        by : (place : Option ℕ) → control_place plan name ≡ place → IsDoneSo means plan heap up (set_order plan kept name values) kept kept' w v result
-        by None at = absurd (cc (sym (ap (setting_fault name values) (lost at)) ∙ passes))
-        by (Some i) at =
-            let low = place-low plan name i at in
-            let k = control_here plan i in
-            let named = named-here plan sound kept is.record_is i low name at in
-            let there = live plan sound kept is.record_is i low in
-            let fits = settable name k.kind values there.comp.kind there.kind (set-passes plan kept name values k named none) in
-            let all_values : List ℕ = spread (unwrap_or (channels_of k.kind) 0) values in
-            subst (λ (o : Option ControlPlan). IsDoneSo means plan heap up (setting_order plan kept values o) kept kept' w v result) (sym named)
-            (order-done plan means heap (with_control plan k.comp (with_values all_values)) (λ now. refl) kept up w is switched answers.Done (Put k.comp all_values ∷ []) kept' v result
-            (λ on. put-answered plan sound s is on i low (here-up i low at here) all_values fits.may) (λ f. tt)
-            (subst (λ (o : Option ControlPlan). OrderAnswered means plan heap (setting_order plan kept values o) kept kept' w v result) named all))
-
     pub set-done : (values : List ℕ) (kept' : Record) (v : World D) (result : Outcome) → is_control_up plan up name ≡ true → TestedAnswered means plan heap (set_fault plan kept name values) (set_order plan kept name values) kept kept' w v result →
         HasTested (set_fault plan kept name values) (control_order plan up name (set_order plan kept name values)) kept' v result
-    set-done values kept' v result here t =
-        subst (λ (o : Procedure). HasTested (set_fault plan kept name values) o kept' v result) (up-order (set_order plan kept name values) here)
-        (tested-by (set_fault plan kept name values) (set_order plan kept name values) kept' v result t.early (λ none. set-so values kept' v result here none (t.late none)))
-
-    -- in the record alone
-    unset-so : (values : List ℕ) (kept' : Record) → set_fault plan kept name values ≡ None → kept' ≡ (set_order plan kept name values).done kept → (result : Outcome) → result ≡ Ok tt → IsDoneSo means plan heap up (unsent (set_order plan kept name values)) kept kept' w w result
-    unset-so values kept' none left result ok = by (control_place plan name) refl
-      where
-        passes : setting_fault name values (named_control plan name) ≡ None
-        passes = (loaded kept.power (setting_fault name values (named_control plan name)) none).1
-
-        by : (place : Option ℕ) → control_place plan name ≡ place → IsDoneSo means plan heap up (unsent (set_order plan kept name values)) kept kept' w w result
-        by None at = absurd (cc (sym (ap (setting_fault name values) (lost at)) ∙ passes))
-        by (Some i) at =
-            let k = control_here plan i in
-            let named = named-here plan sound kept is.record_is i (place-low plan name i at) name at in
-            let all_values : List ℕ = spread (unwrap_or (channels_of k.kind) 0) values in
-            subst (λ (o : Option ControlPlan). IsDoneSo means plan heap up (unsent (setting_order plan kept values o)) kept kept' w w result) (sym named)
-            (unsent-done plan means heap (with_control plan k.comp (with_values all_values)) (λ now. refl) kept up w is switched answers.Done kept.power (Put k.comp all_values ∷ []) kept' w result
-            (left ∙ ap (λ (o : Option ControlPlan). (setting_order plan kept values o).done kept) named ∙ done-of kept.power) refl ok)
-          where
-            done-of : (power : Power) → (sends power (Put (control_here plan i).comp (spread (unwrap_or (channels_of (control_here plan i).kind) 0) values) ∷ []) (with_control plan (control_here plan i).comp (with_values (spread (unwrap_or (channels_of (control_here plan i).kind) 0) values))) answers.Done).done kept
-                ≡ with_control plan (control_here plan i).comp (with_values (spread (unwrap_or (channels_of (control_here plan i).kind) 0) values)) kept
-            done-of powers.On = refl
-            done-of power = refl
+    set-done values kept' v result here = done-up (set_fault plan kept name values) (set_order plan kept name values) kept' v result here (λ none. at-place plan sound kept is.record_is name (setting_fault name values) (faults.NoSuch name) refl none
+        (λ (o : Option ControlPlan). OrderAnswered means plan heap (setting_order plan kept values o) kept kept' w v result → IsDoneSo means plan heap up (setting_order plan kept values o) kept kept' w v result)
+        (λ i low at passes.
+        let k = control_here plan i in
+        let there = live plan sound kept is.record_is i low in
+        let all_values : List ℕ = spread (unwrap_or (channels_of k.kind) 0) values in
+        order-done plan means heap (with_control plan k.comp (with_values all_values)) (λ now. refl) kept up w is switched answers.Done (Put k.comp all_values ∷ []) kept' v result
+        (λ on. put-answered plan sound s is on i low (here-up i low at here) all_values (settable name k.kind values there.comp.kind there.kind passes).may) (λ f. tt)))
 
     pub set-kept : (values : List ℕ) (kept' : Record) (result : Outcome) → is_control_up plan up name ≡ false → KeptAlone (set_fault plan kept name values) (set_order plan kept name values).done kept kept' result →
         HasTested (set_fault plan kept name values) (control_order plan up name (set_order plan kept name values)) kept' w result
-    set-kept values kept' result down t =
-        subst (λ (o : Procedure). HasTested (set_fault plan kept name values) o kept' w result) (down-order (set_order plan kept name values) down)
-        (tested-by (set_fault plan kept name values) (unsent (set_order plan kept name values)) kept' w result (λ fault is. ((t.early fault is).0, refl, (t.early fault is).1)) (λ none. unset-so values kept' none (t.late none).1 result (t.late none).0))
+    set-kept values kept' result down = kept-down (set_fault plan kept name values) (set_order plan kept name values) kept' result down (λ none. at-place plan sound kept is.record_is name (setting_fault name values) (faults.NoSuch name) refl none
+        (λ (o : Option ControlPlan). kept' ≡ (setting_order plan kept values o).done kept → result ≡ Ok tt → IsDoneSo means plan heap up (unsent (setting_order plan kept values o)) kept kept' w w result)
+        (λ i low at passes. unsent-so (control_here plan i).comp (with_values (spread (unwrap_or (channels_of (control_here plan i).kind) 0) values)) (Put (control_here plan i).comp (spread (unwrap_or (channels_of (control_here plan i).kind) 0) values) ∷ []) kept' result))
 
     -- ---- a blob
 
-    install-so : (blob : List ℕ) (kept' : Record) (v : World D) (result : Outcome) → is_control_up plan up name ≡ true → bytes_fault plan kept name blob ≡ None → OrderAnswered means plan heap (bytes_order plan kept name blob) kept kept' w v result →
-        IsDoneSo means plan heap up (bytes_order plan kept name blob) kept kept' w v result
-    install-so blob kept' v result here none all = by (control_place plan name) refl
-      where
-        passes : installing_fault name blob (named_control plan name) ≡ None
-        passes = (loaded kept.power (installing_fault name blob (named_control plan name)) none).1
-
-        by : (place : Option ℕ) → control_place plan name ≡ place → IsDoneSo means plan heap up (bytes_order plan kept name blob) kept kept' w v result
-        by None at = absurd (cc (sym (ap (installing_fault name blob) (lost at)) ∙ passes))
-        by (Some i) at =
-            let low = place-low plan name i at in
-            let k = control_here plan i in
-            let named = named-here plan sound kept is.record_is i low name at in
-            let may = installable name k.kind blob (bytes-pass plan kept name blob k named none) in
-            subst (λ (o : Option ControlPlan). IsDoneSo means plan heap up (installing_order plan kept blob o) kept kept' w v result) (sym named)
-            (order-done plan means heap (with_control plan k.comp (with_blob blob)) (λ now. refl) kept up w is switched answers.Done (part_acts k.comp blob) kept' v result
-            (λ on. install-answered plan sound s is on i low (here-up i low at here) blob may) (loose-parts k.comp blob)
-            (subst (λ (o : Option ControlPlan). OrderAnswered means plan heap (installing_order plan kept blob o) kept kept' w v result) named all))
-
     pub bytes-done : (blob : List ℕ) (kept' : Record) (v : World D) (result : Outcome) → is_control_up plan up name ≡ true → TestedAnswered means plan heap (bytes_fault plan kept name blob) (bytes_order plan kept name blob) kept kept' w v result →
         HasTested (bytes_fault plan kept name blob) (control_order plan up name (bytes_order plan kept name blob)) kept' v result
-    bytes-done blob kept' v result here t =
-        subst (λ (o : Procedure). HasTested (bytes_fault plan kept name blob) o kept' v result) (up-order (bytes_order plan kept name blob) here)
-        (tested-by (bytes_fault plan kept name blob) (bytes_order plan kept name blob) kept' v result t.early (λ none. install-so blob kept' v result here none (t.late none)))
-
-    uninstalled-so : (blob : List ℕ) (kept' : Record) → bytes_fault plan kept name blob ≡ None → kept' ≡ (bytes_order plan kept name blob).done kept → (result : Outcome) → result ≡ Ok tt → IsDoneSo means plan heap up (unsent (bytes_order plan kept name blob)) kept kept' w w result
-    uninstalled-so blob kept' none left result ok = by (control_place plan name) refl
-      where
-        passes : installing_fault name blob (named_control plan name) ≡ None
-        passes = (loaded kept.power (installing_fault name blob (named_control plan name)) none).1
-
-        by : (place : Option ℕ) → control_place plan name ≡ place → IsDoneSo means plan heap up (unsent (bytes_order plan kept name blob)) kept kept' w w result
-        by None at = absurd (cc (sym (ap (installing_fault name blob) (lost at)) ∙ passes))
-        by (Some i) at =
-            let k = control_here plan i in
-            let named = named-here plan sound kept is.record_is i (place-low plan name i at) name at in
-            subst (λ (o : Option ControlPlan). IsDoneSo means plan heap up (unsent (installing_order plan kept blob o)) kept kept' w w result) (sym named)
-            (unsent-done plan means heap (with_control plan k.comp (with_blob blob)) (λ now. refl) kept up w is switched answers.Done kept.power (part_acts k.comp blob) kept' w result
-            (left ∙ ap (λ (o : Option ControlPlan). (installing_order plan kept blob o).done kept) named ∙ done-of kept.power) refl ok)
-          where
-            done-of : (power : Power) → (sends power (part_acts (control_here plan i).comp blob) (with_control plan (control_here plan i).comp (with_blob blob)) answers.Done).done kept ≡ with_control plan (control_here plan i).comp (with_blob blob) kept
-            done-of powers.On = refl
-            done-of power = refl
+    bytes-done blob kept' v result here = done-up (bytes_fault plan kept name blob) (bytes_order plan kept name blob) kept' v result here (λ none. at-place plan sound kept is.record_is name (installing_fault name blob) (faults.NoSuch name) refl none
+        (λ (o : Option ControlPlan). OrderAnswered means plan heap (installing_order plan kept blob o) kept kept' w v result → IsDoneSo means plan heap up (installing_order plan kept blob o) kept kept' w v result)
+        (λ i low at passes.
+        let k = control_here plan i in
+        order-done plan means heap (with_control plan k.comp (with_blob blob)) (λ now. refl) kept up w is switched answers.Done (part_acts k.comp blob) kept' v result
+        (λ on. install-answered plan sound s is on i low (here-up i low at here) blob (installable name k.kind blob passes)) (loose-parts k.comp blob)))
 
     pub bytes-kept : (blob : List ℕ) (kept' : Record) (result : Outcome) → is_control_up plan up name ≡ false → KeptAlone (bytes_fault plan kept name blob) (bytes_order plan kept name blob).done kept kept' result →
         HasTested (bytes_fault plan kept name blob) (control_order plan up name (bytes_order plan kept name blob)) kept' w result
-    bytes-kept blob kept' result down t =
-        subst (λ (o : Procedure). HasTested (bytes_fault plan kept name blob) o kept' w result) (down-order (bytes_order plan kept name blob) down)
-        (tested-by (bytes_fault plan kept name blob) (unsent (bytes_order plan kept name blob)) kept' w result (λ fault is. ((t.early fault is).0, refl, (t.early fault is).1)) (λ none. uninstalled-so blob kept' none (t.late none).1 result (t.late none).0))
+    bytes-kept blob kept' result down = kept-down (bytes_fault plan kept name blob) (bytes_order plan kept name blob) kept' result down (λ none. at-place plan sound kept is.record_is name (installing_fault name blob) (faults.NoSuch name) refl none
+        (λ (o : Option ControlPlan). kept' ≡ (installing_order plan kept blob o).done kept → result ≡ Ok tt → IsDoneSo means plan heap up (unsent (installing_order plan kept blob o)) kept kept' w w result)
+        (λ i low at passes. unsent-so (control_here plan i).comp (with_blob blob) (part_acts (control_here plan i).comp blob) kept' result))
 
     -- ---- what is asked for
 
@@ -264,27 +204,19 @@ module _ {D : Type 0} (means : Meaning D) (plan : Plan) (sound : IsSound plan) (
         by (suc n) = tt
     loose-asks comp kind c f = tt
 
-    read-so : (kept' : Record) (v : World D) (result : Outcome) → is_control_up plan up name ≡ true → read_fault plan kept name ≡ None → OrderAnswered means plan heap (read_order plan kept name) kept kept' w v result → IsDoneSo means plan heap up (read_order plan kept name) kept kept' w v result
-    read-so kept' v result here none all = by (control_place plan name) refl
-      where
-        passes : name_fault name (named_control plan name) (off_fault kept.power) ≡ None
-        passes = (loaded kept.power (name_fault name (named_control plan name) (off_fault kept.power)) none).1
-
-        by : (place : Option ℕ) → control_place plan name ≡ place → IsDoneSo means plan heap up (read_order plan kept name) kept kept' w v result
-        by None at = absurd (cc (sym (ap (λ (o : Option ControlPlan). name_fault name o (off_fault kept.power)) (lost at)) ∙ passes))
-        by (Some i) at =
-            let low = place-low plan name i at in
-            let k = control_here plan i in
-            let r = record_here kept i in
-            let named : named_control plan name ≡ Some k = named-here plan sound kept is.record_is i low name at in
-            let there : named_at plan kept name ≡ Some (k, r) = ap (option_and_then (λ (x : ControlPlan). control_at plan kept x.comp)) named ∙ at-here plan sound kept is.record_is i low in
-            subst (λ (o : Option (ControlPlan × ControlRec)). IsDoneSo means plan heap up (reading_order kept o) kept kept' w v result) (sym there)
-            (order-done plan means heap (λ now. now) (λ now. refl) kept up w is switched (control_answer k.kind r) (ask_acts k.comp k.kind r) kept' v result
-            (λ on. ask-answered plan sound s is on i low (here-up i low at here) k.kind refl) (loose-asks k.comp k.kind r)
-            (subst (λ (o : Option (ControlPlan × ControlRec)). OrderAnswered means plan heap (reading_order kept o) kept kept' w v result) there all))
-
     pub read-done : (kept' : Record) (v : World D) (result : Outcome) → is_control_up plan up name ≡ true → TestedAnswered means plan heap (read_fault plan kept name) (read_order plan kept name) kept kept' w v result →
         HasTested (read_up_fault plan s name) (read_order plan kept name) kept' v result
     read-done kept' v result here t =
         subst (λ (test : Option HostFault). HasTested test (read_order plan kept name) kept' v result) (read-test here)
-        (tested-by (read_fault plan kept name) (read_order plan kept name) kept' v result t.early (λ none. read-so kept' v result here none (t.late none)))
+        (tested-by (read_fault plan kept name) (read_order plan kept name) kept' v result t.early (λ none. at-place plan sound kept is.record_is name (λ o. name_fault name o (off_fault kept.power)) (faults.NoSuch name) refl none
+        (λ (o : Option ControlPlan). Reads (option_and_then (λ (x : ControlPlan). control_at plan kept x.comp) o))
+        (λ i low at passes.
+        let k = control_here plan i in
+        let r = record_here kept i in
+        subst Reads (sym (at-here plan sound kept is.record_is i low))
+        (order-done plan means heap (λ now. now) (λ now. refl) kept up w is switched (control_answer k.kind r) (ask_acts k.comp k.kind r) kept' v result
+        (λ on. ask-answered plan sound s is on i low (here-up i low at here) k.kind refl) (loose-asks k.comp k.kind r)))
+        (t.late none)))
+      where
+        Reads : Option (ControlPlan × ControlRec) → Type 0
+        Reads o = OrderAnswered means plan heap (reading_order kept o) kept kept' w v result → IsDoneSo means plan heap up (reading_order kept o) kept kept' w v result

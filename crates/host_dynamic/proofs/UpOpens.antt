@@ -217,14 +217,7 @@ module _ {D : Type 0} (means : Meaning D) (plan : Plan) (sound : IsSound plan) (
         opens-by : (o : Outcome) → outcome ≡ o → (made : List ℕ) → made ≡ filter_map widget_made passed → (kept' : Record) (v : World D) (result : Outcome) → AfterMaking means plan heap made o s.kept kept' mid v result → HasOpened kept' w v result
         opens-by (Ok done) is_o made are kept' v result (said, kept_same, stays) = subst (HasOpened kept' w v) (sym said) (all-made kept' v is_o kept_same stays)
         opens-by (Err (faults.Refused e)) is_o made are kept' v result (outcome', un, said) = subst (HasOpened kept' w v) (sym said) (unmade-then e is_o made are kept' v outcome' un)
-        opens-by (Err faults.LinkDown) is_o made are kept' v result (said, cut) = subst (HasOpened kept' w v) (sym said) (was-cut kept' v faults.LinkDown is_o refl cut)
-        opens-by (Err faults.NotLoaded) is_o made are kept' v result (said, cut) = subst (HasOpened kept' w v) (sym said) (was-cut kept' v faults.NotLoaded is_o refl cut)
-        opens-by (Err faults.Loaded) is_o made are kept' v result (said, cut) = subst (HasOpened kept' w v) (sym said) (was-cut kept' v faults.Loaded is_o refl cut)
-        opens-by (Err (faults.NoSuch name)) is_o made are kept' v result (said, cut) = subst (HasOpened kept' w v) (sym said) (was-cut kept' v (faults.NoSuch name) is_o refl cut)
-        opens-by (Err (faults.State stands)) is_o made are kept' v result (said, cut) = subst (HasOpened kept' w v) (sym said) (was-cut kept' v (faults.State stands) is_o refl cut)
-        opens-by (Err faults.Off) is_o made are kept' v result (said, cut) = subst (HasOpened kept' w v) (sym said) (was-cut kept' v faults.Off is_o refl cut)
-        opens-by (Err (faults.Range k)) is_o made are kept' v result (said, cut) = subst (HasOpened kept' w v) (sym said) (was-cut kept' v (faults.Range k) is_o refl cut)
-        opens-by (Err (faults.Blob k)) is_o made are kept' v result (said, cut) = subst (HasOpened kept' w v) (sym said) (was-cut kept' v (faults.Blob k) is_o refl cut)
+        opens-by (Err fault) is_o made are kept' v result after = subst (HasOpened kept' w v) (sym after.0) (was-cut kept' v fault is_o refl after.1)
 
       pub opens-on : (kept' : Record) (v : World D) (result : Outcome) → MadeOrCut means plan heap n s.kept kept' w v result → HasOpened kept' w v result
       opens-on kept' v result m = opens-by m.listed.passed m.mid m.outcome m.listed.sent m.outcome refl m.made m.listed.made_are kept' v result m.rest

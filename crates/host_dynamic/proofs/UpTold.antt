@@ -27,9 +27,10 @@ use Rattle.host_dynamic.specs.Dynamic.{is_control_up}
 use Rattle.host_widgets.specs.UpState.{UpState}
 use Rattle.host_dynamic.specs.UpDevices.{there_on, up_state_in}
 use Rattle.host_dynamic.specs.UpStates.{IsUpState}
+use Rattle.host_dynamic.proofs.NamedControls.{lost}
 use Rattle.host_dynamic.proofs.UpAgreeing.{IsSwitched}
 use Rattle.host_dynamic.proofs.UpAnswers.{shown-comp}
-use Rattle.host_dynamic.proofs.UpDone.{HasTested, here-up, lost, tested-by}
+use Rattle.host_dynamic.proofs.UpDone.{HasTested, here-up, tested-by}
 use Rattle.host_dynamic.proofs.UpGoingDown.{suspend-job}
 use Rattle.host_dynamic.proofs.UpOrders.{IsDoneSo, unsent-done}
 
@@ -55,7 +56,7 @@ module _ {D : Type 0} (means : Meaning D) (plan : Plan) (sound : IsSound plan) (
   set-for-up name here k named f on = by kept.power refl switched
     where
       placed : kept.power ≡ powers.On → (place : Option ℕ) → control_place plan name ≡ place → comp_of f.graph k.comp ≡ comp_of (graph_by plan kept) k.comp
-      placed power None at = absurd (cc (sym named ∙ lost means plan sound heap kept up w is switched name at))
+      placed power None at = absurd (cc (sym named ∙ lost plan name at))
       placed power (Some i) at =
           let low = place-low plan name i at in
           let same : control_here plan i ≡ k = cc (sym (named-here plan sound kept is.record_is i low name at) ∙ named) in

@@ -11,7 +11,7 @@ use Rattle.stream_law.specs.declared.graph.Pipe.{Pipe}
 use Rattle.stream_law.specs.declared.graph.Join.{Join}
 use Rattle.stream_law.specs.declared.graph.Graph.{Graph}
 use Rattle.stream_law.specs.declared.stream.StreamView.{StreamView}
-use Rattle.stream_law.specs.State.{FwState, HeapView, view_of}
+use Rattle.stream_law.specs.State.{HeapView, view_of}
 use Rattle.stream_law.specs.Ways.{comp_of, edge_of, components, buffers}
 use Rattle.stream_law.specs.Joins.{stays}
 use Rattle.stream_law.specs.Order.{is_among}
@@ -47,13 +47,14 @@ use Rattle.host_widgets.proofs.Sublists.{filter-same, filter-both, filter-append
 use Rattle.host_widgets.proofs.UpContext.{IsServing, AreApart, own-index, JoinEnds, join-ends, ends-up}
 use Rattle.host_widgets.proofs.UpStages.{Stage, StreamPair, comps_left, edges_left, stage_graph, stage_streams, at_stage, IsStage, index_of_id, is_join_of, up_stage, IsAmid}
 use Rattle.host_widgets.proofs.UpExchanges.{own-told}
-use Rattle.host_widgets.proofs.UpSending.{StagedFirst, AreAnswered}
+use Rattle.host_widgets.proofs.UpSending.{AreAnswered}
 use Rattle.host_widgets.proofs.LeadingOn.{LeadsTo, leads-answered, leads-on, leads-runs}
 use Rattle.host_widgets.proofs.UpMaking.{IsMidway}
 use Rattle.host_widgets.proofs.UpWalks.{Runs, with_there}
 use Rattle.host_widgets.specs.HostActs.{Act, Unmake}
 use Rattle.host_widgets.specs.ActMessages.{act_message}
 use Rattle.host_widgets.specs.Indices.{index_at}
+use Rattle.host_dynamic.proofs.UpAgreeing.{unmakes-loose}
 
 module _ (plan : Plan) (sound : IsSound plan) (s : UpState) (up n : List ℕ) (serving : IsServing plan s.kept up) (apart : AreApart up n) where
   abbrev g : Graph
@@ -187,10 +188,6 @@ module _ (plan : Plan) (sound : IsSound plan) (s : UpState) (up n : List ℕ) (s
           no (inl same) = true≢false (sym p.1 ∙ ap not (eq-eqb x id same))
           no (inr more) = out more
 
-  unmakes-loose : (ids : List ℕ) (f : FwState) → StagedFirst (map Unmake ids) f
-  unmakes-loose [] f = tt
-  unmakes-loose (id ∷ ids) f = tt
-
   -- one of these is unmade, and the others after it
   one-less : (id : ℕ) (ids : List ℕ) (st : Stage) (t : There) → IsAmid plan up n st → st.has id ≡ true → id < length plan.widgets → IsStage plan kept st t →
       told (row (silent_state (at_stage plan kept st t.heap)) (act_message plan (Unmake id))) ≡ Ok (at_stage plan kept (without_id id st) (without_piece id t.heap)) → (End : There → Type 0) →
@@ -205,23 +202,26 @@ module _ (plan : Plan) (sound : IsSound plan) (s : UpState) (up n : List ℕ) (s
         then (less-stage st t id a has is (left-told (at_stage plan kept st t.heap) (row (silent_state (at_stage plan kept st t.heap)) (act_message plan (Unmake id))) (at_stage plan kept (without_id id st) (without_piece id t.heap)) said)),
   )
 
+  -- ids of one sort: where this holds of a stage, each that is there may go, and this holds of what is left
+  abbrev MayGo : (ℕ → Type 0) → (Stage → Type 0) → Type 0
+  MayGo Named Holds = (id : ℕ) → Named id → (st : Stage) → Holds st → IsAmid plan up n st → of_n id ≡ true → st.has id ≡ true → (h : HeapView) →
+      (id < length plan.widgets) × (told (row (silent_state (at_stage plan kept st h)) (act_message plan (Unmake id))) ≡ Ok (at_stage plan kept (without_id id st) (without_piece id h))) × Holds (without_id id st)
+
+  all-go : (Named : ℕ → Type 0) (Holds : Stage → Type 0) → MayGo Named Holds → (ids : List ℕ) (st : Stage) (t : There) → AreOnce ids → AreLeft ids st → ((id : ℕ) → IsIn id ids → Named id) → Holds st → IsAmid plan up n st → IsStage plan kept st t →
+      (End : There → Type 0) → ((x : There) → IsStage plan kept (drops ids st) x → End x) → LeadsTo plan Midway (with_there plan s t) (map Unmake ids) End
+  all-go Named Holds may [] st t once left named holds a is End ends = ends t is
+  all-go Named Holds may (id ∷ ids) st t once left named holds a is End ends =
+      let here = left id (inl refl) in
+      let goes = may id (named id (inl refl)) st holds a here.0 here.1 t.heap in
+      one-less id ids st t a here.1 goes.0 is goes.1 End
+      (λ at. all-go Named Holds may ids (without_id id st) (there_after plan (Unmake id) t) once.1 (left-rest id ids st once left) (λ x there. named x (inr there)) goes.2 (less-amid st id a here.0) at End ends)
+
   -- ---- pipelines
 
-  pipes-go : (ids : List ℕ) (st : Stage) (t : There) → AreOnce ids → AreLeft ids st → ((id : ℕ) → IsIn id ids → (p : Pipe) × (pipe_at g id ≡ Some p)) → IsAmid plan up n st → IsStage plan kept st t →
-      LeadsTo plan Midway (with_there plan s t) (map Unmake ids) (λ x. IsStage plan kept (drops ids st) x)
-  pipes-go [] st t once left named a is = is
-  pipes-go (id ∷ ids) st t once left named a is =
-      one-less id ids st t a here.1 (pipeline-found plan sound id p.0 p.1).low is (free-pipe-told plan sound kept st (whole st a) t.heap id here.1 p.0 p.1 (index-free st a p.0.index in_n)) (λ x. IsStage plan kept (drops (id ∷ ids) st) x)
-      (λ next. pipes-go ids (without_id id st) (there_after plan (Unmake id) t) once.1 (left-rest id ids st once left) (λ x there. named x (inr there)) (less-amid st id a here.0) next)
-    where
-      here : (of_n id ≡ true) × (st.has id ≡ true)
-      here = left id (inl refl)
-
-      p : (p : Pipe) × (pipe_at g id ≡ Some p)
-      p = named id (inl refl)
-
-      in_n : is_among n p.0.index ≡ true
-      in_n = ap (is_among n) (sym (pipeline-found plan sound id p.0 p.1).is.index) ∙ here.0
+  pipe-goes : MayGo (λ id. (p : Pipe) × (pipe_at g id ≡ Some p)) (λ st. Unit {0})
+  pipe-goes id (p, found) st holds a in_n has h =
+      let named = pipeline-found plan sound id p found in
+      (named.low, free-pipe-told plan sound kept st (whole st a) h id has p found (index-free st a p.index (ap (is_among n) (sym named.is.index) ∙ in_n)), tt)
 
   -- ---- buffers
 
@@ -232,34 +232,24 @@ module _ (plan : Plan) (sound : IsSound plan) (s : UpState) (up n : List ℕ) (s
   pipes-still : (st : Stage) (id : ℕ) → ArePipesGone st → ArePipesGone (without_id id st)
   pipes-still st id gone p there in_n has = gone p there in_n (and_parts (st.has p.id) (not (p.id == id)) has).0
 
-  buffers-go : (ids : List ℕ) (st : Stage) (t : There) → AreOnce ids → AreLeft ids st → ((id : ℕ) → IsIn id ids → (e : Edge) × (edge_of g id ≡ Some e)) → ArePipesGone st → IsAmid plan up n st → IsStage plan kept st t →
-      LeadsTo plan Midway (with_there plan s t) (map Unmake ids) (λ x. IsStage plan kept (drops ids st) x)
-  buffers-go [] st t once left named gone a is = is
-  buffers-go (id ∷ ids) st t once left named gone a is =
-      one-less id ids st t a here.1 (buffer-found plan sound id e.0 e.1).low is
-      (free-buffer-told plan sound kept st (whole st a) t.heap id here.1 e.0.pipe (edge-index-of plan sound kept st (whole st a) t.heap id here.1 e.0 e.1) no-pipe e.0 e.1 (none-held st a id e.0.pipe (edge-named plan sound up id e.0 e.1) in_n) stay)
-      (λ x. IsStage plan kept (drops (id ∷ ids) st) x)
-      (λ at. buffers-go ids (without_id id st) (there_after plan (Unmake id) t) once.1 (left-rest id ids st once left) (λ x there. named x (inr there)) (pipes-still st id gone) next at)
+  buffer-goes : MayGo (λ id. (e : Edge) × (edge_of g id ≡ Some e)) ArePipesGone
+  buffer-goes id (e, found) st gone a in_n has h = (
+    (buffer-found plan sound id e found).low,
+    free-buffer-told plan sound kept st (whole st a) h id has e.pipe (edge-index-of plan sound kept st (whole st a) h id has e found) no-pipe e found (none-held st a id e.pipe (edge-named plan sound up id e found) of_edge) stay,
+    pipes-still st id gone,
+  )
     where
-      here : (of_n id ≡ true) × (st.has id ≡ true)
-      here = left id (inl refl)
+      of_edge : is_among n e.pipe ≡ true
+      of_edge = ap (is_among n) (sym (edge-index plan sound id e found)) ∙ in_n
 
-      e : (e : Edge) × (edge_of g id ≡ Some e)
-      e = named id (inl refl)
+      no-pipe : (p : Pipe) → IsIn p g.pipes → p.index ≡ e.pipe → st.has p.id ≡ true → ⊥
+      no-pipe p there same still = gone p there (ap (is_among n) same ∙ of_edge) still
 
-      in_n : is_among n e.0.pipe ≡ true
-      in_n = ap (is_among n) (sym (edge-index plan sound id e.0 e.1)) ∙ here.0
-
-      no-pipe : (p : Pipe) → IsIn p g.pipes → p.index ≡ e.0.pipe → st.has p.id ≡ true → ⊥
-      no-pipe p there same has = gone p there (ap (is_among n) same ∙ in_n) has
-
-      next : IsAmid plan up n (without_id id st)
-      next = less-amid st id a here.0
-
-      stay : stays (view_of (silent_state (at_stage plan kept st t.heap))) (without_edge id (stage_graph plan kept st)) ≡ true
+      stay : stays (view_of (silent_state (at_stage plan kept st h))) (without_edge id (stage_graph plan kept st)) ≡ true
       stay =
-          ap (stays (view_of (silent_state (at_stage plan kept st t.heap)))) (buffer-gone plan sound kept st (whole st a) t.heap id here.1 e.0.pipe (edge-index-of plan sound kept st (whole st a) t.heap id here.1 e.0 e.1) no-pipe e.0 e.1)
-          ∙ ways-stay plan sound kept up serving.held serving.shapes (λ (p : StreamPair). st.has p.0.host) (stage_graph plan kept st) (stage_graph plan kept (without_id id st)) (stage-between plan sound kept up n st a) (stage-between plan sound kept up n (without_id id st) next)
+          ap (stays (view_of (silent_state (at_stage plan kept st h)))) (buffer-gone plan sound kept st (whole st a) h id has e.pipe (edge-index-of plan sound kept st (whole st a) h id has e found) no-pipe e found)
+          ∙ ways-stay plan sound kept up serving.held serving.shapes (λ (p : StreamPair). st.has p.0.host) (stage_graph plan kept st) (stage_graph plan kept (without_id id st)) (stage-between plan sound kept up n st a)
+          (stage-between plan sound kept up n (without_id id st) (less-amid st id a in_n))
 
   -- ---- components
 
@@ -267,25 +257,13 @@ module _ (plan : Plan) (sound : IsSound plan) (s : UpState) (up n : List ℕ) (s
   abbrev AreUpJoins : Stage → Type 0
   AreUpJoins st = (j : Join) → IsIn j st.joins → is_join_of g up j ≡ true
 
-  comps-go : (ids : List ℕ) (st : Stage) (t : There) → AreOnce ids → AreLeft ids st → ((id : ℕ) → IsIn id ids → (c : Comp) × (comp_of g id ≡ Some c)) → ArePipesGone st → AreUpJoins st → IsAmid plan up n st → IsStage plan kept st t →
-      (End : There → Type 0) → ((x : There) → IsStage plan kept (drops ids st) x → End x) → LeadsTo plan Midway (with_there plan s t) (map Unmake ids) End
-  comps-go [] st t once left named gone joins a is End ends = ends t is
-  comps-go (id ∷ ids) st t once left named gone joins a is End ends =
-      one-less id ids st t a here.1 (component-found plan sound id c.0 c.1).low is
-      (free-comp-told plan sound kept st (whole st a) t.heap id here.1 c.0.pipe (comp-index-of plan sound kept st (whole st a) t.heap id here.1 c.0 c.1) no-pipe c.0 c.1
-      (λ j there. up-untouched id here.0 j (whole st a j there) (joins j there)))
-      End
-      (λ at. comps-go ids (without_id id st) (there_after plan (Unmake id) t) once.1 (left-rest id ids st once left) (λ x there. named x (inr there)) (pipes-still st id gone)
-      (λ j there. joins j (kept-in (λ (i : Join). not (touches id i)) st.joins j there).0) (less-amid st id a here.0) at End ends)
-    where
-      here : (of_n id ≡ true) × (st.has id ≡ true)
-      here = left id (inl refl)
-
-      c : (c : Comp) × (comp_of g id ≡ Some c)
-      c = named id (inl refl)
-
-      no-pipe : (p : Pipe) → IsIn p g.pipes → p.index ≡ c.0.pipe → st.has p.id ≡ true → ⊥
-      no-pipe p there same has = gone p there (ap (is_among n) (same ∙ sym (comp-index plan sound id c.0 c.1)) ∙ here.0) has
+  comp-goes : MayGo (λ id. (c : Comp) × (comp_of g id ≡ Some c)) (λ st. ArePipesGone st × AreUpJoins st)
+  comp-goes id (c, found) st (gone, joins) a in_n has h = (
+    (component-found plan sound id c found).low,
+    free-comp-told plan sound kept st (whole st a) h id has c.pipe (comp-index-of plan sound kept st (whole st a) h id has c found)
+        (λ p there same still. gone p there (ap (is_among n) (same ∙ sym (comp-index plan sound id c found)) ∙ in_n) still) c found (λ j there. up-untouched id in_n j (whole st a j there) (joins j there)),
+    (pipes-still st id gone, λ j there. joins j (kept-in (λ (i : Join). not (touches id i)) st.joins j there).0),
+  )
 
   -- ---- all of what there is
 
@@ -479,11 +457,11 @@ module _ (plan : Plan) (sound : IsSound plan) (s : UpState) (up n : List ℕ) (s
     unmakes-lead =
         subst (λ (l : List ℕ). LeadsTo plan Midway (with_there plan s t) (map Unmake l) (λ x. IsStage plan kept (up_stage plan up) x)) (sym order-is)
         (both-lead ps (bs ++ cs) (with_there plan s t) (λ x. IsStage plan kept st1 x) (λ x. IsStage plan kept (up_stage plan up) x)
-        (pipes-go ps st t (once-filter (is_among ids) (pipe_ids g) (keys-once (λ (p : Pipe). p.id) g.pipes (Ascends-distinct (λ (p : Pipe). p.id) g.pipes sound.pipes_ascend))) (picked-left (pipe_ids g)) pipe-named a is)
+        (all-go (λ id. (p : Pipe) × (pipe_at g id ≡ Some p)) (λ st. Unit {0}) pipe-goes ps st t (once-filter (is_among ids) (pipe_ids g) (keys-once (λ (p : Pipe). p.id) g.pipes (Ascends-distinct (λ (p : Pipe). p.id) g.pipes sound.pipes_ascend))) (picked-left (pipe_ids g)) pipe-named tt a is (λ x. IsStage plan kept st1 x) (λ x at. at))
         (λ x at1. both-lead bs cs (with_there plan s x) (λ y. IsStage plan kept st2 y) (λ y. IsStage plan kept (up_stage plan up) y)
-        (buffers-go bs st1 x (once-filter (is_among ids) (buffers g) (keys-once (λ (e : Edge). e.buffer) g.edges (Ascends-distinct (λ (e : Edge). e.buffer) g.edges sound.edges_ascend))) (still-left ps bs st (picked-left (buffers g)) pipe-no-edge) edge-there gone1 a1 at1)
-        (λ y at2. comps-go cs st2 y (once-filter (is_among ids) (components g) (keys-once (λ (c : Comp). c.id) g.comps (Ascends-distinct (λ (c : Comp). c.id) g.comps sound.comps_ascend)))
-        (still-left bs cs st1 (still-left ps cs st (picked-left (components g)) pipe-no-comp) edge-no-comp) comp-there gone2 joins2 a2 at2 (λ z. IsStage plan kept (up_stage plan up) z) ends-up-so)))
+        (all-go (λ id. (e : Edge) × (edge_of g id ≡ Some e)) ArePipesGone buffer-goes bs st1 x (once-filter (is_among ids) (buffers g) (keys-once (λ (e : Edge). e.buffer) g.edges (Ascends-distinct (λ (e : Edge). e.buffer) g.edges sound.edges_ascend))) (still-left ps bs st (picked-left (buffers g)) pipe-no-edge) edge-there gone1 a1 at1 (λ y. IsStage plan kept st2 y) (λ y at. at))
+        (λ y at2. all-go (λ id. (c : Comp) × (comp_of g id ≡ Some c)) (λ st. ArePipesGone st × AreUpJoins st) comp-goes cs st2 y (once-filter (is_among ids) (components g) (keys-once (λ (c : Comp). c.id) g.comps (Ascends-distinct (λ (c : Comp). c.id) g.comps sound.comps_ascend)))
+        (still-left bs cs st1 (still-left ps cs st (picked-left (components g)) pipe-no-comp) edge-no-comp) comp-there (gone2, joins2) a2 at2 (λ z. IsStage plan kept (up_stage plan up) z) ends-up-so)))
 
     -- before each of them it is midway
     pub unmakes-amid : Runs plan Midway (with_there plan s t) (unmaking_acts plan ids) (λ x. IsStage plan kept (up_stage plan up) x)

@@ -1,7 +1,6 @@
 pub mod Dynamic
 pub mod Parts
 pub mod UpStates
-pub mod JoinEnds
 pub mod UpDevices
 pub mod Noting
 pub mod Spreading

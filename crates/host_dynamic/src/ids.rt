@@ -56,11 +56,9 @@ pub fn lose<const MOST: usize>(list: &mut ArrayVec<u32, MOST>, others: &[u32])
 }
 
 // Lists these after what is listed.
-pub fn list_ids<const MOST: usize>(list: &mut ArrayVec<u32, MOST>, ids: &[u32])
-    requires { array_vec_len list.old + length ids.now ≤ MOST }
-    ensures { list.new.items ≡ list.old.items ++ ids.now }
+pub fn append<T: Copy, const MOST: usize>(list: &mut ArrayVec<T, MOST>, items: &[T])
+    requires { array_vec_len list.old + length items.now ≤ MOST }
+    ensures { list.new.items ≡ list.old.items ++ items.now }
 {
-    for id in ids {
-        list.push(*id);
-    }
+    let _fits = list.try_extend_from_slice(items);
 }

@@ -11,7 +11,7 @@ mod powering;
 
 pub use laws::{need_law, part_law};
 pub use lists::{make, unmake};
-pub use making::{Ends, finishes, is_control_up, joins_at, unmade_order, widgets_at};
+pub use making::{is_control_up, joins_at, unmade_order, widgets_at};
 pub use needing::need_of;
 pub use opening::{close, open};
 pub use powering::{load, resume, unload};

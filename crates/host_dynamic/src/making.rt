@@ -1,13 +1,10 @@
 // What is made and unmade of pipelines, as lists of ids.
-ghost use Rattle.std.specs.Prelude.{◌≡◌, ◌==◌, ◌+◌, ◌≤◌, ◌<◌, ◌++◌, ◌∷◌, [], length, map, filter, if◌then◌else◌};
+ghost use Rattle.std.specs.Prelude.{◌≡◌, ◌==◌, ◌+◌, ◌≤◌, ◌<◌, ◌++◌, [], length, map, filter, take};
 ghost use Rattle.arrayvec.specs.ArrayVec.{array_vec_len};
-ghost use Rattle.stream_law.specs.Order.{is_among};
 ghost use Rattle.host_widgets.specs.Acts.{widget_words};
 ghost use Rattle.tplg_plan.specs.Sound.{IsSound};
 ghost use Rattle.host_dynamic.specs.Dynamic.{is_control_up};
-ghost use Rattle.host_dynamic.specs.JoinEnds.{ends_joins};
 ghost use Rattle.host_widgets.specs.UpActs as law;
-ghost use Rattle.host_widgets.specs.Groups.{finish_ids};
 ghost use Rattle.host_widgets.specs.Indices.{join_index};
 ghost use Rattle.host_widgets.specs.Up as up;
 
@@ -17,13 +14,6 @@ use host_widgets::{all_widgets, has, is_named, widget_index};
 use sof_base::{Bounded, Name44};
 use stream_law::{Graph, Join, Pipe};
 use tplg_plan::Plan;
-
-/// The ids of the two ends of a join: what is read at the source goes to the sink.
-#[derive(Clone, Copy, Debug, Default, PartialEq, Eq)]
-pub struct Ends {
-    pub source: u32,
-    pub sink: u32,
-}
 
 // ---- making
 
@@ -84,59 +74,22 @@ fn is_join_at(graph: &Graph, index: u32, join: &Join) -> bool
     }
 }
 
-// Lists a join that is at a buffer of this index.
-fn list_join(list: &mut ArrayVec<Ends, 256>, graph: &Graph, index: u32, join: &Join)
-    requires { array_vec_len list.old < 256 }
-    ensures { ends_joins list.new.items ≡ ends_joins list.old.items ++ filter (up.is_join_at graph.now index) (join.now ∷ []) }
+/// Lists the joins of the buffers of an index after those that are listed, in the graph's order, and tells how many are listed then: CONNECT
+/// is sent for each.
+pub fn joins_at(graph: &Graph, index: u32, list: &mut [Join], listed: usize) -> usize
+    requires { listed + length graph.now.joins ≤ length list.old }
+    ensures joins { take result list.new ≡ take listed list.old ++ up.buffer_joins graph.now index }
+    ensures few { result ≤ listed + length graph.now.joins }
+    ensures size { length list.new ≡ length list.old }
 {
-    if is_join_at(graph, index, join) {
-        list.push(Ends {
-            source: join.source,
-            sink: join.sink,
-        });
-    }
-}
-
-/// The joins of the buffers of an index, in the graph's order: CONNECT is sent for each.
-pub fn joins_at(graph: &Graph, index: u32) -> Bounded<Ends, 256>
-    requires { length graph.now.joins ≤ 256 }
-    ensures { ends_joins result ≡ up.buffer_joins graph.now index }
-{
-    let mut list: ArrayVec<Ends, 256> = ArrayVec::new();
+    let mut count = listed;
     for join in graph.joins.items() {
-        list_join(&mut list, graph, index, join);
+        if is_join_at(graph, index, join) {
+            list[count] = *join;
+            count += 1;
+        }
     }
-    match Bounded::new(list.as_slice()) {
-        Some(same) => same,
-        // Never so: there are at most 256.
-        None => Bounded::empty(),
-    }
-}
-
-// Lists a pipeline that is of these indices.
-fn list_finish(list: &mut ArrayVec<u32, 32>, pipe: &Pipe, indices: &[u32])
-    requires { array_vec_len list.old < 32 }
-    ensures { list.new.items ≡ list.old.items ++ map (λ p. p.id) (filter (λ p. is_among indices.now p.index) (pipe.now ∷ [])) }
-{
-    if has(indices, pipe.index) {
-        list.push(pipe.id);
-    }
-}
-
-/// The pipelines of these indices, by id: PIPE_COMPLETE is sent for each.
-pub fn finishes(graph: &Graph, indices: &[u32]) -> Bounded<u32, 32>
-    requires { length graph.now.pipes ≤ 32 }
-    ensures { result ≡ finish_ids graph.now indices.now }
-{
-    let mut list: ArrayVec<u32, 32> = ArrayVec::new();
-    for pipe in graph.pipes.items() {
-        list_finish(&mut list, pipe, indices);
-    }
-    match Bounded::new(list.as_slice()) {
-        Some(same) => same,
-        // Never so: there are at most 32.
-        None => Bounded::empty(),
-    }
+    count
 }
 
 // ---- unmaking

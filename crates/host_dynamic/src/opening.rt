@@ -22,7 +22,7 @@ ghost use Rattle.host_dynamic.specs.UpCalls.{AfterMaking, MadeOrCut, MadeWhereOn
 ghost use Rattle.host_dynamic.specs.UpDevices.{UpAgrees, up_state_in};
 ghost use Rattle.host_dynamic.specs.UpStates.{IsUpState};
 
-use crate::ids::{keep, list_ids, lose};
+use crate::ids::{append, keep, lose};
 use crate::lists::{make, unmake};
 use crate::needing::{mark_host, need_of, needed_from};
 use arrayvec::ArrayVec;
@@ -282,7 +282,7 @@ fn listed(indices: &[u32]) -> ArrayVec<u32, 32>
     ensures { result.items ≡ indices.now }
 {
     let mut list: ArrayVec<u32, 32> = ArrayVec::new();
-    list_ids(&mut list, indices);
+    append(&mut list, indices);
     list
 }
 
@@ -292,7 +292,7 @@ fn raise(up: &mut Bounded<u32, 32>, indices: &[u32])
     ensures { up.new ≡ up.old ++ indices.now }
 {
     let mut list = listed(up.items());
-    list_ids(&mut list, indices);
+    append(&mut list, indices);
     *up = list_of(list.as_slice());
 }
 

@@ -3,18 +3,16 @@ use Rattle.mbox_link.specs.Calls.{World, world}
 use Rattle.tplg_plan.specs.declared.plans.Plan.{Plan}
 use Rattle.tplg_plan.specs.Sound.{IsSound}
 use Rattle.host_widgets.specs.declared.kept.Record.{Record}
-use Rattle.host_widgets.specs.Routines.{JobTested}
 use Rattle.host_widgets.specs.Sides.{world_of}
 use Rattle.host_widgets.proofs.NamedIds.{few-widgets}
 use Rattle.host_widgets.proofs.Walks.{handed_on}
 use Rattle.host_pcm.specs.declared.asking.Ask.TheVariants.{Closing}
 use Rattle.host_pcm.specs.Asks.{early_fault}
 use Rattle.host_pcm.proofs.HostTests.{found_place}
-use Rattle.host_widgets.specs.UpState.{up_act_rules}
 use Rattle.host_widgets.specs.There.{shown_ids}
 use Rattle.host_dynamic.specs.UpCalls.{UnmadeWhereOn}
-use Rattle.host_dynamic.specs.UpDevices.{UpAgrees, up_state_in}
-use Rattle.host_dynamic.specs.UpStates.{IsUpState}
+use Rattle.host_dynamic.specs.UpDevices.{up_state_in}
+use Rattle.host_dynamic.proofs.UpAgreeing.{IsCalled}
 use Rattle.host_dynamic.proofs.UpCalled.{closed-not, closed_named, closes-called, device-on, early-called, power-stays, room-left}
 use Rattle.host_dynamic.proofs.opening.close.Goals as goal
 
@@ -71,11 +69,8 @@ returns-in-Err g c =
     let fault = c.in-Err.fault in
     let job = closed_named means plan c.requires.plan heap kept up w name c.requires.state c.requires.agree in
     let called = closed-not means plan c.requires.plan heap kept up w name c.requires.state c.requires.agree k at c.close.new.side.kept.now (world_of c.close.new.side) c.close.result c.close.ensures.answered fault c.in-Err.is in
-    record {
-      done = subst (λ (e : Record × World g.row.P.Denot). JobTested means (up_act_rules plan) heap (early_fault plan kept name Closing) job (up_state_in means kept up c.args.dsp.now) (up_state_in means e.0 up e.1.device) w e.1 (Err fault)) (search rules) called.tested;
-      state = subst (λ (e : Record × g.row.P.Denot). IsUpState plan (up_state_in means e.0 up e.1)) (search rules) called.state;
-      agree = subst (λ (e : Record × g.row.P.Denot). UpAgrees means plan e.0 up e.1) (search rules) called.agree;
-    }
+    let end = subst (λ (e : Record × World g.row.P.Denot). IsCalled means plan heap (early_fault plan kept name Closing) job (up_state_in means kept up w.device) e.0 up w e.1 (Err fault)) (search rules) called in
+    record { done = end.tested; state = end.state; agree = end.agree }
 
 pub returns-in-Ok : goal.returns-in-Ok
 returns-in-Ok g c =
@@ -89,8 +84,5 @@ returns-in-Ok g c =
     let ids = c.as_slice-in-Ok.ensures.value ∙ c.widgets_in-gone.ensures ∙ ap (shown_ids plan) (c.as_slice.ensures.value ∙ c.part-parting.ensures.parting) in
     let did : UnmadeWhereOn means plan heap gone kept1.power kept1 kept2 m1 v result = subst (λ (p : Plan × ℕ). UnmadeWhereOn means p.0 p.1 gone kept1.power kept1 kept2 m1 v result) (λ i. ((c.close.ensures.same.plan i).now, c.close.ensures.same.heap i)) c.unmake_where_on.ensures.did in
     let called = closes-called means plan c.requires.plan heap kept up w name c.requires.state c.requires.agree k at kept1 m1 c.close.result c.close.ensures.answered c.in-Ok.is gone ids kept2 up' c.part-parting.ensures.staying v result did in
-    record {
-      done = subst (λ (e : Record × World g.row.P.Denot). JobTested means (up_act_rules plan) heap (early_fault plan kept name Closing) job (up_state_in means kept up c.args.dsp.now) (up_state_in means e.0 up' e.1.device) w e.1 result) (search rules) called.tested;
-      state = subst (λ (e : Record × g.row.P.Denot). IsUpState plan (up_state_in means e.0 up' e.1)) (search rules) called.state;
-      agree = subst (λ (e : Record × g.row.P.Denot). UpAgrees means plan e.0 up' e.1) (search rules) called.agree;
-    }
+    let end = subst (λ (e : Record × World g.row.P.Denot). IsCalled means plan heap (early_fault plan kept name Closing) job (up_state_in means kept up w.device) e.0 up' w e.1 result) (search rules) called in
+    record { done = end.tested; state = end.state; agree = end.agree }

@@ -7,7 +7,6 @@ use Rattle.tplg_plan.specs.declared.plans.StreamPlan.{StreamPlan}
 use Rattle.host_widgets.specs.declared.kept.Record.{Record}
 use Rattle.host_widgets.specs.Host.{Outcome}
 use Rattle.host_widgets.specs.HostRecord.{no_stream}
-use Rattle.host_widgets.specs.Routines.{JobTested}
 use Rattle.host_widgets.specs.Sides.{world_of}
 use Rattle.host_widgets.proofs.PlannedStreams.{place-stream}
 use Rattle.host_widgets.proofs.Walks.{handed_on}
@@ -17,10 +16,9 @@ use Rattle.host_pcm.specs.StreamCalls.{host_at}
 use Rattle.host_pcm.proofs.HostTests.{found_place}
 use Rattle.host_widgets.specs.UpActs.{widgets_of}
 use Rattle.host_dynamic.specs.Dynamic.{lacking}
-use Rattle.host_widgets.specs.UpState.{up_act_rules}
-use Rattle.host_dynamic.specs.UpDevices.{UpAgrees, up_state_in}
-use Rattle.host_dynamic.specs.UpStates.{IsUpState}
+use Rattle.host_dynamic.specs.UpDevices.{up_state_in}
 use Rattle.host_dynamic.proofs.NeededNoted.{host-here}
+use Rattle.host_dynamic.proofs.UpAgreeing.{IsCalled}
 use Rattle.host_dynamic.proofs.UpCalled.{device-on, early-called, opened-long, opened_named, opens-not, opens-so}
 use Rattle.host_dynamic.proofs.UpFew.{lacking-widgets, both-few}
 use Rattle.host_dynamic.proofs.opening.open.Goals as goal
@@ -96,13 +94,9 @@ returns-in_err-make_where_on g c =
     let fault = c.in_err-make_where_on.field-0.0 in let result = c.from_residual-in_err-make_where_on.result in
     let job = opened_named means plan c.requires.plan heap kept up w name c.requires.state c.requires.agree in
     let called = opens-not means plan c.requires.plan heap kept up w name c.requires.state c.requires.agree k at ids ids_are c.make_where_on.new.side.kept.now (world_of c.make_where_on.new.side) c.make_where_on.result c.make_where_on.ensures.did fault c.in_err-make_where_on.was in
-    record {
-      done = subst (λ (e : Record × World g.row.P.Denot). JobTested means (up_act_rules plan) heap (early_fault plan kept name Opening) job (up_state_in means kept up c.args.dsp.now) (up_state_in means e.0 up e.1.device) w e.1 result) (search rules)
-          (subst (λ (o : Outcome). JobTested means (up_act_rules plan) heap (early_fault plan kept name Opening) job (up_state_in means kept up c.args.dsp.now) (up_state_in means c.make_where_on.new.side.kept.now up c.make_where_on.new.side.dsp.now) w (world_of c.make_where_on.new.side) o)
-          (sym (handed_on result fault c.from_residual-in_err-make_where_on.ensures)) called.tested);
-      state = subst (λ (e : Record × g.row.P.Denot). IsUpState plan (up_state_in means e.0 up e.1)) (search rules) called.state;
-      agree = subst (λ (e : Record × g.row.P.Denot). UpAgrees means plan e.0 up e.1) (search rules) called.agree;
-    }
+    let told = subst (λ (o : Outcome). IsCalled means plan heap (early_fault plan kept name Opening) job (up_state_in means kept up w.device) c.make_where_on.new.side.kept.now up w (world_of c.make_where_on.new.side) o) (sym (handed_on result fault c.from_residual-in_err-make_where_on.ensures)) called in
+    let end = subst (λ (e : Record × World g.row.P.Denot). IsCalled means plan heap (early_fault plan kept name Opening) job (up_state_in means kept up w.device) e.0 up w e.1 result) (search rules) told in
+    record { done = end.tested; state = end.state; agree = end.agree }
 
 pub returns : goal.returns
 returns g c =
@@ -115,8 +109,5 @@ returns g c =
     let up' : List ℕ = c.raise.new.up in
     let raised : up' ≡ up ++ ids = c.raise.ensures ∙ ap (λ (xs : List ℕ). up ++ xs) (c.as_slice-2.ensures.value ∙ sym c.as_slice.ensures.value) in
     let called = opens-so means plan c.requires.plan heap kept up w name c.requires.state c.requires.agree k at ids ids_are c.make_where_on.new.side.kept.now (world_of c.make_where_on.new.side) c.make_where_on.result c.make_where_on.ensures.did c.in_ok-make_where_on.was c.open.new.kept c.open.ensures up' raised in
-    record {
-      done = subst (λ (e : Record × World g.row.P.Denot). JobTested means (up_act_rules plan) heap (early_fault plan kept name Opening) job (up_state_in means kept up c.args.dsp.now) (up_state_in means e.0 up' e.1.device) w e.1 (Ok tt)) (search rules) called.tested;
-      state = subst (λ (e : Record × g.row.P.Denot). IsUpState plan (up_state_in means e.0 up' e.1)) (search rules) called.state;
-      agree = subst (λ (e : Record × g.row.P.Denot). UpAgrees means plan e.0 up' e.1) (search rules) called.agree;
-    }
+    let end = subst (λ (e : Record × World g.row.P.Denot). IsCalled means plan heap (early_fault plan kept name Opening) job (up_state_in means kept up w.device) e.0 up' w e.1 (Ok tt)) (search rules) called in
+    record { done = end.tested; state = end.state; agree = end.agree }

@@ -1,14 +1,22 @@
 -- How many acts of a command are due at most.
-use Rattle.std.proofs.Common.{◌≡◌, refl, ℕ, ◌≤◌, List, [], length, Option, Some, None, arith}
+use Rattle.std.proofs.Common.{◌≡◌, refl, ℕ, ◌≤◌, List, [], ◌∷◌, zip, length, Option, Some, None, arith}
+use Rattle.std.specs.List.{flat_map}
+use Rattle.std.proofs.lemmas.List.{length-append}
+use Rattle.sof_base.specs.declared.format.Params.{Params}
 use Rattle.tplg_plan.specs.declared.plans.Plan.{Plan}
 use Rattle.host_widgets.specs.declared.kept.Record.{Record}
+use Rattle.tplg_plan.specs.declared.plans.StreamPlan.{StreamPlan}
 use Rattle.tplg_plan.specs.Sound.{IsSound}
-use Rattle.host_widgets.specs.Host.{IsRecordOf}
+use Rattle.host_widgets.specs.declared.kept.Found.{Found}
+use Rattle.host_widgets.specs.declared.kept.Found.TheVariants.{Prepared, Running}
+use Rattle.host_widgets.specs.declared.kept.StreamRec.{StreamRec}
+use Rattle.host_widgets.specs.ActLists.{bring_back, bring_up, go_down, prepare_acts, prepare_by, stop_acts, stop_by}
+use Rattle.host_widgets.specs.Host.{AreControls, IsRecordOf}
 use Rattle.host_widgets.specs.declared.answers.HostFault.{HostFault}
-use Rattle.host_widgets.specs.HostActs.{Act}
+use Rattle.host_widgets.specs.HostActs.{Act, Save}
 use Rattle.host_widgets.specs.Orders.{Procedure}
 use Rattle.host_widgets.specs.Routines.{order_job}
-use Rattle.host_widgets.proofs.FewJoins.{few-acts}
+use Rattle.host_widgets.proofs.FewJoins.{few-acts, few-by-controls}
 use Rattle.host_pcm.specs.declared.asking.Ask.{Ask}
 use Rattle.host_ctl.specs.ControlOrders.{bytes_order}
 use Rattle.sof_script.specs.declared.script.Command.{Command}
@@ -19,9 +27,41 @@ use Rattle.sof_session.specs.Commands.{order_of}
 use Rattle.sof_session.specs.CommandRanges.{most_sent}
 use Rattle.sof_session.proofs.SentOrders.{few-sent, few-stream}
 use Rattle.sof_session.proofs.ControlCalls.{sent-set, sent-get, sent-read, sent-bytes}
-use Rattle.sof_session.proofs.PowerSteps.{few-down}
-use Rattle.sof_session.proofs.ResumeSteps.{few-back}
+use Rattle.sof_session.proofs.PlanCounts.{few-streams_and_controls}
 use Rattle.sof_session.proofs.RoutineNumbers.{SendsWithin}
+
+-- ---- a suspend and a resume
+
+few-stop : (host : ℕ) (found : Found) → length (stop_by host found) ≤ 1
+few-stop host Running = omega arith
+few-stop host found = omega arith
+
+few-prepare : (host : ℕ) (found : Found) (params : Option Params) → length (prepare_by host found params) ≤ 1
+few-prepare host Prepared (Some p) = omega arith
+few-prepare host Prepared None = omega arith
+few-prepare host Running params = omega arith
+few-prepare host found params = omega arith
+
+-- at most one act for each stream
+few-each : (acts : StreamPlan × StreamRec → List Act) → ((s : StreamPlan) (r : StreamRec) → length (acts (s, r)) ≤ 1) → (ss : List StreamPlan) (rs : List StreamRec) → length (flat_map acts (zip ss rs)) ≤ length ss
+few-each acts one [] rs = omega arith
+few-each acts one (s ∷ ss) [] = omega arith
+few-each acts one (s ∷ ss) (r ∷ rs) = omega (arith, one s r, few-each acts one ss rs, length-append (acts (s, r)) (flat_map acts (zip ss rs)))
+
+pub few-prepares : (ss : List StreamPlan) (rs : List StreamRec) → length (flat_map prepare_acts (zip ss rs)) ≤ length ss
+few-prepares ss rs = few-each prepare_acts (λ s r. few-prepare s.host r.found r.params) ss rs
+
+few-down : (plan : Plan) (kept : Record) → IsSound plan → length (go_down plan kept) ≤ 900
+few-down plan kept sound =
+    let stops = few-each stop_acts (λ s r. few-stop s.host r.found) plan.streams kept.streams in
+    omega (arith, few-streams_and_controls plan sound, stops, length-append (flat_map stop_acts (zip plan.streams kept.streams)) (Save ∷ []))
+
+-- 576 messages that bring a device up but for its controls, and 4 for each control, and one for each stream
+few-back : (plan : Plan) (kept : Record) → IsSound plan → AreControls plan.controls kept.controls → length (bring_back plan kept) ≤ 900
+few-back plan kept sound are =
+    omega (arith, few-by-controls plan kept sound are, few-streams_and_controls plan sound, sound.controls, few-prepares plan.streams kept.streams, length-append (bring_up plan kept) (flat_map prepare_acts (zip plan.streams kept.streams)))
+
+-- ---- every command
 
 -- the acts of an order that are due: none where a test fails
 abbrev pub due : Procedure → Option HostFault → List Act

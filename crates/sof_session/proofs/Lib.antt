@@ -24,6 +24,7 @@ pub mod ModeLaws
 pub mod LoadMode
 pub mod UpFew
 pub mod FewRows
+pub mod EachMessage
 pub mod UpPaced
 pub mod UpMode
 pub mod RunLegs
@@ -31,7 +32,6 @@ pub mod FilledInputs
 pub mod InputMoves
 pub mod WholeBytes
 pub mod CommandMoves
-pub mod StepMoves
 pub mod FilledRuns
 pub mod Doings
 pub mod LinkWalks
@@ -39,32 +39,25 @@ pub mod CalmDoings
 pub mod Carrying
 pub mod JobCalm
 pub mod JobWalks
+pub mod WalkStands
 pub mod OrderStands
-mod CallsRan
 pub mod Stepping
 pub mod JobSteps
+pub mod StandsAtLoad
 pub mod FewMeetings
 pub mod BuildStands
-pub mod LoadSteps
-pub mod UnloadSteps
-pub mod PowerSteps
-pub mod ResumeSteps
 pub mod PlanSteps
 pub mod TickSteps
 pub mod StagePlays
 pub mod UpPlays
-pub mod UpTicks
-pub mod TickModes
 pub mod PlanCounts
 pub mod PartCounts
 pub mod SentOrders
 pub mod StillOrders
-pub mod SentSteps
 pub mod ControlCalls
 pub mod ActsLed
 pub mod CallAgreement
 pub mod UpRings
-pub mod UpAgreement
 pub mod ModeSteps
 pub mod TickAgreement
 pub mod PlanAgreement
@@ -74,7 +67,6 @@ pub mod StepDone
 mod ModeCalls
 pub mod JobPorts
 pub mod StillJobs
-pub mod UpStays
 pub mod LiveViews
 pub mod StageLives
 pub mod RowsLeave
@@ -90,9 +82,6 @@ pub mod UpStandsDown
 pub mod UpStandsResume
 pub mod UpStandsCommands
 pub mod UpCalls
-pub mod UpMakes
-pub mod UpStepping
-pub mod UpStepDone
 pub mod UpSteps
 pub mod FaultSteps
 pub mod UpSuspending

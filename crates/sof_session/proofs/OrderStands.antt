@@ -1,9 +1,10 @@
 -- An order that was carried out over a link: where the device and the endpoints stand after it, by its written moments.
-use Rattle.std.proofs.Common.{◌≡◌, ◌⊎◌, inl, inr, ⊎_elim, refl, sym, ap, ◌∙◌, subst, ℕ, ◌+◌, ◌<◌, ◌-◌, ◌^◌, false, List, [], ◌∷◌, ◌++◌, length, Option, Some, None, Ok, Err}
+use Rattle.std.proofs.Common.{◌≡◌, ◌⊎◌, inl, inr, ⊎_elim, refl, sym, ap, ◌∙◌, subst, ℕ, ◌+◌, ◌<◌, ◌-◌, ◌^◌, Bool, false, List, [], ◌∷◌, ◌++◌, length, Option, Some, None, Ok, Err}
 use Rattle.std.proofs.lemmas.List.{append-nil, append_assoc}
 use Rattle.sof_base.specs.Ports.{Io}
 use Rattle.stream_law.specs.State.{FwState}
 use Rattle.stream_law.specs.Past.{Moment, Cut}
+use Rattle.stream_law.specs.Viewing.{IsPlayable}
 use Rattle.mbox_link.specs.Calls.{World, Meaning, Led}
 use Rattle.mbox_link.specs.Wire.{Wire}
 use Rattle.mbox_link.specs.Link.{link}
@@ -15,19 +16,47 @@ use Rattle.host_widgets.specs.declared.answers.HostFault.TheVariants.{Refused, L
 use Rattle.host_widgets.specs.declared.kept.Record.{Record}
 use Rattle.host_widgets.specs.Host.{Outcome, IsRecordOf}
 use Rattle.host_widgets.specs.Keeps.{KeepsRecord}
-use Rattle.host_widgets.specs.HostActs.{Act}
+use Rattle.host_widgets.specs.HostActs.{Act, after}
+use Rattle.host_widgets.specs.ViewOf.{record_view}
 use Rattle.host_widgets.specs.OneAct.{act_rules}
 use Rattle.host_widgets.specs.Walk.{Walked, walk}
-use Rattle.host_widgets.specs.ActCalls.{next_of, calls_of}
+use Rattle.host_widgets.specs.ActCalls.{ActsDid, next_of, calls_of}
 use Rattle.host_widgets.specs.Orders.{Procedure, Plain, Carried, goes_on_after_refusal, plain_end, end_by}
 use Rattle.host_widgets.proofs.StandingOn.{StandsOn, ReadsOn, cut-stands}
-use Rattle.host_widgets.proofs.WalksHold.{ByLink, AreTaken, Held, HeldBy, ReadBy, walk-holds}
+use Rattle.host_widgets.proofs.OneActLaws.{AreReady}
+use Rattle.host_widgets.proofs.SoundPlays.{sound-plays}
+use Rattle.host_widgets.proofs.WalksHold.{ByLink, AreTaken, HaveLaw}
 use Rattle.host_widgets.specs.Routines.{order_job}
 use Rattle.host_widgets.proofs.OrderJobs.{order-done}
 use Rattle.sof_session.specs.Agreement.{IsFated}
 use Rattle.sof_session.specs.Commands.{carried, command_rules}
 use Rattle.sof_session.specs.SessionStep.{known_of}
 use Rattle.sof_session.proofs.JobWalks.{job_doing, job-moments}
+use Rattle.sof_session.proofs.WalkStands.{Held, HeldBy, LeadOn, walk-stands}
+
+-- ---- acts
+
+module _ (plan : Plan) (heap : ℕ) (goes_on : Bool) (sound : IsSound plan) where
+  -- those that the firmware takes by the record lead on where it keeps the record
+  taken-lead : (acts : List Act) (kept : Record) → HaveLaw plan goes_on kept acts → (f : FwState) → KeepsRecord plan heap kept f → AreReady plan goes_on acts f → LeadOn (act_rules plan heap) goes_on (KeepsRecord plan heap) acts kept f
+  taken-lead [] kept law f keeps ready = keeps
+  taken-lead (act ∷ acts) kept law f keeps ready = (
+    subst IsPlayable (sym keeps.view) (sound-plays plan sound kept (record_view plan kept).streams),
+    λ g same.
+        let now : KeepsRecord plan heap kept g = record { view = same.view ∙ keeps.view; pieces = same.heap ∙ keeps.pieces; rings = same.buffers ∙ keeps.rings } in
+        let r = ready g same.staging in (
+          now,
+          λ free h done.
+              let l = law.0.leaves g h now.view now.rings r.0 done in
+              (l.stands, taken-lead acts (after plan act kept) (law.1 l.record_now) h record { view = l.shows_now; pieces = l.heap ∙ now.pieces; rings = l.rings } (r.1 h done)),
+          λ goes. taken-lead acts kept (law.2 goes) g now (r.2 goes),
+        ),
+  )
+
+  -- so over any device
+  pub walk-holds : {D : Type 0} (means : Meaning D) (acts : List Act) (ms : List Meeting) (kept : Record) (w v : World D) → ActsDid means (act_rules plan heap) goes_on kept acts ms w v → AreTaken plan goes_on kept acts →
+      (f : FwState) → means.on w.device ≡ Some f → KeepsRecord plan heap kept f → HeldBy means (KeepsRecord plan heap) f w v (walk (act_rules plan heap) goes_on next_of kept ms acts)
+  walk-holds means acts ms kept w v did taken f on keeps = walk-stands (act_rules plan heap) goes_on (KeepsRecord plan heap) means acts ms kept w v did f on (taken-lead acts kept taken.each f keeps (taken.ready f))
 
 -- ---- how an order ends
 
@@ -99,15 +128,15 @@ module _ {P : Type 0} (means : Meaning P) (heap : ℕ) (plan : Plan) (sound : Is
   sent = met means heap plan o kept kept' w v result c
 
   -- its messages reached a device that is as it was
-  held : HeldBy (link means) plan heap false sound f w c.sent sent
-  held = subst (λ (x : World (Wire P)). HeldBy (link means) plan heap false sound f x c.sent sent) c.first
-      (walk-holds (link means) plan heap false sound acts c.meetings kept c.begun c.sent c.walked taken is f (ap (λ (x : World (Wire P)). means.on x.device.device) c.first ∙ on) keeps)
+  held : HeldBy (link means) (KeepsRecord plan heap) f w c.sent sent
+  held = subst (λ (x : World (Wire P)). HeldBy (link means) (KeepsRecord plan heap) f x c.sent sent) c.first
+      (walk-holds plan heap false sound (link means) acts c.meetings kept c.begun c.sent c.walked taken f (ap (λ (x : World (Wire P)). means.on x.device.device) c.first ∙ on) keeps)
 
   abbrev HeldSo : Type 0
-  HeldSo = Held (link means) plan heap false sound f w c.sent sent.kept sent.moments
+  HeldSo = Held (link means) (KeepsRecord plan heap sent.kept) f w c.sent sent.moments
 
   abbrev ReadSo : Type 0
-  ReadSo = ReadBy (link means) plan heap false sound f w c.sent sent.moments
+  ReadSo = ReadsOn (Some f) w.io c.sent.io sent.moments
 
   -- it is on in a state that keeps the plan, and nothing more was done
   pub record IsUp : Type 0 where
@@ -123,7 +152,7 @@ module _ {P : Type 0} (means : Meaning P) (heap : ℕ) (plan : Plan) (sound : Is
       record {
         state = h.state;
         is_on = ap (λ (x : World (Wire P)). means.on x.device.device) same ∙ h.is_on;
-        keeps_now = h.keeps_now;
+        keeps_now = h.so;
         stands = subst (λ (x : World (Wire P)). StandsOn (Some f) w.io (Some h.state) x.io sent.moments) (sym same) h.stands;
         no_more = no_more;
       }

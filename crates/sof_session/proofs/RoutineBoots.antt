@@ -11,7 +11,7 @@ use Rattle.mbox_link.proofs.Led.{Steady-by}
 use Rattle.host_widgets.specs.declared.answers.Answer.{Answer}
 use Rattle.host_widgets.specs.declared.answers.HostFault.{HostFault}
 use Rattle.host_widgets.specs.ActRules.{ActRules}
-use Rattle.host_widgets.specs.ActCalls.{ActsDid, next_of, calls_of}
+use Rattle.host_widgets.specs.ActCalls.{calls_of}
 use Rattle.host_widgets.specs.Host.{Outcome}
 use Rattle.host_widgets.specs.OneAct.{Performed, one_act, outcome_by, performed, lag_of}
 use Rattle.host_widgets.specs.Routines.{Routine, Finished, Sending, Job, JobDone, RoutineDid, followed, walk_on, walk_routine, not_begun}
@@ -25,7 +25,8 @@ use Rattle.sof_session.proofs.JobCalm.{routine-led}
 use Rattle.sof_session.proofs.LinkFates.{Steady-none, Led-inside}
 use Rattle.sof_session.proofs.RoutineNumbers.{planned-by, tested-is}
 use Rattle.sof_session.proofs.RoutinePasses.{EndsSo, EndsWell}
-use Rattle.sof_session.proofs.RunBoots.{NoBoot, none-more, none-late, boots-append, led-boots, onwards}
+use Rattle.sof_session.proofs.JobPorts.{routine-keeps}
+use Rattle.sof_session.proofs.RunBoots.{NoBoot, none-more, none-late, boots-append, led-boots}
 
 -- ---- moments
 
@@ -60,19 +61,12 @@ module _ {S A : Type 0} (rules : ActRules S A) where
   -- ---- calls
 
   module _ {D : Type 0} (means : Meaning D) where
-    acts-boots : (goes_on : Bool) (acts : List A) (ms : List Meeting) (kept : S) (w v : World D) → ActsDid means rules goes_on kept acts ms w v → means.boots v.device ≡ means.boots w.device
-    acts-boots goes_on [] ms kept w v did = ap (λ (x : World D). means.boots x.device) did.1
-    acts-boots goes_on (act ∷ acts) [] kept w v did = absurd did
-    acts-boots goes_on (act ∷ acts) (m ∷ ms) kept w v did =
-        let a = one_act rules kept act m in
-        onwards means (goes_past goes_on a.outcome) ms did.0 v (ActsDid means rules goes_on a.kept acts ms did.0 v) (acts-boots goes_on acts ms a.kept did.0 v) did.2
-        ∙ did.1.exchanged.boots
+    abbrev SameBoots : World D → World D → Type 0
+    SameBoots w v = means.boots v.device ≡ means.boots w.device
 
-    routine-boots : (heap : ℕ) (routine : Routine S A) (kept : S) (ms : List Meeting) (w v : World D) → EndsWell routine → RoutineDid means rules heap kept routine ms w v → means.boots v.device ≡ means.boots w.device
-    routine-boots heap (Finished end moments) kept ms w v ends did = led-boots means heap moments w v did.1 ∙ ap (λ (n : ℕ). raised n (means.boots w.device)) (none-last moments ends.0)
-    routine-boots heap (Sending acts goes_on then) kept ms w v ends (early, late, mid, split, acts_did, rest_did) =
-        let now : Walked S A (List Meeting) = walk rules goes_on next_of kept early acts in
-        routine-boots heap (then now.kept now.outcome) now.kept late mid v (ends.1 now.kept now.outcome tt) rest_did ∙ acts-boots goes_on acts early kept w mid acts_did
+    routine-boots : (heap : ℕ) (routine : Routine S A) (kept : S) (ms : List Meeting) (w v : World D) → EndsWell routine → RoutineDid means rules heap kept routine ms w v → SameBoots w v
+    routine-boots heap routine kept ms w v ends did = routine-keeps means rules heap SameBoots (record { same = λ w. refl; after = λ w m v first rest. rest ∙ first; exchange = λ request answer w v on x. x.boots })
+        (λ moments is w v led. led-boots means heap moments w v led ∙ ap (λ (n : ℕ). raised n (means.boots w.device)) (none-last moments is)) routine kept ms w v ends did
 
     pub job-boots : (heap : ℕ) (job : Job S A) (kept' : S) (w v : World D) (result : Outcome) → EndsWell job.routine → JobDone means rules heap job kept' w v result → means.boots v.device ≡ raised (boots_in job.first) (means.boots w.device)
     job-boots heap job kept' w v result none j = routine-boots heap job.routine job.from j.meetings j.begun v none j.did ∙ led-boots means heap job.first w j.begun j.first

@@ -1,11 +1,10 @@
 -- How often moments, and the calls that they say, boot a device.
-use Rattle.std.proofs.Common.{◌≡◌, refl, ap, ◌∙◌, ℕ, zero, suc, Bool, true, false, List, [], ◌∷◌, ◌++◌, replicate}
+use Rattle.std.proofs.Common.{◌≡◌, refl, ap, ◌∙◌, ℕ, zero, suc, List, [], ◌∷◌, ◌++◌, replicate}
 use Rattle.stream_law.specs.Past as past
 use Rattle.stream_law.specs.Past.{Moment}
 use Rattle.mbox_link.specs.Exchange.{more}
 use Rattle.mbox_link.specs.Calls.{World, Meaning, Led}
-use Rattle.mbox_link.specs.Meetings.{Meeting}
-use Rattle.host_widgets.specs.ActCalls.{Onwards, calls_of}
+use Rattle.host_widgets.specs.ActCalls.{calls_of}
 use Rattle.sof_session.specs.Written.{boots_in, raised}
 
 -- ---- moments
@@ -42,7 +41,3 @@ module _ {D : Type 0} (means : Meaning D) where
   led-boots heap (past.Cut ∷ moments) w v led = led-boots heap moments led.0 v led.2 ∙ ap (raised (boots_in moments)) led.1.0.boots
   led-boots heap (past.Now view fresh ∷ moments) w v led = led-boots heap moments w v led
   led-boots heap (past.Tick ∷ moments) w v led = led-boots heap moments led.0 v led.2 ∙ ap (raised (boots_in moments)) led.1.boots
-
-  pub onwards : (b : Bool) (ms : List Meeting) (mid v : World D) (Rest : Type 0) → (Rest → means.boots v.device ≡ means.boots mid.device) → Onwards b ms mid v Rest → means.boots v.device ≡ means.boots mid.device
-  onwards true ms mid v Rest rest goes = rest goes
-  onwards false ms mid v Rest rest goes = ap (λ (x : World D). means.boots x.device) goes.1

@@ -7,15 +7,10 @@ use Rattle.stream_law.specs.Past.{Moment, Past, Leads}
 use Rattle.mbox_link.specs.Calls.{World, Meaning}
 use Rattle.mbox_link.specs.Wire.{Wire}
 use Rattle.mbox_link.specs.Link.{link}
-use Rattle.host_widgets.specs.declared.answers.Answer.{Answer}
 use Rattle.host_widgets.proofs.StandingOn.{StandsOn, Gained, stands-none}
-use Rattle.sof_script.specs.declared.script.Command.{Command}
-use Rattle.sof_session.specs.Commands.{command_rules}
-use Rattle.sof_session.specs.SessionView.{SessionView}
-use Rattle.sof_session.specs.SessionStep.{CommandDone, StandsAt}
+use Rattle.sof_session.specs.SessionStep.{StandsAt}
 use Rattle.sof_session.specs.SessionCalls.{ports}
 use Rattle.sof_session.specs.Written.{written_between, written_in}
-use Rattle.sof_session.proofs.Agreement.{at}
 use Rattle.sof_session.proofs.Writings.{gained-written}
 
 module _ {P : Type 0} (means : Meaning P) (w v : World (Wire P)) where
@@ -35,10 +30,6 @@ module _ {P : Type 0} (means : Meaning P) (w v : World (Wire P)) where
   -- where the device stays as it is, so does what stands
   pub stays-standing : means.on v.device.device ≡ means.on w.device.device → v.io ≡ w.io → drained w.io.outputs ≡ w.io.outputs → Standing []
   stays-standing same io empty = standing-by [] (subst (λ (x : Option FwState × Io). StandsOn (means.on w.device.device) w.io x.0 x.1 []) (λ i. (sym same i, sym io i)) (stands-none (means.on w.device.device) w.io)) empty
-
--- the step of a session, by its command
-abbrev pub SteppedIn : {P : Type 0} → Meaning P → SessionView P → SessionView P → Io → Io → Answer → Command → Type 0
-SteppedIn means old new io io' answer command = CommandDone means (command_rules old.plan old.heap) old.heap command old.kept new.kept (at old.link io) (at new.link io') answer
 
 -- endpoints that stayed
 pub same-ports : (inputs inputs' : List InputView) (outputs outputs' : List OutputView) → inputs' ≡ inputs → outputs' ≡ outputs → ports inputs' outputs' ≡ ports inputs outputs

@@ -1,28 +1,28 @@
 -- A tick by its call on the link. After it the two sides agree again and the endpoints have the same slots,
 -- and the same inputs have ended.
-use Rattle.std.proofs.Common.{◌≡◌, ◌⊎◌, ⊎_elim, ℕ, zero, suc, List, [], ◌∷◌, Option, Some, None, refl, sym, ap, subst, ◌∙◌, arith}
+use Rattle.std.proofs.Common.{◌≡◌, ◌⊎◌, ⊎_elim, ℕ, suc, zero, List, [], ◌∷◌, Option, Some, None, refl, sym, ap, subst, ◌∙◌}
 use Rattle.std.specs.Option.{option_map}
 use Rattle.sof_base.specs.Ports.{Io}
-use Rattle.stream_law.specs.State.{FwState, View, view_of}
 use Rattle.stream_law.specs.Move.{audio_after}
+use Rattle.stream_law.specs.Past as past
+use Rattle.stream_law.specs.State.{View, view_of}
 use Rattle.mbox_link.specs.Exchange.{ticked}
-use Rattle.mbox_link.specs.Calls.{Meaning, Call, Tick, Did, Led}
+use Rattle.mbox_link.specs.Calls.{Meaning, Tick, Did, Led}
 use Rattle.mbox_link.specs.Link.{link}
 use Rattle.mbox_link.specs.Wire.{Wire}
-use Rattle.mbox_link.proofs.Led.{Led-one}
 use Rattle.host_widgets.specs.declared.kept.Power.{Power}
 use Rattle.host_widgets.specs.declared.kept.Power.TheVariants.{Unloaded, On, Off}
-use Rattle.host_widgets.specs.Host.{Sides, SidesBy}
+use Rattle.host_widgets.specs.ActCalls.{calls_of}
+use Rattle.host_widgets.specs.Host.{SidesBy}
+use Rattle.host_widgets.specs.Orders.{where_on}
 use Rattle.host_widgets.specs.There.{There}
-use Rattle.host_widgets.specs.Up.{up_view}
 use Rattle.host_dynamic.specs.UpDevices.{there_on}
 use Rattle.host_dynamic.specs.UpStates.{IsUpState}
 use Rattle.host_widgets.proofs.UpExchanges.{ticks-there}
-use Rattle.sof_session.specs.Agreement.{AreAgreed, Powered, Ringed, expected_in}
+use Rattle.sof_session.specs.Agreement.{AreAgreed, Powered, PoweredBy, Ringed, expected_in}
 use Rattle.sof_session.specs.SessionView.{SessionView}
-use Rattle.sof_session.proofs.Agreement.{at, AgreeAtLoad, at-load, from-load, calls-kept, seat_with, kept-by, agreed-with}
+use Rattle.sof_session.proofs.Agreement.{at, agreed-then, calls-kept, seat_then, shown-on}
 use Rattle.sof_session.proofs.Keeping.{Keeps-moved}
-use Rattle.sof_session.proofs.UpAgreement.{AgreeOnUse, on-use, from-use}
 use Rattle.sof_session.proofs.UpRings.{ticked-rings}
 use Rattle.sof_session.proofs.Writings.{bound_ends, one-ends}
 
@@ -37,113 +37,67 @@ off-ticked means Unloaded wire io off = (refl, refl)
 off-ticked means Off wire io off = (refl, refl)
 off-ticked means On wire io off = absurd (⊎_elim (λ (is : On ≡ Unloaded). cc is) (λ (is : On ≡ Off). cc is) off)
 
--- its calls, none where the power is not on
-Ticked-led : {P : Type 0} (means : Meaning P) (power : Power) (old new : Wire P) (io io' : Io) → TickedBy means power old new io io' → (calls : List Call) × Led (link means) (at old io) calls (at new io')
-Ticked-led means On old new io io' tick = (Tick ∷ [], Led-one (link means) (at old io) (at new io') Tick tick)
-Ticked-led means Unloaded old new io io' same = ([], λ i. at (same.0 i) (same.1 i))
-Ticked-led means Off old new io io' same = ([], λ i. at (same.0 i) (same.1 i))
-
--- ---- both sides
-
-module _ {P : Type 0} (means : Meaning P) (old : SessionView P) (wire : Wire P) (io io' : Io) (agreed : AgreeAtLoad means old) where
-  abbrev new : SessionView P
-  new = seat_with means old wire io io' agreed old.kept
-
-  record Both (power : Power) : Type 0 where
-    sides : Sides means old.plan old.kept wire.device power
-    powered : Powered means new power
-
-  both-ticked : (power : Power) → Powered means old power → Sides means old.plan old.kept old.link.device power → TickedBy means power old.link wire io io' → Both power
-  both-ticked On powered sides tick =
-      let f = powered.0 in
-      let keeps = powered.2 in
-      let on = tick.on f powered.1 in
-      record {
-        sides = ap (option_map view_of) on.0 ∙ ap Some keeps.view;
-        powered = ((ticked (f, io)).0, on.0, Keeps-moved old.plan old.heap old.kept f (audio_after f io) keeps);
-      }
-  both-ticked Unloaded powered sides same =
-      let device = ap (λ (w : Wire P). means.on w.device) same.0 in record { sides = (sides.0, device ∙ sides.1); powered = device ∙ powered }
-  both-ticked Off powered sides same =
-      let device = ap (λ (w : Wire P). means.on w.device) same.0 in record { sides = (sides.0, device ∙ sides.1); powered = device ∙ powered }
-
-  AgreeAtLoad-ticked : TickedBy means old.kept.power old.link wire io io' → AgreeAtLoad means new
-  AgreeAtLoad-ticked tick =
-      let led = Ticked-led means old.kept.power old.link wire io io' tick in
-      let both = both-ticked old.kept.power agreed.powered agreed.agree.sides tick in
-      agreed-with means old wire io io' agreed (kept-by means old wire io io' agreed led.0 led.1) old.kept (record { record_is = agreed.agree.record_is; sides = both.sides }) both.powered
-
--- where pipelines are made on use
-module _ {P : Type 0} (means : Meaning P) (old : SessionView P) (wire : Wire P) (io io' : Io) (up : List ℕ) (agreed : AgreeOnUse means old up) where
-  abbrev later : SessionView P
-  later = record { link = wire; kept = old.kept; plan = old.plan; heap = old.heap; up = old.up }
-
-  abbrev shown : View
-  shown = up_view old.plan old.kept up
-
-  record BothOnUse (power : Power) : Type 0 where
-    sides : SidesBy means old.plan shown old.kept wire.device power
-    there : there_on (means.on wire.device) ≡ there_on (means.on old.link.device)
-
-  on-ticked : (o : Option FwState) → means.on old.link.device ≡ o → option_map view_of o ≡ Some shown → TickedBy means On old.link wire io io' → BothOnUse On
-  on-ticked None is sides tick = absurd (cc sides)
-  on-ticked (Some f) is sides tick =
-      let on = tick.on f is in
-      record {
-        sides = ap (option_map view_of) on.0 ∙ sides;
-        there = ap there_on on.0 ∙ ticks-there (suc zero) (f, io) ∙ sym (ap there_on is);
-      }
-
-  both-on-use : (power : Power) → SidesBy means old.plan shown old.kept old.link.device power → TickedBy means power old.link wire io io' → BothOnUse power
-  both-on-use On sides tick = on-ticked (means.on old.link.device) refl sides tick
-  both-on-use Unloaded sides same =
-      let device = ap (λ (w : Wire P). means.on w.device) same.0 in record { sides = (sides.0, device ∙ sides.1); there = ap there_on device }
-  both-on-use Off sides same =
-      let device = ap (λ (w : Wire P). means.on w.device) same.0 in record { sides = (sides.0, device ∙ sides.1); there = ap there_on device }
-
-  ticked-ringed : (power : Power) → TickedBy means power old.link wire io io' → Ringed (means.on wire.device)
-  ticked-ringed On tick = ticked-rings (link means) (at old.link io) (at wire io') tick agreed.rings
-  ticked-ringed Unloaded same = subst (λ (w : Wire P). Ringed (means.on w.device)) (sym same.0) agreed.rings
-  ticked-ringed Off same = subst (λ (w : Wire P). Ringed (means.on w.device)) (sym same.0) agreed.rings
-
-  pub AgreeOnUse-ticked : TickedBy means old.kept.power old.link wire io io' → AgreeOnUse means later up
-  AgreeOnUse-ticked tick =
-      let led = Ticked-led means old.kept.power old.link wire io io' tick in
-      let calls = calls-kept means old.link wire io io' agreed.fated led.0 led.1 in
-      let both = both-on-use old.kept.power agreed.agree.sides tick in
-      record {
-        agree = record { record_is = agreed.agree.record_is; sides = both.sides };
-        state = subst (λ (t : There). IsUpState old.plan (record { kept = old.kept; up = up; there = t })) (sym both.there) agreed.state;
-        rings = ticked-ringed old.kept.power tick;
-        room = omega (arith, agreed.room, calls.steady.most);
-        pending = omega (arith, agreed.pending, calls.inside.pending);
-        fated = calls.fated;
-        sound = agreed.sound;
-      }
-
--- in either mode
-module _ {P : Type 0} (means : Meaning P) (old : SessionView P) (wire : Wire P) (io io' : Io) (agreed : AreAgreed means old) (tick : TickedBy means old.kept.power old.link wire io io') where
-  abbrev pub ticked_seat : SessionView P
-  ticked_seat = record { link = wire; kept = old.kept; plan = old.plan; heap = old.heap; up = old.up }
-
-  pub AreAgreed-ticked : AreAgreed means ticked_seat
-  AreAgreed-ticked = by old.up refl
-    where
-      by : (up : Option (List ℕ)) → old.up ≡ up → AreAgreed means ticked_seat
-      by None at = from-load means ticked_seat at (AgreeAtLoad-ticked means old wire io io' (at-load means old at agreed) tick)
-      by (Some up) at = from-use means ticked_seat up at (AgreeOnUse-ticked means old wire io io' up (on-use means old up at agreed) tick)
-
--- ---- the endpoints
-
 module _ {P : Type 0} (means : Meaning P) (old : SessionView P) (wire : Wire P) (io io' : Io) where
-  on-stays : (v : View) (o : Option FwState) → means.on old.link.device ≡ o → option_map view_of o ≡ Some v → TickedBy means On old.link wire io io' → bound_ends io' ≡ bound_ends io
-  on-stays v None is sides tick = absurd (cc sides)
-  on-stays v (Some f) is sides tick = ap bound_ends (tick.on f is).1 ∙ one-ends f io
+  abbrev TickedSo : Power → Type 0
+  TickedSo power = TickedBy means power old.link wire io io'
 
-  ends-stay : (v : View) (power : Power) → SidesBy means old.plan v old.kept old.link.device power → TickedBy means power old.link wire io io' → bound_ends io' ≡ bound_ends io
-  ends-stay v On sides tick = on-stays v (means.on old.link.device) refl sides tick
-  ends-stay v Unloaded sides same = ap bound_ends same.1
-  ends-stay v Off sides same = ap bound_ends same.1
+  -- the device shows this while the power is on
+  abbrev Shows : View → Power → Type 0
+  Shows view power = SidesBy means old.plan view old.kept old.link.device power
 
-  pub ticked-ends : AreAgreed means old → TickedBy means old.kept.power old.link wire io io' → bound_ends io' ≡ bound_ends io
-  ticked-ends agreed tick = ends-stay (expected_in old.up old.plan old.kept) old.kept.power agreed.agree.sides tick
+  -- its calls, none where the power is not on
+  pub ticked-led : (power : Power) → TickedSo power → Led (link means) (at old.link io) (calls_of old.heap (where_on power (past.Tick ∷ []))) (at wire io')
+  ticked-led On tick = (at wire io', tick, refl)
+  ticked-led Unloaded same = λ i. at (same.0 i) (same.1 i)
+  ticked-led Off same = λ i. at (same.0 i) (same.1 i)
+
+  -- ---- the device
+
+  ticked-sides : (view : View) (power : Power) → Shows view power → TickedSo power → SidesBy means old.plan view old.kept wire.device power
+  ticked-sides view On shows tick = let f = shown-on (means.on old.link.device) view shows in ap (option_map view_of) (tick.on f.0 f.1).0 ∙ ap (λ (v : View). Some v) f.2
+  ticked-sides view Unloaded sides same = (sides.0, ap (λ (w : Wire P). means.on w.device) same.0 ∙ sides.1)
+  ticked-sides view Off sides same = (sides.0, ap (λ (w : Wire P). means.on w.device) same.0 ∙ sides.1)
+
+  ticked-powered : (power : Power) → Powered means old power → TickedSo power → Powered means (seat_then old wire old.kept old.up) power
+  ticked-powered On powered tick = let f = powered.0 in ((ticked (f, io)).0, (tick.on f powered.1).0, Keeps-moved old.plan old.heap old.kept f (audio_after f io) powered.2)
+  ticked-powered Unloaded powered same = ap (λ (w : Wire P). means.on w.device) same.0 ∙ powered
+  ticked-powered Off powered same = ap (λ (w : Wire P). means.on w.device) same.0 ∙ powered
+
+  -- what is there stays
+  pub ticked-there : (view : View) (power : Power) → Shows view power → TickedSo power → there_on (means.on wire.device) ≡ there_on (means.on old.link.device)
+  ticked-there view On shows tick = let f = shown-on (means.on old.link.device) view shows in ap there_on (tick.on f.0 f.1).0 ∙ ticks-there (suc zero) (f.0, io) ∙ sym (ap there_on f.1)
+  ticked-there view Unloaded sides same = ap (λ (w : Wire P). there_on (means.on w.device)) same.0
+  ticked-there view Off sides same = ap (λ (w : Wire P). there_on (means.on w.device)) same.0
+
+  ticked-ringed : (power : Power) → TickedSo power → Ringed (means.on old.link.device) → Ringed (means.on wire.device)
+  ticked-ringed On tick rings = ticked-rings (link means) (at old.link io) (at wire io') tick rings
+  ticked-ringed Unloaded same rings = subst (λ (w : Wire P). Ringed (means.on w.device)) (sym same.0) rings
+  ticked-ringed Off same rings = subst (λ (w : Wire P). Ringed (means.on w.device)) (sym same.0) rings
+
+  -- ---- the endpoints
+
+  ends-stay : (view : View) (power : Power) → Shows view power → TickedSo power → bound_ends io' ≡ bound_ends io
+  ends-stay view On shows tick = let f = shown-on (means.on old.link.device) view shows in ap bound_ends (tick.on f.0 f.1).1 ∙ one-ends f.0 io
+  ends-stay view Unloaded sides same = ap bound_ends same.1
+  ends-stay view Off sides same = ap bound_ends same.1
+
+  -- ---- a session
+
+  module _ (agreed : AreAgreed means old) (tick : TickedBy means old.kept.power old.link wire io io') where
+    abbrev pub ticked_seat : SessionView P
+    ticked_seat = seat_then old wire old.kept old.up
+
+    powered-by : (up : Option (List ℕ)) → PoweredBy means old up → PoweredBy means ticked_seat up
+    powered-by None powered = ticked-powered old.kept.power powered tick
+    powered-by (Some up) powered = (
+      subst (λ (t : There). IsUpState old.plan (record { kept = old.kept; up = up; there = t })) (sym (ticked-there (expected_in old.up old.plan old.kept) old.kept.power agreed.agree.sides tick)) powered.0,
+      ticked-ringed old.kept.power tick powered.1,
+    )
+
+    pub AreAgreed-ticked : AreAgreed means ticked_seat
+    AreAgreed-ticked =
+        agreed-then means old wire io io' agreed (calls-kept means old.link wire io io' agreed.fated (calls_of old.heap (where_on old.kept.power (past.Tick ∷ []))) (ticked-led old.kept.power tick)) old.kept old.up
+        (record { record_is = agreed.agree.record_is; sides = ticked-sides (expected_in old.up old.plan old.kept) old.kept.power agreed.agree.sides tick }) (powered-by old.up agreed.powered)
+
+    pub ticked-ends : bound_ends io' ≡ bound_ends io
+    ticked-ends = ends-stay (expected_in old.up old.plan old.kept) old.kept.power agreed.agree.sides tick

@@ -1,7 +1,6 @@
 -- What is there of a host that makes pipelines on use: each edge is joined as the plan joins it, so edges there have no cycle.
-use Rattle.std.proofs.Common.{◌≡◌, ◌⊎◌, inl, inr, refl, sym, ap, ◌∙◌, subst, ℕ, ◌+◌, ◌*◌, ◌<◌, Bool, true, false, cond, if◌then◌else◌, ◌==◌, List, [], ◌∷◌, map, length, Option, Some, None, unwrap_or, Result, Ok, Err, ℤ, arith}
+use Rattle.std.proofs.Common.{◌≡◌, ◌⊎◌, inl, inr, refl, sym, ap, ◌∙◌, subst, ℕ, ◌+◌, ◌*◌, ◌<◌, Bool, true, false, cond, if◌then◌else◌, ◌==◌, List, [], length, Option, Some, None, unwrap_or, Result, Ok, Err, ℤ, arith}
 use Rattle.std.specs.Prelude.{find, nat_le, not, is_some, ◌&&◌, ◌||◌, option_and_then}
-use Rattle.std.specs.Option.{option_map}
 use Rattle.std.specs.List.{AllByRecursion, list_any}
 use Rattle.std.proofs.lemmas.Bool.{eqb-true}
 use Rattle.stream_law.specs.declared.graph.Comp.{Comp}
@@ -25,29 +24,22 @@ use Rattle.ipc3_model.specs.declared.message.Message.TheVariants as messages
 use Rattle.mbox_link.specs.BlobParts.{is_last}
 use Rattle.mbox_link.specs.Step.{no_memory, busy, no_device, invalid, has_comp, has_edge, is_used, has_index, kind_at, has_kind, comp_bytes, buffer_bytes, pipe_bytes, has_hole, is_complete, kind_of, is_joined, is_refused_join, complete_pipe, has_complete_pipe, touches, is_held, without_edge, is_index_held, free_pipe, new_setting, with_setting_at, value_set, control_values_at, staging_at, keeps_order, staged_bytes, part_staged, part_at, is_host, phase_at, set_stream, is_stream_phase, is_refused_params, set_phase, is_prepared, is_paused, stream_changed, row}
 use Rattle.tplg_plan.specs.declared.plans.Plan.{Plan}
-use Rattle.tplg_plan.specs.declared.plans.ControlKind.{ControlKind}
 use Rattle.tplg_plan.specs.declared.plans.ControlKind.TheVariants as controls
-use Rattle.tplg_plan.specs.declared.plans.ControlPlan.{ControlPlan}
 use Rattle.tplg_plan.specs.Sound.{IsSound, IsSideOf, FillsBuffer, DrainsBuffer}
-use Rattle.host_widgets.specs.declared.trigger.Trigger.{Trigger}
 use Rattle.host_widgets.specs.declared.trigger.Trigger.TheVariants as triggers
-use Rattle.host_widgets.specs.Acts.{widget_words, pipe_by_id, comp_message, buffer_message, pipe_message, trigger_message}
-use Rattle.host_widgets.specs.ActMessages.{set_message, put_message, get_message, ask_message, act_message, unmake_by}
+use Rattle.host_widgets.specs.ActMessages.{act_message}
 use Rattle.host_widgets.specs.HostActs.{Make, Join, Put, Part, Trig, Ask, Act, Unmake}
-use Rattle.host_widgets.specs.Controls.{control_of}
 use Rattle.host_widgets.specs.Kept.{first_record}
 use Rattle.host_widgets.proofs.NamedIds.{buffer-found}
 use Rattle.host_widgets.specs.There.{There, there_view, silent_state, row_left, by_part, there_after}
 use Rattle.host_widgets.proofs.Sublists.{all-filter, all-placed}
 use Rattle.sof_session.specs.RunLaws.{HasRanks}
+use Rattle.sof_session.proofs.EachMessage.{make-so, unmake-so, put-so, ask-so, trigger-so}
+use Rattle.sof_session.proofs.OrderActs.{all-along}
 use Rattle.sof_session.proofs.RankedRuns.{record-ranks}
 
 abbrev pub join : ℕ → ℕ → Joined
 join source sink = record { source = source; sink = sink }
-
-all-map : {X Y : Type 0} (P : X → Type 0) (Q : Y → Type 0) (f : X → Y) → ((x : X) → P x → Q (f x)) → (xs : List X) → AllByRecursion P xs → AllByRecursion Q (map f xs)
-all-map P Q f each [] all = tt
-all-map P Q f each (x ∷ xs) all = (each x all.0, all-map P Q f each xs all.1)
 
 module _ (plan : Plan) where
   -- the plan joins these two
@@ -97,40 +89,6 @@ module _ (plan : Plan) where
   abbrev pub IsOfPlan : Act → Type 0
   IsOfPlan (Join source sink) = IsPlanned source sink
   IsOfPlan act = Unit {0}
-
-  makes : (id : ℕ) (c : Option Comp) (e : Option Edge) (p : Option Pipe) →
-      IsTold (unwrap_or (option_map (comp_message id (control_of plan id) (widget_words plan id)) c)
-      (unwrap_or (option_map (buffer_message id (widget_words plan id)) e)
-      (unwrap_or (option_map (λ (p : Pipe). pipe_message id (widget_words plan id) p.sched p.period) p) (pipe_message id (widget_words plan id) 0 0))))
-  makes id (Some c) e p = tt
-  makes id None (Some e) p = tt
-  makes id None None (Some p) = tt
-  makes id None None None = tt
-
-  sets : (comp : ℕ) (values : List ℕ) (kind : ControlKind) → IsTold (set_message comp values kind)
-  sets comp values (controls.Choice items) = tt
-  sets comp values kind = tt
-
-  puts : (comp : ℕ) (values : List ℕ) (k : Option ControlPlan) → IsTold (put_message comp values k)
-  puts comp values (Some k) = sets comp values k.kind
-  puts comp values None = tt
-
-  gets : (comp k : ℕ) (kind : ControlKind) → IsTold (get_message comp k kind)
-  gets comp k (controls.Choice items) = tt
-  gets comp k kind = tt
-
-  asks : (comp k : ℕ) (c : Option ControlPlan) → IsTold (ask_message comp k c)
-  asks comp k (Some c) = gets comp k c.kind
-  asks comp k None = tt
-
-  triggers-told : (host : ℕ) (what : Trigger) → IsTold (trigger_message host what)
-  triggers-told host triggers.Start = tt
-  triggers-told host what = tt
-
-  unmakes : (c : Option Comp) (e : Option Edge) (id : ℕ) → IsTold (unmake_by c e id)
-  unmakes (Some c) e id = tt
-  unmakes None (Some e) id = tt
-  unmakes None None id = tt
 
   -- ---- what an act leaves
 
@@ -203,7 +161,7 @@ module _ (plan : Plan) where
         test (not (is_used g source && is_used g sink)) _ _ (refused no_device)
         (test (is_joined g source sink) _ _ (refused busy)
         (test (is_refused_join f source sink) _ _ (refused invalid)
-        (record { edges = all-map IsEdgeOf IsEdgeOf (joined_edge (join source sink)) (joined (join source sink) told) g.edges are })))
+        (record { edges = all-along IsEdgeOf IsEdgeOf (joined_edge (join source sink)) (joined (join source sink) told) g.edges are })))
     row-leaves (messages.PipeComplete id) told = test (not (is_used g id)) _ _ (refused no_device) (finished id (find (λ (p : Pipe). p.id == id) g.pipes))
     row-leaves (messages.SetValue id command values) told =
         test (not (is_used g id)) _ _ (refused no_device) (valued id (option_and_then (λ (c : Comp). new_setting c.kind c.setting command values) (comp_of g id)))
@@ -233,12 +191,12 @@ module _ (plan : Plan) where
 
     pub there-edges : (act : Act) → IsOfPlan act → AreEdges (there_after plan act t)
     there-edges (Part comp blob k) is = parts comp blob (is_last blob k)
-    there-edges (Make id) is = row-edges (act_message plan (Make id)) (makes id (comp_of plan.graph id) (edge_of plan.graph id) (pipe_by_id plan id))
+    there-edges (Make id) is = row-edges (act_message plan (Make id)) (make-so IsTold plan id (λ c. tt) (λ e. tt) (λ sched period. tt))
     there-edges (Join source sink) is = row-edges (messages.Connect source sink) is
-    there-edges (Put comp values) is = row-edges (act_message plan (Put comp values)) (puts comp values (control_of plan comp))
-    there-edges (Trig host what) is = row-edges (act_message plan (Trig host what)) (triggers-told host what)
-    there-edges (Ask comp k) is = row-edges (act_message plan (Ask comp k)) (asks comp k (control_of plan comp))
-    there-edges (Unmake id) is = row-edges (unmake_by (comp_of plan.graph id) (edge_of plan.graph id) id) (unmakes (comp_of plan.graph id) (edge_of plan.graph id) id)
+    there-edges (Put comp values) is = row-edges (act_message plan (Put comp values)) (put-so IsTold plan comp values (λ command sent. tt))
+    there-edges (Trig host what) is = row-edges (act_message plan (Trig host what)) (trigger-so IsTold plan host what tt tt tt tt)
+    there-edges (Ask comp k) is = row-edges (act_message plan (Ask comp k)) (ask-so IsTold plan comp k (λ command. tt) tt)
+    there-edges (Unmake id) is = row-edges (act_message plan (Unmake id)) (unmake-so IsTold plan id tt tt tt)
     there-edges act is = row-edges (act_message plan act) tt
 
   -- ---- ranks

@@ -39,9 +39,8 @@ use Rattle.sof_script.specs.declared.script.Command.TheVariants as commands
 use Rattle.sof_session.specs.Commands.{order_of}
 use Rattle.sof_session.specs.CommandTests.{fault_of}
 use Rattle.sof_session.specs.UpCommands.{up_fault, up_job}
-use Rattle.sof_session.proofs.FewOrders.{few-most, few-tested}
-use Rattle.sof_session.proofs.ResumeSteps.{few-prepares}
-use Rattle.sof_session.proofs.PowerSteps.{few-streams}
+use Rattle.sof_session.proofs.FewOrders.{few-most, few-prepares, few-tested}
+use Rattle.sof_session.proofs.PlanCounts.{few-streams_and_controls}
 use Rattle.sof_session.proofs.RoutineNumbers.{SendsWithin}
 use Rattle.host_widgets.specs.Groups.{is_control_of, finish_ids}
 use Rattle.host_widgets.specs.Indices.{pipe_indices, join_index}
@@ -220,7 +219,7 @@ module _ (plan : Plan) (sound : IsSound plan) where
           arith,
           few-making plan sound s.kept s.up (distinct-once s.up is.once) is.record_is,
           few-prepares plan.streams s.kept.streams,
-          few-streams plan sound,
+          few-streams_and_controls plan sound,
           length-append making prepares,
         ),
         resuming-ends s _,

@@ -3,32 +3,26 @@
 use Rattle.std.proofs.Common.{◌≡◌, refl, sym, subst, ℕ, ◌+◌, ◌≤◌, ◌<◌, Bool, true, false, cond, ◌==◌, List, [], ◌∷◌, ◌++◌, map, filter, length, Option, Some, None, arith}
 use Rattle.std.specs.List.{AllByRecursion, flat_map, zip}
 use Rattle.sof_base.specs.declared.format.Params.{Params}
-use Rattle.stream_law.specs.declared.graph.Comp.{Comp}
-use Rattle.stream_law.specs.declared.graph.Edge.{Edge}
 use Rattle.stream_law.specs.declared.graph.Join.{Join}
 use Rattle.stream_law.specs.declared.graph.Pipe.{Pipe}
 use Rattle.stream_law.specs.Order.{is_among}
 use Rattle.stream_law.specs.Past.{Moment}
 use Rattle.stream_law.specs.State.{View}
-use Rattle.stream_law.specs.Ways.{comp_of, edge_of}
 use Rattle.stream_law.proofs.Members.{IsIn, in-each, kept-in}
 use Rattle.mbox_link.specs.BlobParts.{is_last}
 use Rattle.mbox_link.specs.Meetings.{Doing, lags}
 use Rattle.tplg_plan.specs.declared.plans.Plan.{Plan}
 use Rattle.tplg_plan.specs.declared.plans.StreamPlan.{StreamPlan}
-use Rattle.tplg_plan.specs.declared.plans.ControlPlan.{ControlPlan}
-use Rattle.tplg_plan.specs.declared.plans.ControlKind.{ControlKind}
 use Rattle.tplg_plan.specs.declared.plans.ControlKind.TheVariants as controls
 use Rattle.tplg_plan.specs.Sound.{IsSound}
 use Rattle.host_widgets.specs.declared.kept.Power.{Power}
 use Rattle.host_widgets.specs.declared.kept.Power.TheVariants as powers
 use Rattle.host_widgets.specs.declared.kept.StreamRec.{StreamRec}
 use Rattle.host_widgets.specs.declared.kept.Record.{Record}
-use Rattle.host_widgets.specs.declared.trigger.Trigger.{Trigger}
 use Rattle.host_widgets.specs.declared.trigger.Trigger.TheVariants as triggers
-use Rattle.host_widgets.specs.Acts.{widget_ids, widget_words, trigger_message}
+use Rattle.host_widgets.specs.Acts.{widget_ids, widget_words}
 use Rattle.host_widgets.specs.ActLists.{control_acts, prepare_acts}
-use Rattle.host_widgets.specs.ActMessages.{act_message, put_message, set_message, ask_message, get_message, unmake_by}
+use Rattle.host_widgets.specs.ActMessages.{act_message}
 use Rattle.host_widgets.specs.Expected.{stream_view}
 use Rattle.host_widgets.specs.Kept.{controls_of}
 use Rattle.host_widgets.specs.HostActs as acts
@@ -47,6 +41,7 @@ use Rattle.sof_session.specs.CommandRules.{CommandRules}
 use Rattle.sof_session.specs.Commands.{Known, next}
 use Rattle.sof_session.specs.UpCommands.{up_fault, up_job, up_rules}
 use Rattle.sof_session.proofs.CommandMoves.{AllFew, AreFew, few-record, params-few, plan-periods, view-in-range}
+use Rattle.sof_session.proofs.EachMessage.{unmake-so, put-so, ask-so, trigger-so}
 use Rattle.sof_session.proofs.FewRows.{HasFewPeriod, HasFewParams, AreFewThere, IsFewMessage, row-few, allowed-few}
 use Rattle.sof_session.proofs.InputMoves.{IsInRange, AllInRange}
 use Rattle.sof_session.proofs.OrderActs.{AreRight, IsTaken, all-along, all-each, close-sent, controls-sent, order-sent, params_of, prepares-sent}
@@ -82,43 +77,18 @@ abbrev IsFewChannels : Params → Type 0
 IsFewChannels p = p.channels ≤ 8
 
 module _ (plan : Plan) where
-  set-few : (comp : ℕ) (values : List ℕ) (kind : ControlKind) → IsFewMessage (set_message comp values kind)
-  set-few comp values (controls.Choice items) = tt
-  set-few comp values kind = tt
-
-  put-few : (comp : ℕ) (values : List ℕ) (k : Option ControlPlan) → IsFewMessage (put_message comp values k)
-  put-few comp values None = tt
-  put-few comp values (Some k) = set-few comp values k.kind
-
-  get-few : (comp k : ℕ) (kind : ControlKind) → IsFewMessage (get_message comp k kind)
-  get-few comp k (controls.Choice items) = tt
-  get-few comp k kind = tt
-
-  ask-few : (comp k : ℕ) (o : Option ControlPlan) → IsFewMessage (ask_message comp k o)
-  ask-few comp k None = tt
-  ask-few comp k (Some c) = get-few comp k c.kind
-
-  trigger-few : (host : ℕ) (what : Trigger) → IsFewMessage (trigger_message host what)
-  trigger-few host triggers.Start = tt
-  trigger-few host what = tt
-
   unmake-few : (id : ℕ) → IsFewDynamic plan (Unmake id)
-  unmake-few id = by (comp_of plan.graph id) (edge_of plan.graph id)
-    where
-      by : (c : Option Comp) (e : Option Edge) → IsFewMessage (unmake_by c e id)
-      by (Some c) e = tt
-      by None (Some e) = tt
-      by None None = tt
+  unmake-few id = unmake-so IsFewMessage plan id tt tt tt
 
   few-taken : IsTaken (IsFewDynamic plan) IsFewChannels
   few-taken = record {
-    put = λ comp values. put-few comp values _;
+    put = λ comp values. put-so IsFewMessage plan comp values (λ command sent. tt);
     part = λ comp blob k. tt;
     prepare = λ host params few. few;
-    trig = λ host what. trigger-few host what;
+    trig = λ host what. trigger-so IsFewMessage plan host what tt tt tt tt;
     free = λ host. tt;
     save = tt;
-    ask = λ comp k. ask-few comp k _;
+    ask = λ comp k. ask-so IsFewMessage plan comp k (λ command. tt) tt;
   }
 
 -- ---- making and unmaking

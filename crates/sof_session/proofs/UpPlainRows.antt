@@ -1,6 +1,6 @@
 -- What stood goes on standing over a plain act that the firmware takes, where what is up is there before it and after it.
 use Rattle.std.proofs.Common.{◌≡◌, refl, sym, ap, ◌∙◌, subst, ℕ, zero, suc, ◌+◌, ◌-◌, ◌*◌, Bool, true, false, not, cond, List, [], ◌∷◌, ◌++◌, map, filter, length, Option, Some, None, Result, Ok, Err, is_some, inl, inr, ◌⊎◌, ◌==◌, ◌&&◌, ◌||◌, Contains, zip, arith}
-use Rattle.std.specs.Prelude.{ℤ, nat_le, option_map, option_and_then, if◌then◌else◌}
+use Rattle.std.specs.Prelude.{ℤ, nat_le, option_map, option_and_then}
 use Rattle.std.specs.List.{list_all}
 use Rattle.std.specs.Option.{option_map_or}
 use Rattle.std.proofs.lemmas.Bool.{true≢false, false≢true, and_parts, and_from, or_right, eqb-true, eq-eqb, ne_eqb, leb-true, leb-false, false_from_ne_true, not-false}
@@ -17,28 +17,25 @@ use Rattle.stream_law.specs.declared.stream.StreamView.{StreamView}
 use Rattle.stream_law.specs.State.{FwState, View, Staging, view_of}
 use Rattle.stream_law.specs.Made.{blob}
 use Rattle.stream_law.specs.Past.{Now, Leads, after_now}
-use Rattle.stream_law.specs.Seen.{seen, is_equaliser, is_volume, flows, remembers, keeps_numbers, goes_on, numbers_in, marked, blob_in}
-use Rattle.stream_law.specs.Stands.{Stands, ring_frames}
+use Rattle.stream_law.specs.Seen.{seen, is_equaliser, is_volume, blob_in}
+use Rattle.stream_law.specs.Stands.{Stands}
 use Rattle.stream_law.specs.Stays.{HasParams, KeepsShape}
 use Rattle.stream_law.specs.Viewing.{Sees, StaysAsLive}
-use Rattle.stream_law.specs.Ways.{comp_of, is_of, is_live_phase, is_running_phase, live, touch, same_shape, agree}
-use Rattle.stream_law.proofs.Building.{lying-empty}
+use Rattle.stream_law.specs.Ways.{comp_of, is_of, is_live_phase, is_running_phase, touch, same_shape, agree}
 use Rattle.stream_law.proofs.Members.{IsIn, find-in, kept-in}
 use Rattle.stream_law.proofs.SeenLaws.{seen-sees}
 use Rattle.stream_law.proofs.Shapes.{live-stays}
 use Rattle.stream_law.proofs.Standing.{Stands-now}
 use Rattle.stream_law.proofs.Waits.{eqb_turned}
-use Rattle.ipc3_model.specs.declared.message.Message.TheVariants.{SetValue, GetValue, GetData, SetData}
-use Rattle.ipc3_model.specs.declared.control_kind.TheConstants.{CTRL_VOLUME, CTRL_ENUM, CTRL_SWITCH}
+use Rattle.ipc3_model.specs.declared.message.Message.TheVariants.{SetValue, SetData}
+use Rattle.ipc3_model.specs.declared.message.Message.{Message}
 use Rattle.mbox_link.specs.BlobParts.{payload, blob_part, is_last}
 use Rattle.mbox_link.specs.Step.{row, no_device, invalid, is_used, has_kind, kind_at, is_host, goes, is_rate, is_way_ready, is_prepared, is_paused, is_stream_phase, phase_at, set_stream, set_phase, stream_changed, is_refused_params, pcm_params, control_values_at, part_at, new_setting, with_setting_at, value_set, staging_at, keeps_order, staged_bytes, with_staged, with_blob_at, blob_installed, part_staged, set_data}
 use Rattle.stream_law.specs.Joins.{crosses}
 use Rattle.tplg_plan.specs.declared.plans.Plan.{Plan}
 use Rattle.tplg_plan.specs.declared.plans.StreamPlan.{StreamPlan}
 use Rattle.tplg_plan.specs.declared.plans.ControlPlan.{ControlPlan}
-use Rattle.tplg_plan.specs.declared.plans.ControlKind.{ControlKind}
 use Rattle.tplg_plan.specs.declared.plans.ControlKind.TheVariants as controls
-use Rattle.tplg_plan.specs.GainOf.{control_gain}
 use Rattle.tplg_plan.specs.Sound.{IsSound}
 use Rattle.host_widgets.specs.declared.kept.ControlRec.{ControlRec}
 use Rattle.host_widgets.specs.declared.kept.Record.{Record}
@@ -46,8 +43,8 @@ use Rattle.host_widgets.specs.declared.kept.StreamRec.{StreamRec}
 use Rattle.host_widgets.specs.declared.trigger.Trigger.{Trigger}
 use Rattle.host_widgets.specs.declared.trigger.Trigger.TheVariants.{Start, Stop, Pause, Release}
 use Rattle.host_widgets.specs.Acts.{direction_of, trigger_message}
-use Rattle.host_widgets.specs.ActMessages.{act_message, set_message, put_message, get_message, ask_message}
-use Rattle.host_widgets.specs.Controls.{control_of, eight_masks}
+use Rattle.host_widgets.specs.ActMessages.{act_message, put_message, ask_message}
+use Rattle.host_widgets.specs.Controls.{control_of}
 use Rattle.host_widgets.specs.Expected.{stream_view}
 use Rattle.host_widgets.specs.Host.{IsRecordOf}
 use Rattle.host_widgets.specs.HostActs.{Act, Make, Join, Put, Part, Finish, Prepare, Trig, Free, Save, Ask, Unmake, after, fresh_by, fresh_in, with_values, with_blob}
@@ -74,6 +71,8 @@ use Rattle.host_widgets.proofs.UpStages.{StreamPair, stage_graph, up_stage}
 use Rattle.host_dynamic.proofs.UpStanding.{there-stage}
 use Rattle.host_widgets.specs.Indices.{is_up}
 use Rattle.host_widgets.proofs.RecordsStay.{none-left, none-right}
+use Rattle.sof_session.proofs.EachMessage.{put-so, ask-so}
+use Rattle.sof_session.proofs.LiveViews.{life-stands}
 
 -- ---- what a row that passed says
 
@@ -112,32 +111,10 @@ module _ (f : FwState) (staging : List Staging) where
   staged = record f { staging = staging }
 
   pub staged-now : LeadsOn (Some f) (Some (record f { staging = staging })) (Now (view_of f) None ∷ [])
-  unfolding Stands-now
   staged-now whole inputs before stood =
-      let v = view_of f in (
-        Stands-now f staged v None whole inputs before stood
-            record {
-              clock = refl;
-              view = refl;
-              buffers = stood.holds.buffers;
-              rings = λ b. ring b (flows v b) refl;
-              remembered = λ c there. stood.holds.remembered c (ap (λ (w : View). remembers w c) (sym stood.holds.view) ∙ there);
-              histories = λ c there. sym (ap (λ (t : Bool). if t then numbers_in f c else marked v v c (numbers_in f c)) (goes-so c there));
-            }
-            (ap agree stood.holds.view ∙ stood.agrees)
-            record { room = λ b was now. refl; kinds = λ c there was. refl; on = λ c there goes. (refl, refl, refl) },
-        (after_now v None stood.past, refl, refl),
-      )
-    where
-      -- a ring in which no frame may lie is empty
-      ring : (b : ℕ) (t : Bool) → flows (view_of f) b ≡ t → ring_frames f b ≡ (if t then ring_frames f b else [])
-      ring b true flow = refl
-      ring b false flow = stood.holds.rings b ∙ lying-empty stood.past b stood.kept (ap (λ (w : View). flows w b) (sym stood.holds.view) ∙ flow)
-
-      goes-so : (c : ℕ) → remembers (view_of f) c ≡ true → goes_on (view_of f) (view_of f) None c ≡ true
-      goes-so c there =
-          let is_live : live (view_of f) c ≡ true = (and_parts (live (view_of f) c) (is_of (view_of f).graph keeps_numbers c) there).0 in
-          λ i. is_live i && is_live i && true
+      life-stands f staged (record { lives = λ x. refl; flowing = λ b. refl; params = λ x. refl; comps = λ c is. refl; edges = λ b is. refl })
+      (record { clock = refl; ringed = λ is. is; frames = λ b. inl refl; numbers = λ c there. refl; named = λ c there was. was })
+      (ap agree stood.holds.view ∙ stood.agrees) whole inputs before stood
 
 -- ---- streams that change
 
@@ -423,17 +400,7 @@ module _ (plan : Plan) (sound : IsSound plan) (s : UpState) (was : IsRecordOf pl
           used false is = absurd (cc is)
 
       put-leads : row f (put_message id values (control_of plan id)) ≡ Ok g → LeadsOn (Some f) (Some g) (Now (view_of g) (fresh_by id (is_of plan.graph is_volume id)) ∷ [])
-      put-leads passed = by (control_of plan id) passed
-        where
-          kind : (q : ControlKind) → row f (set_message id values q) ≡ Ok g → LeadsOn (Some f) (Some g) (Now (view_of g) (fresh_by id (is_of plan.graph is_volume id)) ∷ [])
-          kind (controls.Choice items) is = value-leads CTRL_ENUM values is
-          kind (controls.Masks min max channels) is = value-leads CTRL_SWITCH (eight_masks values) is
-          kind (controls.Volume min max channels lowest step mute) is = value-leads CTRL_VOLUME (map (control_gain (controls.Volume min max channels lowest step mute)) values) is
-          kind (controls.Blob most initial) is = value-leads CTRL_VOLUME (map (control_gain (controls.Blob most initial)) values) is
-
-          by : (o : Option ControlPlan) → row f (put_message id values o) ≡ Ok g → LeadsOn (Some f) (Some g) (Now (view_of g) (fresh_by id (is_of plan.graph is_volume id)) ∷ [])
-          by None is = value-leads CTRL_VOLUME [] is
-          by (Some k) is = kind k.kind is
+      put-leads passed = put-so (λ (m : Message). row f m ≡ Ok g → LeadsOn (Some f) (Some g) (Now (view_of g) (fresh_by id (is_of plan.graph is_volume id)) ∷ [])) plan id values value-leads passed
 
     -- ---- blobs
 
@@ -500,23 +467,9 @@ module _ (plan : Plan) (sound : IsSound plan) (s : UpState) (was : IsRecordOf pl
   still-leads made = subst (λ (x : FwState). LeadsOn (Some f) (Some x) (Now (view_of x) None ∷ [])) made (staged-now f f.staging)
 
   ask-made : (comp k : ℕ) → row f (ask_message comp k (control_of plan comp)) ≡ Ok g → f ≡ g
-  ask-made comp k passed = by (control_of plan comp) passed
-    where
-      values : (command : ℕ) → row f (GetValue comp command) ≡ Ok g → f ≡ g
-      values command is = (two-tests (is_used f.graph comp) (not (is_some (control_values_at f.graph comp command))) no_device invalid f g is).1
-
-      part-made : row f (GetData comp k) ≡ Ok g → f ≡ g
-      part-made is = (two-tests (is_used f.graph comp) (not (is_some (part_at f.graph comp k))) no_device invalid f g is).1
-
-      kind : (q : ControlKind) → row f (get_message comp k q) ≡ Ok g → f ≡ g
-      kind (controls.Volume min max channels lowest step mute) is = values CTRL_VOLUME is
-      kind (controls.Choice items) is = values CTRL_ENUM is
-      kind (controls.Masks min max channels) is = values CTRL_SWITCH is
-      kind (controls.Blob most initial) is = part-made is
-
-      by : (o : Option ControlPlan) → row f (ask_message comp k o) ≡ Ok g → f ≡ g
-      by None is = values CTRL_VOLUME is
-      by (Some c) is = kind c.kind is
+  ask-made comp k passed = ask-so (λ (m : Message). row f m ≡ Ok g → f ≡ g) plan comp k
+      (λ command is. (two-tests (is_used f.graph comp) (not (is_some (control_values_at f.graph comp command))) no_device invalid f g is).1)
+      (λ is. (two-tests (is_used f.graph comp) (not (is_some (part_at f.graph comp k))) no_device invalid f g is).1) passed
 
   -- ---- whatever the act
 

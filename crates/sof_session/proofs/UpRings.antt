@@ -21,19 +21,20 @@ use Rattle.ipc3_model.specs.declared.fault.CodecFault.{CodecFault}
 use Rattle.ipc3_model.specs.declared.message.Message.{Message}
 use Rattle.ipc3_model.specs.declared.message.Message.TheVariants as messages
 use Rattle.ipc3_model.specs.declared.reply.Body.{Body}
-use Rattle.ipc3_model.specs.Messages.{decoded, message_spelling}
+use Rattle.ipc3_model.specs.Messages.{decoded}
 use Rattle.mbox_link.specs.Calls.{World, Meaning, Exchanged, Led, Ticked}
 use Rattle.mbox_link.specs.Exchange.{Stepped, Rose, ticked, ticks}
 use Rattle.mbox_link.specs.Meetings.{Meeting}
 use Rattle.mbox_link.specs.Step.{blob_installed, body, body_of, has_kind, invalid, is_host, is_paused, is_prepared, is_refused_params, is_stream_phase, is_used, keeps_order, kind_at, new_setting, no_device, part_staged, phase_at, replied, row, row_of, set_phase, set_stream, staged_bytes, staging_at, step, stream_changed, value_set, with_blob_at, with_params, with_setting_at, with_staged}
 use Rattle.host_widgets.specs.declared.answers.HostFault.{HostFault}
-use Rattle.host_widgets.specs.ActCalls.{ActsDid, Onwards, calls_of, next_of}
+use Rattle.host_widgets.specs.ActCalls.{ActsDid, calls_of, next_of}
 use Rattle.host_widgets.specs.ActRules.{ActRules}
 use Rattle.host_widgets.specs.Host.{Outcome}
-use Rattle.host_widgets.specs.OneAct.{one_act}
 use Rattle.host_widgets.specs.Routines.{Routine, Finished, Sending, Job, JobDone, JobTested, RoutineDid}
-use Rattle.host_widgets.specs.Walk.{Walked, goes_past, walk}
+use Rattle.host_widgets.specs.Walk.{Walked, walk}
 use Rattle.sof_session.specs.Agreement.{Ringed}
+use Rattle.sof_session.proofs.ActsLed.{acts-keep}
+use Rattle.sof_session.proofs.JobPorts.{tested-by}
 use Rattle.sof_session.proofs.RowsLeave.{row-leaves}
 
 -- ---- a row
@@ -158,17 +159,8 @@ module _ {D : Type 0} (means : Meaning D) where
   -- ---- a job
 
   module _ {S A : Type 0} (rules : ActRules S A) where
-    onwards-rings : (b : Bool) (ms : List Meeting) (mid v : World D) (Rest : Type 0) → (Rest → Keeps mid v) → Onwards b ms mid v Rest → Keeps mid v
-    onwards-rings true ms mid v Rest rest on rings = rest on rings
-    onwards-rings false ms mid v Rest rest on rings = subst (λ (x : World D). Ringed (means.on x.device)) (sym on.1) rings
-
     acts-rings : (goes_on : Bool) (acts : List A) (ms : List Meeting) (kept : S) (w v : World D) → ActsDid means rules goes_on kept acts ms w v → Keeps w v
-    acts-rings goes_on [] ms kept w v did rings = subst (λ (x : World D). Ringed (means.on x.device)) (sym did.1) rings
-    acts-rings goes_on (act ∷ acts) [] kept w v did rings = absurd did
-    acts-rings goes_on (act ∷ acts) (m ∷ ms) kept w v did rings =
-        let a = one_act rules kept act m in
-        onwards-rings (goes_past goes_on a.outcome) ms did.0 v (ActsDid means rules goes_on a.kept acts ms did.0 v) (acts-rings goes_on acts ms a.kept did.0 v) did.2
-        (exchange-rings (message_spelling (rules.message act)) did.1.answer w did.0 did.1.on did.1.exchanged rings)
+    acts-rings goes_on acts ms kept w v did = acts-keep means rules goes_on Keeps (record { same = λ w rings. rings; after = λ w m v first rest rings. rest (first rings); exchange = exchange-rings }) acts ms kept w v did
 
     routine-rings : (heap : ℕ) (routine : Routine S A) (kept : S) (ms : List Meeting) (w v : World D) → RoutineDid means rules heap kept routine ms w v → Keeps w v
     routine-rings heap (Finished end moments) kept ms w v did rings = moments-rings heap moments w v did.1 rings
@@ -181,8 +173,5 @@ module _ {D : Type 0} (means : Meaning D) where
 
     -- by a test and a job
     pub tested-rings : (heap : ℕ) (test : Option HostFault) (job : Job S A) (kept kept' : S) (w v : World D) (result : Outcome) → JobTested means rules heap test job kept kept' w v result → Keeps w v
-    tested-rings heap test job kept kept' w v result tested rings = by test refl
-      where
-        by : (t : Option HostFault) → test ≡ t → Ringed (means.on v.device)
-        by (Some fault) is = subst (λ (x : World D). Ringed (means.on x.device)) (sym (tested.early fault is).1) rings
-        by None is = job-rings heap job kept' w v result (tested.late is) rings
+    tested-rings heap test job kept kept' w v result tested rings =
+        tested-by means rules heap test job kept kept' w v result tested (λ (x : World D). Ringed (means.on x.device)) rings (λ j. job-rings heap job kept' w v result j rings)

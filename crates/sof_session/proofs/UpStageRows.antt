@@ -1,40 +1,33 @@
 -- Rows of acts that make and unmake pipelines, and of parameters that are given again while nothing is Live, leave what stood standing.
-use Rattle.std.proofs.Common.{◌≡◌, refl, sym, ap, ◌∙◌, subst, ℕ, ◌+◌, ◌-◌, ◌*◌, Bool, true, false, not, cond, ◌&&◌, ◌==◌, List, [], ◌∷◌, map, length, Option, Some, None, unwrap_or, Result, Ok, Err, ℤ, arith}
+use Rattle.std.proofs.Common.{◌≡◌, refl, sym, ap, ◌∙◌, subst, ℕ, ◌+◌, ◌-◌, ◌*◌, Bool, true, false, not, cond, ◌&&◌, ◌==◌, List, [], ◌∷◌, map, length, Option, Some, None, Result, Ok, Err, ℤ, arith}
 use Rattle.std.specs.Prelude.{find, IsTrue}
 use Rattle.std.specs.List.{list_any, list_all}
-use Rattle.std.specs.Option.{option_map, option_and_then}
+use Rattle.std.specs.Option.{option_and_then}
 use Rattle.std.proofs.lemmas.Bool.{true≢false, or_parts, eq-eqb, ne_eqb, leb-true, leb-false, not-true}
 use Rattle.sof_base.specs.declared.format.Params.{Params}
 use Rattle.stream_law.specs.declared.graph.Comp.{Comp}
-use Rattle.stream_law.specs.declared.graph.Edge.{Edge}
 use Rattle.stream_law.specs.declared.graph.Graph.{Graph}
-use Rattle.stream_law.specs.declared.graph.Pipe.{Pipe}
 use Rattle.stream_law.specs.declared.stream.StreamView.{StreamView}
 use Rattle.stream_law.specs.State.{FwState, View, RingView, view_of}
 use Rattle.stream_law.specs.Past.{Now}
 use Rattle.stream_law.specs.Seen.{is_volume, seen}
 use Rattle.stream_law.specs.Silence.{is_silent}
 use Rattle.stream_law.specs.Viewing.{Sees}
-use Rattle.stream_law.specs.Ways.{comp_of, edge_of, buffers, is_of, on_way, is_live_phase, agree}
+use Rattle.stream_law.specs.Ways.{comp_of, buffers, is_of, on_way, is_live_phase, agree}
 use Rattle.stream_law.proofs.Building.{silent-flows}
 use Rattle.stream_law.proofs.SeenLaws.{seen-sees}
 use Rattle.stream_law.proofs.Silent.{silent-dead}
-use Rattle.ipc3_model.specs.declared.control_kind.TheConstants.{CTRL_VOLUME, CTRL_ENUM, CTRL_SWITCH}
 use Rattle.ipc3_model.specs.declared.message.Message.{Message}
 use Rattle.ipc3_model.specs.declared.message.Message.TheVariants as messages
 use Rattle.mbox_link.specs.BlobParts.{blob_part, is_last, payload, left_behind}
 use Rattle.mbox_link.specs.Step.{no_device, invalid, is_used, is_refused_params, is_stream_phase, phase_at, with_params, row}
 use Rattle.tplg_plan.specs.declared.plans.Plan.{Plan}
-use Rattle.tplg_plan.specs.declared.plans.ControlKind.{ControlKind}
 use Rattle.tplg_plan.specs.declared.plans.ControlKind.TheVariants as controls
-use Rattle.tplg_plan.specs.declared.plans.ControlPlan.{ControlPlan}
-use Rattle.tplg_plan.specs.GainOf.{control_gain}
 use Rattle.tplg_plan.specs.Sound.{IsSound}
 use Rattle.host_widgets.specs.declared.kept.Record.{Record}
 use Rattle.host_widgets.specs.declared.kept.StreamRec.{StreamRec}
-use Rattle.host_widgets.specs.Acts.{widget_words, pipe_by_id, comp_message, buffer_message, pipe_message, direction_of}
-use Rattle.host_widgets.specs.ActMessages.{set_message, put_message, act_message, unmake_by}
-use Rattle.host_widgets.specs.Controls.{control_of, eight_masks}
+use Rattle.host_widgets.specs.Acts.{direction_of}
+use Rattle.host_widgets.specs.ActMessages.{act_message}
 use Rattle.host_widgets.specs.HostActs.{Make, Put, Part, Finish, Prepare, fresh_by, Act, Unmake, fresh_in}
 use Rattle.host_widgets.specs.HostActs as acts
 use Rattle.host_widgets.specs.HostRecord.{may_have}
@@ -46,6 +39,7 @@ use Rattle.host_widgets.proofs.StageBetween.{stage-between}
 use Rattle.host_widgets.proofs.StageStays.{streams-agree}
 use Rattle.host_widgets.proofs.UpContext.{IsServing}
 use Rattle.host_widgets.proofs.UpStages.{Stage, StreamPair, stage_graph, IsStage, IsAmid}
+use Rattle.sof_session.proofs.EachMessage.{make-so, unmake-so, put-so}
 use Rattle.sof_session.proofs.LiveViews.{SameLife, life-by, sees-stands}
 use Rattle.sof_session.proofs.RowStands.{fresh_of, IsStill, set-found, row-stands}
 use Rattle.sof_session.proofs.StageLives.{stage-life}
@@ -135,38 +129,14 @@ module _ (plan : Plan) (sound : IsSound plan) (kept : Record) (up n : List ℕ) 
     abbrev IsMarked : Option ℕ → Message → Type 0
     IsMarked fresh m = IsStill m × (fresh_of f m ≡ fresh)
 
-    makes : (id : ℕ) (c : Option Comp) (e : Option Edge) (p : Option Pipe) →
-        IsMarked None (unwrap_or (option_map (comp_message id (control_of plan id) (widget_words plan id)) c)
-        (unwrap_or (option_map (buffer_message id (widget_words plan id)) e)
-        (unwrap_or (option_map (λ (p : Pipe). pipe_message id (widget_words plan id) p.sched p.period) p) (pipe_message id (widget_words plan id) 0 0))))
-    makes id (Some c) e p = (tt, refl)
-    makes id None (Some e) p = (tt, refl)
-    makes id None None (Some p) = (tt, refl)
-    makes id None None None = (tt, refl)
-
-    unmakes : (c : Option Comp) (e : Option Edge) (id : ℕ) → IsMarked None (unmake_by c e id)
-    unmakes (Some c) e id = (tt, refl)
-    unmakes None (Some e) id = (tt, refl)
-    unmakes None None id = (tt, refl)
-
-    sets : (comp : ℕ) (values : List ℕ) (kind : ControlKind) → row f (set_message comp values kind) ≡ Ok g → IsMarked (fresh_by comp (is_of plan.graph is_volume comp)) (set_message comp values kind)
-    sets comp values (controls.Choice items) done = (tt, ap (fresh_by comp) (same-kind comp (set-found f comp CTRL_ENUM values g done)))
-    sets comp values (controls.Masks min max channels) done = (tt, ap (fresh_by comp) (same-kind comp (set-found f comp CTRL_SWITCH (eight_masks values) g done)))
-    sets comp values (controls.Volume min max channels lowest step mute) done =
-        (tt, ap (fresh_by comp) (same-kind comp (set-found f comp CTRL_VOLUME (map (control_gain (controls.Volume min max channels lowest step mute)) values) g done)))
-    sets comp values (controls.Blob most initial) done = (tt, ap (fresh_by comp) (same-kind comp (set-found f comp CTRL_VOLUME (map (control_gain (controls.Blob most initial)) values) g done)))
-
-    puts : (comp : ℕ) (values : List ℕ) (k : Option ControlPlan) → row f (put_message comp values k) ≡ Ok g → IsMarked (fresh_by comp (is_of plan.graph is_volume comp)) (put_message comp values k)
-    puts comp values (Some k) done = sets comp values k.kind done
-    puts comp values None done = (tt, ap (fresh_by comp) (same-kind comp (set-found f comp CTRL_VOLUME [] g done)))
-
     marked : (act : Act) → Builds act → row f (act_message plan act) ≡ Ok g → IsMarked (fresh_in plan act) (act_message plan act)
-    marked (Make id) builds done = makes id (comp_of plan.graph id) (edge_of plan.graph id) (pipe_by_id plan id)
+    marked (Make id) builds done = make-so (IsMarked None) plan id (λ c. (tt, refl)) (λ e. (tt, refl)) (λ sched period. (tt, refl))
     marked (acts.Join source sink) builds done = (tt, refl)
-    marked (Put comp values) builds done = puts comp values (control_of plan comp) done
+    marked (Put comp values) builds done =
+        put-so (λ (m : Message). row f m ≡ Ok g → IsMarked (fresh_by comp (is_of plan.graph is_volume comp)) m) plan comp values (λ command sent is. (tt, ap (fresh_by comp) (same-kind comp (set-found f comp command sent g is)))) done
     marked (Part comp blob k) builds done = (tt, ap (fresh_by comp) (last-same blob k))
     marked (Finish id) builds done = (tt, refl)
-    marked (Unmake id) builds done = unmakes (comp_of plan.graph id) (edge_of plan.graph id) id
+    marked (Unmake id) builds done = unmake-so (IsMarked None) plan id (tt, refl) (tt, refl) (tt, refl)
     marked act builds done = absurd builds
 
     pub stage-row : (act : Act) → Builds act → row f (act_message plan act) ≡ Ok g → LeadsOn (Some f) (Some g) (Now (view_of g) (fresh_in plan act) ∷ [])

@@ -1,10 +1,9 @@
 -- Every command of a host that makes pipelines on use leads on, and so what stood stands where its written moments lead.
-use Rattle.std.proofs.Common.{◌≡◌, refl, sym, ap, ◌∙◌, subst, ℕ, ◌+◌, ◌<◌, ◌-◌, ◌^◌, true, List, length, inl, Some, None}
+use Rattle.std.proofs.Common.{◌≡◌, refl, subst, ℕ, ◌+◌, ◌<◌, ◌-◌, ◌^◌, true, List, length, inl, Some, None}
 use Rattle.std.specs.Prelude.{Option, is_some}
-use Rattle.std.specs.Option.{option_map}
 use Rattle.sof_base.specs.Ports.{Io}
 use Rattle.sof_base.specs.DrainedOutputs.{drained}
-use Rattle.stream_law.specs.State.{FwState, view_of}
+use Rattle.stream_law.specs.State.{FwState}
 use Rattle.stream_law.specs.Past.{Moment}
 use Rattle.mbox_link.specs.Calls.{World, Meaning}
 use Rattle.mbox_link.specs.Wire.{Wire}
@@ -12,14 +11,13 @@ use Rattle.mbox_link.specs.Link.{link}
 use Rattle.tplg_plan.specs.declared.plans.Plan.{Plan}
 use Rattle.tplg_plan.specs.Sound.{IsSound}
 use Rattle.host_widgets.specs.declared.answers.Answer.TheVariants as answers
-use Rattle.host_widgets.specs.declared.kept.Power.{Power}
 use Rattle.host_widgets.specs.declared.kept.Power.TheVariants as powers
 use Rattle.host_widgets.specs.declared.trigger.Trigger.TheVariants as triggers
-use Rattle.host_widgets.specs.Host.{Outcome, SidesBy}
+use Rattle.host_widgets.specs.Host.{Outcome}
 use Rattle.host_widgets.specs.Orders.{suspending}
 use Rattle.host_widgets.specs.Routines.{Job, JobDone}
 use Rattle.host_widgets.proofs.StandingOn.{StandsOn}
-use Rattle.host_pm.specs.PowerTests.{suspend_fault, resume_fault}
+use Rattle.host_pm.specs.PowerTests.{suspend_fault}
 use Rattle.host_ctl.specs.ControlOrders.{control_told, named_at}
 use Rattle.host_dynamic.specs.Dynamic.{plain_job}
 use Rattle.host_widgets.specs.UpState.{UpState, up_act_rules}
@@ -27,13 +25,14 @@ use Rattle.host_dynamic.specs.UpDevices.{there_on}
 use Rattle.host_dynamic.specs.UpStates.{IsUpState}
 use Rattle.sof_script.specs.declared.script.Command.{Command}
 use Rattle.sof_script.specs.declared.script.Command.TheVariants as commands
-use Rattle.sof_session.specs.Agreement.{AreAgreed, expected_in}
+use Rattle.sof_session.specs.Agreement.{AreAgreed}
 use Rattle.sof_session.specs.Commands.{carried}
 use Rattle.sof_session.specs.Modes.{up_state_of}
 use Rattle.sof_session.specs.SessionView.{SessionView}
 use Rattle.sof_session.specs.SessionStep.{known_of}
 use Rattle.sof_session.specs.UpCommands.{up_fault, up_job, up_rules}
-use Rattle.sof_session.proofs.Agreement.{at}
+use Rattle.sof_session.proofs.Agreement.{at, device-on}
+use Rattle.sof_session.proofs.StandsAtLoad.{was-off, was-on}
 use Rattle.sof_session.proofs.JobWalks.{job_doing, job-moments}
 use Rattle.sof_session.proofs.Stepping.{Standing, standing-by}
 use Rattle.sof_session.proofs.UpMode.{up-kept}
@@ -46,18 +45,6 @@ use Rattle.sof_session.proofs.UpStandsDown.{suspend-leads-by}
 use Rattle.sof_session.proofs.UpStandsResume.{QuietRows, resume-leads}
 use Rattle.host_widgets.specs.HostActs.{Act}
 
--- ---- by the tests of the power
-
-suspends-on : (power : Power) → suspend_fault power ≡ None → power ≡ powers.On
-suspends-on powers.On none = refl
-suspends-on powers.Off none = absurd (cc none)
-suspends-on powers.Unloaded none = absurd (cc none)
-
-resumes-off : (power : Power) → resume_fault power ≡ None → power ≡ powers.Off
-resumes-off powers.Off none = refl
-resumes-off powers.On none = absurd (cc none)
-resumes-off powers.Unloaded none = absurd (cc none)
-
 -- ---- every command
 
 module _ (plan : Plan) (sound : IsSound plan) (plays : PlaysAtStages plan) (stage-rows : RowsAtStages plan) (plain-rows : PlainRows plan) (quiet-rows : QuietRows plan) (heap : ℕ) (device : Option FwState) (s : UpState) (is : IsUpState plan s)
@@ -67,14 +54,14 @@ module _ (plan : Plan) (sound : IsSound plan) (plays : PlaysAtStages plan) (stag
 
   suspend-leads : suspend_fault s.kept.power ≡ None → Leads (plain_job plan s (suspending plan s.kept))
   suspend-leads none =
-      let on = suspends-on s.kept.power none in
+      let on = was-on s.kept.power none in
       inl (refl, on-there plan sound plays stage-rows plain-rows heap device s is there_is on_device on, suspend-leads-by plan sound plays stage-rows plain-rows s is on)
 
   pub command-leads : (command : Command) → up_fault plan s command ≡ None → Leads (up_job plan heap s command)
   command-leads commands.Load none = load-leads plan sound plays stage-rows plain-rows heap device s is there_is on_device
   command-leads commands.Unload none = unload-leads plan sound plays stage-rows plain-rows heap device s is there_is on_device
   command-leads commands.Suspend none = suspend-leads none
-  command-leads commands.Resume none = resume-leads plan sound s is (resumes-off s.kept.power none) plays stage-rows quiet-rows heap device
+  command-leads commands.Resume none = resume-leads plan sound s is (was-off s.kept.power none) plays stage-rows quiet-rows heap device
   command-leads commands.Show none = quiet-leads plan sound plays stage-rows plain-rows heap device s is there_is on_device answers.Show
   command-leads (commands.Tick n) none = tick-leads plan sound plays stage-rows plain-rows heap device s is there_is on_device
   command-leads (commands.Open name) none = open-leads plan sound plays stage-rows plain-rows heap device s is there_is on_device name none
@@ -105,16 +92,8 @@ module _ {P : Type 0} (means : Meaning P) (old new : SessionView P) (io io' : Io
   abbrev s : UpState
   s = up_state_of means old
 
-  -- while the power is on, so is the device
-  device-on : old.kept.power ≡ powers.On → (f : FwState) × (means.on old.link.device ≡ Some f)
-  device-on on = by (means.on old.link.device) refl (subst (SidesBy means old.plan (expected_in old.up old.plan old.kept) old.kept old.link.device) on agreed.agree.sides)
-    where
-      by : (o : Option FwState) → means.on old.link.device ≡ o → option_map view_of (means.on old.link.device) ≡ Some (expected_in old.up old.plan old.kept) → (f : FwState) × (means.on old.link.device ≡ Some f)
-      by None e shows = absurd (cc (sym (ap (option_map view_of) e) ∙ shows))
-      by (Some f) e shows = (f, e)
-
   leads : LeadsOver old.plan old.heap (means.on old.link.device) (up_job old.plan old.heap s command)
-  leads = command-leads old.plan agreed.sound plays stage-rows plain-rows quiet-rows old.heap (means.on old.link.device) s (up-kept means old agreed some) refl device-on command none
+  leads = command-leads old.plan agreed.sound plays stage-rows plain-rows quiet-rows old.heap (means.on old.link.device) s (up-kept means old agreed some) refl (λ on. (let d = device-on means old agreed on in (d.0, d.1))) command none
 
   abbrev written : List Moment
   written = (carried (up_rules old.plan old.heap)

@@ -1,5 +1,5 @@
 -- What commands do to pipelines that are made on use leads on: a stream is opened and closed.
-use Rattle.std.proofs.Common.{◌≡◌, refl, sym, subst, ℕ, true, false, not, List, [], ◌∷◌, ◌++◌, map, inl, inr, ◌==◌, Some, Ok, Err}
+use Rattle.std.proofs.Common.{◌≡◌, refl, sym, subst, ℕ, true, false, not, List, [], ◌∷◌, ◌++◌, inl, inr, ◌==◌, Some, Ok, Err}
 use Rattle.std.specs.Prelude.{find}
 use Rattle.std.specs.List.{zip, AllByRecursion, IsDistinct}
 use Rattle.std.proofs.lemmas.Bool.{false≢true}
@@ -21,7 +21,7 @@ use Rattle.host_widgets.specs.declared.kept.Record.{Record}
 use Rattle.host_widgets.specs.declared.trigger.Trigger.TheVariants as triggers
 use Rattle.host_widgets.specs.ActLists.{close_by}
 use Rattle.host_widgets.specs.ActMessages.{act_message}
-use Rattle.host_widgets.specs.HostActs.{Act, Trig, Free, fresh_in, Unmake}
+use Rattle.host_widgets.specs.HostActs.{Act, Trig, Free, fresh_in}
 use Rattle.host_widgets.specs.Host.{Outcome, IsRecordOf}
 use Rattle.host_widgets.specs.ActCalls.{next_of}
 use Rattle.host_widgets.specs.Walk.{walk}
@@ -38,6 +38,7 @@ use Rattle.host_widgets.specs.Need.{need_in, is_needed, HasBrought}
 use Rattle.host_dynamic.specs.UpStates.{IsThere, IsThereBy, IsUpState}
 use Rattle.host_widgets.proofs.StagePrepares.{up-amid}
 use Rattle.host_widgets.proofs.Sublists.{AreOnce, once-filter, distinct-once}
+use Rattle.host_dynamic.proofs.UpAgreeing.{unmakes-loose}
 use Rattle.host_dynamic.proofs.UpAsked.{close-answered}
 use Rattle.host_dynamic.proofs.UpClosing.{parts-apart, shut-amid, gone-serves, serves}
 use Rattle.host_widgets.proofs.UpContext.{IsServing, AreApart}
@@ -104,10 +105,6 @@ module _ (plan : Plan) (sound : IsSound plan) (plays : PlaysAtStages plan) (stag
 
   -- ---- what is unmade
 
-  loose-unmade : (ids : List ℕ) (f : FwState) → StagedFirst (map Unmake ids) f
-  loose-unmade [] f = tt
-  loose-unmade (id ∷ ids) f = tt
-
   unmaking-ends : (done : UpState → UpState) (s : UpState) (o : Outcome) → ByLink o (LeadsBy plan s (after_unmaking done s o)) (IsCutThen (after_unmaking done s o))
   unmaking-ends done s (Ok passed) = inl refl
   unmaking-ends done s (Err faults.LinkDown) = refl
@@ -117,7 +114,7 @@ module _ (plan : Plan) (sound : IsSound plan) (plays : PlaysAtStages plan) (stag
   pub unmade-leads : (u : UpState) (up n : List ℕ) (done : UpState → UpState) → IsServing plan u.kept up → AllMay u.kept → AreApart up n → HasBrought plan.graph (is_among up) → (st : Stage) → IsAmid plan up n st → IsStage plan u.kept st u.there → LeadsBy plan u (unmade plan n done u)
   unmade-leads u up n done serving_is may apart brought st amid is = (
     unmaking-led plan plays stage-rows sound u up n serving_is may apart brought st u.there amid is,
-    λ f. loose-unmade (unmade_order plan.graph (ids_there_of plan n u.there)) f,
+    λ f. unmakes-loose (unmade_order plan.graph (ids_there_of plan n u.there)) f,
     λ ms. let w = walk (up_act_rules plan) false next_of u ms (unmaking_acts plan (ids_there_of plan n u.there)) in unmaking-ends done w.kept w.outcome,
   )
 

@@ -1,8 +1,8 @@
 -- A resume leads on: all that is up is made as if each stream were closed, and then each prepared stream has its parameters again.
 use Rattle.std.proofs.Common.{◌≡◌, refl, sym, ap, ◌∙◌, subst, ℕ, Bool, true, false, not, List, [], ◌∷◌, ◌++◌, map, filter, inl, inr, ◌⊎◌, ◌&&◌, Some, None, Ok, Err}
 use Rattle.std.specs.Prelude.{Option, IsTrue}
-use Rattle.std.specs.List.{zip, flat_map, list_any, list_all, AllByRecursion}
-use Rattle.std.proofs.lemmas.Bool.{true≢false, false≢true, false_from_ne_true}
+use Rattle.std.specs.List.{zip, flat_map, list_all, AllByRecursion}
+use Rattle.std.proofs.lemmas.Bool.{true≢false, false≢true}
 use Rattle.sof_base.specs.declared.format.Params.{Params}
 use Rattle.stream_law.specs.declared.graph.Graph.{Graph}
 use Rattle.stream_law.specs.declared.stream.Phase.{Phase}
@@ -13,7 +13,7 @@ use Rattle.stream_law.specs.Past.{Now}
 use Rattle.stream_law.specs.Silence.{is_silent}
 use Rattle.stream_law.specs.Viewing.{IsPlayable}
 use Rattle.stream_law.specs.Ways.{agree, active, is_live_phase, is_running_phase, on_way}
-use Rattle.stream_law.proofs.Members.{IsIn, any-in, kept-in}
+use Rattle.stream_law.proofs.Members.{IsIn, kept-in}
 use Rattle.mbox_link.specs.Step.{row}
 use Rattle.tplg_plan.specs.declared.plans.Plan.{Plan}
 use Rattle.tplg_plan.specs.declared.plans.StreamPlan.{StreamPlan}
@@ -40,6 +40,7 @@ use Rattle.host_dynamic.specs.Dynamic.{after_resuming, resuming_job}
 use Rattle.host_widgets.specs.UpState.{UpState, up_act_rules}
 use Rattle.host_dynamic.specs.UpStates.{IsUpState}
 use Rattle.host_widgets.proofs.Needs.{in-left, in-either}
+use Rattle.host_widgets.proofs.StageMakes.{none-passes}
 use Rattle.host_widgets.proofs.StageStays.{from-map}
 use Rattle.host_widgets.proofs.UpContext.{IsServing}
 use Rattle.host_widgets.proofs.RestedRecords.{empty-stage}
@@ -60,11 +61,8 @@ QuietRows plan = (host : ℕ) (params : Params) (f g : FwState) → IsTrue (is_s
 
 -- ---- nothing is Live
 
-none-any : {X : Type 0} (p : X → Bool) (xs : List X) → ((x : X) → IsIn x xs → p x ≡ false) → list_any p xs ≡ false
-none-any p xs each = false_from_ne_true (list_any p xs) (λ some. let r = any-in p xs some in true≢false (sym r.2 ∙ each r.0 r.1))
-
 is-quiet : (v : View) → ((s : StreamView) → IsIn s v.streams → is_live_phase s.phase ≡ false) → IsTrue (is_silent v)
-is-quiet v each = ap not (none-any (λ (s : StreamView). is_live_phase s.phase) v.streams each)
+is-quiet v each = ap not (none-passes (λ (s : StreamView). is_live_phase s.phase) v.streams each)
 
 running-live : (p : Phase) → is_live_phase p ≡ false → is_running_phase p ≡ false
 running-live phases.Running dead = dead
@@ -72,7 +70,7 @@ running-live p dead = refl
 
 none-active : (v : View) (x : ℕ) → ((s : StreamView) → IsIn s v.streams → is_live_phase s.phase ≡ false) → active v x ≡ false
 unfolding active
-none-active v x each = none-any (λ (s : StreamView). is_running_phase s.phase && on_way v.graph s.host x) v.streams (λ s there.
+none-active v x each = none-passes (λ (s : StreamView). is_running_phase s.phase && on_way v.graph s.host x) v.streams (λ s there.
     ap (λ (b : Bool). b && on_way v.graph s.host x) (running-live s.phase (each s there)))
 
 -- a graph that is playable with some streams is so with streams that are not Live

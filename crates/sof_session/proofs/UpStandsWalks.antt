@@ -1,6 +1,6 @@
 -- Acts of a host that makes pipelines on use, over any device, one after another and routine by routine: what is there goes on to be what
 -- is kept of it, and what stood goes on standing.
-use Rattle.std.proofs.Common.{◌≡◌, inl, inr, ◌⊎◌, ⊎_elim, refl, sym, ap, ◌∙◌, subst, ℕ, ◌-◌, Bool, true, false, List, [], ◌∷◌, ◌++◌, Some, None, Ok, Err, replicate, append-nil}
+use Rattle.std.proofs.Common.{◌≡◌, inl, inr, ◌⊎◌, refl, sym, ap, ◌∙◌, subst, ℕ, ◌-◌, Bool, true, List, [], ◌∷◌, ◌++◌, Some, None, Ok, Err, append-nil}
 use Rattle.std.specs.Prelude.{Option}
 use Rattle.sof_base.specs.Ports.{Io}
 use Rattle.stream_law.specs.State.{FwState, view_of}
@@ -8,30 +8,24 @@ use Rattle.stream_law.specs.Past.{Moment, Boot, Cut, Now, Tick, new_life}
 use Rattle.stream_law.specs.InputsRead.{Reads}
 use Rattle.stream_law.specs.Viewing.{IsPlayable}
 use Rattle.stream_law.proofs.Standing.{Stands-boot}
-use Rattle.ipc3_model.specs.Messages.{message_spelling, decoded}
-use Rattle.mbox_link.specs.Step.{row, row_of, body_of, fresh}
-use Rattle.mbox_link.specs.Exchange.{ticks, ticked}
+use Rattle.mbox_link.specs.Step.{row, fresh}
+use Rattle.mbox_link.specs.Exchange.{ticked}
 use Rattle.mbox_link.specs.Calls.{World, Meaning, Led}
 use Rattle.mbox_link.specs.Meetings.{Meeting}
 use Rattle.tplg_plan.specs.declared.plans.Plan.{Plan}
 use Rattle.host_widgets.specs.declared.answers.HostFault.TheVariants.{Refused, LinkDown}
-use Rattle.host_widgets.specs.Host.{Outcome, verdict, errno}
+use Rattle.host_widgets.specs.Host.{Outcome}
 use Rattle.host_widgets.specs.HostActs.{Act, fresh_in}
-use Rattle.host_widgets.specs.OneAct.{Performed, performed, lag_of, outcome_by}
-use Rattle.host_widgets.specs.Walk.{Walked, walk, followed_by, goes_past, first_of}
-use Rattle.host_widgets.specs.ActCalls.{ActDid, ActsDid, Onwards, next_of, calls_of, came_to}
+use Rattle.host_widgets.specs.Walk.{Walked, walk, first_of}
+use Rattle.host_widgets.specs.ActCalls.{next_of, calls_of}
 use Rattle.host_widgets.specs.Routines.{Routine, Finished, Sending, Job, JobDone, RoutineDid, followed, walk_on, walk_routine}
-use Rattle.host_widgets.proofs.Exchanges.{came, verdict-number}
-use Rattle.host_widgets.proofs.Effects.{row-decoded}
-use Rattle.host_widgets.proofs.StandingOn.{StandsOn, ReadsOn, LeadsOn, LeavesAll, still-stands, stands-none, stands-by, reads-by, reads-of, one-tick, ticks-stand, ticks-leave, cut-stands, gained-none}
+use Rattle.host_widgets.proofs.StandingOn.{StandsOn, ReadsOn, LeadsOn, LeavesAll, stands-none, stands-by, reads-by, reads-of, one-tick, cut-stands, gained-none}
 use Rattle.host_widgets.proofs.WalksHold.{ByLink}
-use Rattle.host_widgets.proofs.DonePasses.{done-passes}
 use Rattle.host_widgets.specs.There.{there_in, there_view, there_after, booted}
 use Rattle.host_widgets.specs.UpState.{UpState, up_own, up_act_rules}
-use Rattle.host_widgets.proofs.UpExchanges.{ticks-there}
 use Rattle.host_widgets.proofs.UpSending.{Staged, StagedFirst, staged-still}
-use Rattle.host_widgets.proofs.UpWalks.{passed-free}
 use Rattle.sof_session.proofs.JobWalks.{walk-front}
+use Rattle.sof_session.proofs.WalkStands.{Held, LeadOn, walk-stands}
 use Rattle.host_widgets.specs.ActMessages.{act_message}
 
 -- ---- what acts ask
@@ -53,214 +47,33 @@ module _ (plan : Plan) (goes_on : Bool) where
       × (up_own plan u act ≡ None → AreLed ((up_act_rules plan).after act u) acts)
       × (goes_on ≡ true → ((f : FwState) → Staged act f → StagedFirst acts f) × AreLed u acts)
 
--- ---- outcomes
+-- what is kept is there in a firmware
+abbrev IsThere : UpState → FwState → Type 0
+IsThere u f = there_in f ≡ u.there
 
-by-map : (o : Outcome) (Up Up' Down Down' : Type 0) → (Up → Up') → (Down → Down') → ByLink o Up Down → ByLink o Up' Down'
-by-map (Ok done) Up Up' Down Down' f g x = f x
-by-map (Err LinkDown) Up Up' Down Down' f g x = g x
-by-map (Err (Refused d)) Up Up' Down Down' f g x = f x
-by-map (Err fault) Up Up' Down Down' f g x = f x
+-- ticks leave it
+leaves-there : (f g : FwState) → LeavesAll f g → there_in g ≡ there_in f
+leaves-there f g l = λ i. record { heap = l.heap i; graph = (l.view i).graph; streams = (l.view i).streams }
 
+up-leads : (plan : Plan) (goes_on : Bool) (acts : List Act) (u : UpState) → AreLed plan goes_on u acts → (f : FwState) → IsThere u f → StagedFirst acts f → LeadOn (up_act_rules plan) goes_on IsThere acts u f
+up-leads plan goes_on [] u led f there staged = there
+up-leads plan goes_on (act ∷ acts) u led f there staged = (
+  subst IsPlayable (sym (ap there_view there)) led.0,
+  λ g same.
+      let now = leaves-there f g same ∙ there in
+      let staged_now = staged-still act f g same.staging staged in (
+        now,
+        λ free h done. (let l = led.1 g h now staged_now free done in (l.leads, up-leads plan goes_on acts ((up_act_rules plan).after act u) (led.2 free) h l.there l.staged)),
+        λ goes. (let r = led.3 goes in up-leads plan goes_on acts u r.1 g now (r.0 g staged_now)),
+      ),
+)
+
+-- what is said in both cases
 by-both : (o : Outcome) (Up Up' Down Down' All : Type 0) → (Up → Up' → All) → (Down → Down' → All) → ByLink o Up Down → ByLink o Up' Down' → All
 by-both (Ok done) Up Up' Down Down' All f g x y = f x y
 by-both (Err LinkDown) Up Up' Down Down' All f g x y = g x y
 by-both (Err (Refused d)) Up Up' Down Down' All f g x y = f x y
 by-both (Err fault) Up Up' Down Down' All f g x y = f x y
-
--- the first fault of a refusal and of what came after it
-after-refusal : (e : _) (rest : Outcome) (Up Down : Type 0) → ByLink rest Up Down → ByLink (first_of (Err (Refused e)) rest) Up Down
-after-refusal e (Ok done) Up Down x = x
-after-refusal e (Err (Refused d)) Up Down x = x
-after-refusal e (Err fault) Up Down x = x
-
-module _ {D : Type 0} (means : Meaning D) (plan : Plan) (goes_on : Bool) where
-  -- what is kept is there in the device, and these moments later what stood stands
-  pub record HeldSo (f : FwState) (w v : World D) (u : UpState) (moments : List Moment) : Type 0 where
-    pub state : FwState
-    pub is_on : means.on v.device ≡ Some state
-    pub there : there_in state ≡ u.there
-    pub stands : StandsOn (Some f) w.io (Some state) v.io moments
-
-  -- ---- one act
-
-  module _ (u : UpState) (act : Act) (acts : List Act) (led : AreLed plan goes_on u (act ∷ acts)) (m : Meeting) (w v : World D) (did : ActDid means (up_act_rules plan) u act m w v)
-      (f : FwState) (on : means.on w.device ≡ Some f) (there : there_in f ≡ u.there) (staged : Staged act f) where
-    abbrev after_it : UpState
-    after_it = (up_act_rules plan).after act u
-
-    abbrev now : List Moment
-    now = Now (there_view (there_after plan act u.there)) (fresh_in plan act) ∷ []
-
-    record Holds (So : FwState → Type 0) (then : UpState) (moments : List Moment) : Type 0 where
-      held : HeldSo f w v then moments
-      so : So held.state
-
-    abbrev StagedOn : FwState → Type 0
-    StagedOn g = goes_on ≡ true → StagedFirst acts g
-
-    abbrev PassedSo : FwState → Type 0
-    PassedSo g = (up_own plan u act ≡ None) × StagedFirst acts g
-
-    abbrev Then : Outcome → Type 0
-    Then (Ok done) = Holds PassedSo after_it (replicate m.lag Tick ++ now)
-    Then (Err LinkDown) = ReadsOn (Some f) w.io v.io (replicate m.lag Tick)
-    Then (Err fault) = Holds StagedOn u (replicate m.lag Tick)
-
-    -- the state and the endpoints after the ticks before its message
-    abbrev at_message : FwState × Io
-    at_message = ticks m.lag (f, w.io)
-
-    at-message-is : ticks (means.pending w.device - means.pending v.device) (f, w.io) ≡ at_message
-    at-message-is = ap (λ (n : ℕ). ticks n (f, w.io)) (sym did.lag)
-
-    there-before : there_in at_message.0 ≡ u.there
-    there-before = ticks-there m.lag (f, w.io) ∙ there
-
-    staged-before : Staged act at_message.0
-    staged-before = let l : LeavesAll f at_message.0 = ticks-leave m.lag f w.io in staged-still act f at_message.0 l.staging staged
-
-    ticked-on : StandsOn (Some f) w.io (Some at_message.0) at_message.1 (replicate m.lag Tick)
-    ticked-on = ticks-stand m.lag f w.io (subst IsPlayable (sym (ap there_view there)) led.0)
-
-    -- one whose link failed
-    lost : v.io ≡ at_message.1 → ReadsOn (Some f) w.io v.io (replicate m.lag Tick)
-    lost io = subst (λ (x : Io). ReadsOn (Some f) w.io x (replicate m.lag Tick)) (sym io) (reads-of (Some f) (Some at_message.0) w.io at_message.1 (replicate m.lag Tick) ticked-on)
-
-    -- one that was refused
-    stays : means.on v.device ≡ Some at_message.0 → v.io ≡ at_message.1 → Holds StagedOn u (replicate m.lag Tick)
-    stays is_on io = record {
-      held = record {
-        state = at_message.0;
-        is_on = is_on;
-        there = there-before;
-        stands = subst (λ (x : Io). StandsOn (Some f) w.io (Some at_message.0) x (replicate m.lag Tick)) (sym io) ticked-on;
-      };
-      so = λ goes. (led.3 goes).0 at_message.0 staged-before;
-    }
-
-    -- one that passed
-    passes : up_own plan u act ≡ None → (next : FwState) → means.on v.device ≡ Some next → v.io ≡ at_message.1 → row at_message.0 (act_message plan act) ≡ Ok next → Holds PassedSo after_it (replicate m.lag Tick ++ now)
-    passes free next is_on io done =
-        let l : RowLeads plan goes_on u act acts next at_message.0 = led.1 at_message.0 next there-before staged-before free done in
-        record {
-          held = record {
-            state = next;
-            is_on = is_on;
-            there = l.there;
-            stands = subst (λ (x : Io). StandsOn (Some f) w.io (Some next) x (replicate m.lag Tick ++ now)) (sym io)
-                (stands-by (Some f) (Some at_message.0) (Some next) w.io at_message.1 at_message.1 (replicate m.lag Tick) now ticked-on (still-stands (Some at_message.0) (Some next) now tt l.leads at_message.1));
-          };
-          so = (free, l.staged);
-        }
-
-    abbrev by_said : Outcome → Type 0
-    by_said o = Then o
-
-    act-leads : Then (outcome_by m.fate (up_own plan u act))
-    act-leads =
-        let c = came means (message_spelling (act_message plan act)) did.answer w v f on did.exchanged in
-        let io = c.endpoints ∙ ap (λ (p : FwState × Io). p.1) at-message-is in
-        ⊎_elim
-        (λ took.
-        let said = ap (λ (a : Option (List ℕ)). came_to (verdict a)) took.said ∙ done-passes (body_of (ticks (means.pending w.device - means.pending v.device) (f, w.io)).0 (decoded (message_spelling (act_message plan act)))) in
-        let passed : Ok tt ≡ outcome_by m.fate (up_own plan u act) = sym said ∙ did.came in
-        subst by_said passed
-        (passes (passed-free m.fate (up_own plan u act) (sym passed)) took.next took.on io
-        (sym (row-decoded at_message.0 (act_message plan act) did.message) ∙ ap (λ (p : FwState × Io). row_of p.0 (decoded (message_spelling (act_message plan act)))) (sym at-message-is) ∙ took.row)))
-        (λ rest. ⊎_elim
-        (λ it. subst by_said (let o : Err (Refused (errno it.error)) ≡ outcome_by m.fate (up_own plan u act) = sym (ap came_to (ap verdict it.said ∙ verdict-number it.error it.number)) ∙ did.came in o)
-        (stays (it.on ∙ ap (λ (p : FwState × Io). Some p.0) at-message-is) io))
-        (λ rest. ⊎_elim
-        (λ it. subst by_said (let o : Err (Refused (errno it.error)) ≡ outcome_by m.fate (up_own plan u act) = sym (ap came_to (ap verdict it.said ∙ verdict-number it.error it.number)) ∙ did.came in o)
-        (stays (it.on ∙ ap (λ (p : FwState × Io). Some p.0) at-message-is) io))
-        (λ it. subst by_said (let o : Err LinkDown ≡ outcome_by m.fate (up_own plan u act) = sym (ap came_to (ap verdict it.said)) ∙ did.came in o) (lost io))
-        rest) rest)
-        c.way
-
-  -- ---- a walk
-
-  behind : (f : FwState) (w mid v : World D) (now_kept later : UpState) (ms more : List Moment) (first : HeldSo f w mid now_kept ms) → HeldSo first.state mid v later more → HeldSo f w v later (ms ++ more)
-  behind f w mid v now_kept later ms more first rest = record {
-    state = rest.state;
-    is_on = rest.is_on;
-    there = rest.there;
-    stands = stands-by (Some f) (Some first.state) (Some rest.state) w.io mid.io v.io ms more first.stands rest.stands;
-  }
-
-  none : (u : UpState) (f : FwState) (w v : World D) → means.on w.device ≡ Some f → there_in f ≡ u.there → v ≡ w → HeldSo f w v u []
-  none u f w v on there same = record {
-    state = f;
-    is_on = ap (λ (x : World D). means.on x.device) same ∙ on;
-    there = there;
-    stands = subst (λ (x : World D). StandsOn (Some f) w.io (Some f) x.io []) (sym same) (stands-none (Some f) w.io);
-  }
-
-  abbrev ReadSo : FwState → World D → World D → List Moment → Type 0
-  ReadSo f w v moments = ReadsOn (Some f) w.io v.io moments
-
-  abbrev pub HeldBy : FwState → World D → World D → Walked UpState Act (List Meeting) → Type 0
-  HeldBy f w v walked = ByLink walked.outcome (HeldSo f w v walked.kept walked.moments) (ReadsOn (Some f) w.io v.io walked.moments)
-
-  abbrev met_walk : UpState → List Meeting → List Act → Walked UpState Act (List Meeting)
-  met_walk u ms acts = walk (up_act_rules plan) goes_on next_of u ms acts
-
-  module _ (act : Act) (acts : List Act) (u : UpState) (ms : List Meeting) (ticks : List Moment) (f : FwState) (w mid v : World D) where
-    abbrev Behind : Performed UpState → Bool → Type 0
-    Behind a b = Onwards b ms mid v (ActsDid means (up_act_rules plan) goes_on a.kept acts ms mid v)
-
-    abbrev Left : Performed UpState → Bool → Type 0
-    Left a b = HeldBy f w v (followed_by act a ms b (met_walk a.kept ms acts))
-
-    later : (now : UpState) (ms' : List Moment) (first : HeldSo f w mid now ms') (o : Outcome) (then_kept : UpState) (more : List Moment) →
-        ByLink o (HeldSo first.state mid v then_kept more) (ReadSo first.state mid v more) → ByLink o (HeldSo f w v then_kept (ms' ++ more)) (ReadSo f w v (ms' ++ more))
-    later now ms' first o then_kept more = by-map o (HeldSo first.state mid v then_kept more) (HeldSo f w v then_kept (ms' ++ more)) (ReadSo first.state mid v more) (ReadSo f w v (ms' ++ more))
-        (behind f w mid v now then_kept ms' more first) (reads-by (Some f) (Some first.state) w.io mid.io v.io ms' more first.stands)
-
-    -- after a refusal
-    refused : (e : _) (b : Bool) → (first : HeldSo f w mid u ticks) → Behind (performed (up_act_rules plan) act u ticks (Err (Refused e))) b →
-        (b ≡ true → ActsDid means (up_act_rules plan) goes_on u acts ms mid v → HeldBy first.state mid v (met_walk u ms acts)) → Left (performed (up_act_rules plan) act u ticks (Err (Refused e))) b
-    refused e true first did rest =
-        let r = rest refl did in
-        let w' = met_walk u ms acts in
-        after-refusal e w'.outcome (HeldSo f w v w'.kept (ticks ++ w'.moments)) (ReadSo f w v (ticks ++ w'.moments)) (later u ticks first w'.outcome w'.kept w'.moments r)
-    refused e false first did rest = subst (λ (x : World D). HeldSo f w x u ticks) (sym did.1) first
-
-    -- after one that passed
-    passed : (now : UpState) (ms' : List Moment) → (first : HeldSo f w mid now ms') → ActsDid means (up_act_rules plan) goes_on now acts ms mid v →
-        (ActsDid means (up_act_rules plan) goes_on now acts ms mid v → HeldBy first.state mid v (met_walk now ms acts)) → HeldBy f w v (followed_by act (record { outcome = Ok tt; kept = now; moments = ms' }) ms true (met_walk now ms acts))
-    passed now ms' first did rest =
-        let w' = met_walk now ms acts in
-        later now ms' first w'.outcome w'.kept w'.moments (rest did)
-
-  module _ (u : UpState) (act : Act) (acts : List Act) (led : AreLed plan goes_on u (act ∷ acts)) (m : Meeting) (w mid : World D) (did : ActDid means (up_act_rules plan) u act m w mid)
-      (f : FwState) (on : means.on w.device ≡ Some f) (there : there_in f ≡ u.there) (staged : Staged act f) where
-    abbrev ThenOf : Outcome → Type 0
-    ThenOf o = Then u act acts led m w mid did f on there staged o
-
-    -- a walk from here, by a state that is on in which what is kept is there
-    abbrev Goes : World D → List Meeting → UpState → Type 0
-    Goes v ms now = ActsDid means (up_act_rules plan) goes_on now acts ms mid v → (g : FwState) → means.on mid.device ≡ Some g → there_in g ≡ now.there → StagedFirst acts g → HeldBy g mid v (met_walk now ms acts)
-
-    by_outcome : (v : World D) (ms : List Meeting) → (up_own plan u act ≡ None → Goes v ms ((up_act_rules plan).after act u)) → (goes_on ≡ true → Goes v ms u) → (o : Outcome) → ThenOf o →
-        Behind act acts u ms (lag_of m) f w mid v (performed (up_act_rules plan) act u (lag_of m) o) (goes_past goes_on (performed (up_act_rules plan) act u (lag_of m) o).outcome) →
-        Left act acts u ms (lag_of m) f w mid v (performed (up_act_rules plan) act u (lag_of m) o) (goes_past goes_on (performed (up_act_rules plan) act u (lag_of m) o).outcome)
-    by_outcome v ms on_passed on_refused (Ok done) h more =
-        let moments : List Moment = lag_of m ++ Now (there_view (there_after plan act u.there)) (fresh_in plan act) ∷ [] in
-        passed act acts u ms (lag_of m) f w mid v ((up_act_rules plan).after act u) moments h.held more (λ did. on_passed h.so.0 did h.held.state h.held.is_on h.held.there h.so.1)
-    by_outcome v ms on_passed on_refused (Err (Refused e)) h more =
-        refused act acts u ms (lag_of m) f w mid v e goes_on h.held more (λ goes did. on_refused goes did h.held.state h.held.is_on h.held.there (h.so goes))
-    by_outcome v ms on_passed on_refused (Err LinkDown) h more = subst (λ (x : World D). ReadSo f w x (lag_of m)) (sym more.1) h
-    by_outcome v ms on_passed on_refused (Err fault) h more = subst (λ (x : World D). HeldSo f w x u (lag_of m)) (sym more.1) h.held
-
-  pub walk-leads : (acts : List Act) (ms : List Meeting) (u : UpState) (w v : World D) → ActsDid means (up_act_rules plan) goes_on u acts ms w v → AreLed plan goes_on u acts →
-      (f : FwState) → means.on w.device ≡ Some f → there_in f ≡ u.there → StagedFirst acts f → HeldBy f w v (met_walk u ms acts)
-  walk-leads [] ms u w v did led f on there staged = none u f w v on there did.1
-  walk-leads (act ∷ acts) [] u w v did led f on there staged = absurd did
-  walk-leads (act ∷ acts) (m ∷ ms) u w v did led f on there staged =
-      by_outcome u act acts led m w did.0 did.1 f on there staged v ms
-      (λ free more g g_on g_there g_staged. walk-leads acts ms ((up_act_rules plan).after act u) did.0 v more (led.2 free) g g_on g_there g_staged)
-      (λ goes more g g_on g_there g_staged. walk-leads acts ms u did.0 v more (led.3 goes).1 g g_on g_there g_staged)
-      (outcome_by m.fate (up_own plan u act)) (act-leads u act acts led m w did.0 did.1 f on there staged) did.2
 
 -- ---- boots
 
@@ -329,11 +142,11 @@ module _ {D : Type 0} (means : Meaning D) (plan : Plan) (heap : ℕ) (f0 : Optio
       ended w v before moments leads (subst (λ (x : Option FwState). StandsOn f0 io0 x w.io before) (sym on) stands) did.1
   routine-leads (Sending acts goes_on then) o u before sent ms w v (early, late, mid, split, acts_did, rest_did) f on there leads stands =
       subst Goal (sym met-is)
-      (by-both met.outcome (HeldSo means plan goes_on f w mid met.kept met.moments) (LeadsBy plan met.kept (then met.kept met.outcome)) (ReadsOn (Some f) w.io mid.io met.moments) (IsCutThen (then met.kept met.outcome)) (Goal (left met))
-      (λ h more. routine-leads (then met.kept met.outcome) (first_of o met.outcome) met.kept (before ++ met.moments) (sent ++ met.sent) late mid v rest_did h.state h.is_on h.there more
+      (by-both met.outcome (Held means (IsThere met.kept) f w mid met.moments) (LeadsBy plan met.kept (then met.kept met.outcome)) (ReadsOn (Some f) w.io mid.io met.moments) (IsCutThen (then met.kept met.outcome)) (Goal (left met))
+      (λ h more. routine-leads (then met.kept met.outcome) (first_of o met.outcome) met.kept (before ++ met.moments) (sent ++ met.sent) late mid v rest_did h.state h.is_on h.so more
       (stands-by f0 (Some f) (Some h.state) io0 w.io mid.io before met.moments stands h.stands))
       (λ reads cut. down-ends (then met.kept met.outcome) (first_of o met.outcome) met.kept (before ++ met.moments) (sent ++ met.sent) late mid v cut rest_did (reads-by f0 (Some f) io0 w.io mid.io before met.moments stands reads))
-      (walk-leads means plan goes_on acts early u w mid acts_did leads.0 f on there (leads.1 f)) (leads.2 early))
+      (walk-stands (up_act_rules plan) goes_on IsThere means acts early u w mid acts_did f on (up-leads plan goes_on acts u leads.0 f there (leads.1 f))) (leads.2 early))
     where
       met : Walked UpState Act (List Meeting)
       met = walk (up_act_rules plan) goes_on next_of u early acts
@@ -375,9 +188,6 @@ module _ {D : Type 0} (means : Meaning D) (plan : Plan) (heap : ℕ) (job : Job 
 
   abbrev pub JobStands : Type 0
   JobStands = StandsOn (means.on w.device) w.io (means.on v.device) v.io met_moments
-
-  abbrev Walks : World D → Type 0
-  Walks x = StandsOn (means.on x.device) x.io (means.on v.device) v.io (walk_routine (up_act_rules plan) next_of job.from j.meetings job.routine).moments
 
   -- what is there in the device is what its routine begins from
   leads-on : job.first ≡ [] → (f : FwState) → means.on w.device ≡ Some f → there_in f ≡ job.from.there → LeadsBy plan job.from job.routine → JobStands

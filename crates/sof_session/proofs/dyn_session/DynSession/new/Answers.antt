@@ -1,7 +1,7 @@
 use Rattle.std.proofs.Common.{◌≡◌, refl, subst, true}
 use Rattle.std.specs.Prelude.{MatchResult}
 use Rattle.sof_session.specs.SessionView.{seat_in}
-use Rattle.sof_session.proofs.UpAgreement.{same-some}
+use Rattle.sof_session.proofs.Agreement.{same-some}
 use Rattle.sof_session.proofs.dyn_session.DynSession.new.Goals as goal
 
 pub invariant_of-result : goal.invariant_of-result

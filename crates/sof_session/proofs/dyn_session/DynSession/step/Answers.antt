@@ -1,9 +1,8 @@
 use Rattle.std.proofs.Common.{arith}
 use Rattle.sof_session.specs.SessionCalls.{ports}
 use Rattle.sof_session.proofs.Agreement.{at}
-use Rattle.sof_session.proofs.UpFew.{most-few}
 use Rattle.sof_session.proofs.UpMode.{up-stepped}
-use Rattle.sof_session.proofs.UpStepDone.{use-most}
+use Rattle.sof_session.proofs.ModeSteps.{few-by}
 use Rattle.sof_session.proofs.dyn_session.DynSession.step.Goals as goal
 
 pub returns-clause-stepped : goal.returns-clause-stepped
@@ -17,7 +16,7 @@ pub returns-clause-sent : goal.returns-clause-sent
 returns-clause-sent g c =
     let old = c.self.inside.session in
     rw (← c.self.view_is)
-    omega (arith, c.step.ensures.sent, use-most old.up c.self.invariant c.args.command.now, most-few c.args.command.now)
+    omega (arith, c.step.ensures.sent, few-by old.up c.args.command.now)
 
 pub invariant_of-self : goal.invariant_of-self
 invariant_of-self g c =

@@ -122,7 +122,7 @@ returns-in-Refuse g c =
     let error = c.in-Refuse.error in
     let meant = is-error error (refuse-in k error (in-range-of c.args.command.now (commands.Refuse k error) c.in-Refuse.is c.requires.numbers)).1 in
     assumption (by-command g.P.Dsp.means old done.new.self io io done.result c.args.command.now (commands.Refuse k error) c.in-Refuse.is
-    (fate-steps g.P.Dsp.means old done.new.self io (done.ensures.stays io) c.requires.few c.requires.empty done.result k (Refuse error) (commands.Refuse k error) (λ doing. refl) (λ doing. refl) refl refl
+    (fate-steps g.P.Dsp.means old done.new.self io (done.ensures.stays io) c.requires.few c.requires.empty done.result k (Refuse error) (commands.Refuse k error) (λ doing. refl) (λ doing. refl) refl
     (subst (λ (e : ℤ). PlanRan k (Refuse e) old done.new.self done.result) (as-is error meant) done.ensures.ran)))
 
 pub returns-in-Drop : goal.returns-in-Drop
@@ -132,7 +132,7 @@ returns-in-Drop g c =
     let io = ports c.args.io.now c.args.out.now in
     let k = c.in-Drop.k in
     assumption (by-command g.P.Dsp.means old done.new.self io io done.result c.args.command.now (commands.Drop k) c.in-Drop.is
-    (fate-steps g.P.Dsp.means old done.new.self io (done.ensures.stays io) c.requires.few c.requires.empty done.result k Drop (commands.Drop k) (λ doing. refl) (λ doing. refl) refl refl done.ensures.ran))
+    (fate-steps g.P.Dsp.means old done.new.self io (done.ensures.stays io) c.requires.few c.requires.empty done.result k Drop (commands.Drop k) (λ doing. refl) (λ doing. refl) refl done.ensures.ran))
 
 pub returns-in-Lose : goal.returns-in-Lose
 returns-in-Lose g c =
@@ -141,7 +141,7 @@ returns-in-Lose g c =
     let io = ports c.args.io.now c.args.out.now in
     let k = c.in-Lose.k in
     assumption (by-command g.P.Dsp.means old done.new.self io io done.result c.args.command.now (commands.Lose k) c.in-Lose.is
-    (fate-steps g.P.Dsp.means old done.new.self io (done.ensures.stays io) c.requires.few c.requires.empty done.result k Lose (commands.Lose k) (λ doing. refl) (λ doing. refl) refl refl done.ensures.ran))
+    (fate-steps g.P.Dsp.means old done.new.self io (done.ensures.stays io) c.requires.few c.requires.empty done.result k Lose (commands.Lose k) (λ doing. refl) (λ doing. refl) refl done.ensures.ran))
 
 pub returns-in-Lag : goal.returns-in-Lag
 returns-in-Lag g c =

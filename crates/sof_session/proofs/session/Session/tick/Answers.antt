@@ -2,7 +2,7 @@ use Rattle.std.proofs.Common.{sym, subst, arith, ap, ℕ, Bool, List}
 use Rattle.host_widgets.specs.declared.kept.Power.{Power}
 use Rattle.sof_session.specs.SessionCalls.{ports}
 use Rattle.sof_session.proofs.TickAgreement.{TickedBy, off-ticked, AreAgreed-ticked, ticked-ends}
-use Rattle.sof_session.proofs.TickModes.{ticked-step}
+use Rattle.sof_session.proofs.TickSteps.{ticked-step}
 use Rattle.sof_session.proofs.Writings.{all-room}
 use Rattle.sof_session.proofs.session.Session.tick.Goals as goal
 

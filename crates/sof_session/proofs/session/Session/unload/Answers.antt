@@ -1,11 +1,10 @@
 use Rattle.std.proofs.Common.{refl}
 use Rattle.sof_script.specs.declared.script.Command.TheVariants as commands
-use Rattle.sof_session.specs.CommandTests.{fault_of}
 use Rattle.sof_session.specs.SessionCalls.{ports}
 use Rattle.sof_session.proofs.Agreement.{seat-agrees}
 use Rattle.sof_session.proofs.ModeCalls.{same-sent, unload-steps, made-steps}
 use Rattle.sof_session.proofs.Stepping.{same-ports}
-use Rattle.sof_session.proofs.UpMakes.{made-state, made-agrees}
+use Rattle.sof_session.proofs.UpCalls.{made-state, made-agrees}
 use Rattle.sof_session.proofs.session.Session.unload.Goals as goal
 
 -- ---- all pipelines are made at a load
@@ -44,11 +43,11 @@ pub returns-in-Some : goal.returns-in-Some
 returns-in-Some g c =
     let inside = c.self.inside in
     let done = c.unload-dropped in
-    rw (← c.self.view_is) (made-steps g.P.Dsp.means (record { link = inside.link; kept = inside.kept; plan = inside.plan; heap = inside.heap; up = inside.up }) c.self.invariant (same-sent c.self.view_is c.requires.few) done.new.dsp (ports c.args.io.now c.args.out.now) (ports done.new.io done.new.out) c.requires.empty done.new.kept c.answer_of-in-Some.result c.in-Some.up done.new.up c.in-Some.is commands.Unload refl refl done.result c.answer_of-in-Some.ensures (fault_of inside.plan inside.kept commands.Unload) refl done.ensures.done done.ensures.state done.ensures.agree)
+    rw (← c.self.view_is) (made-steps g.P.Dsp.means (record { link = inside.link; kept = inside.kept; plan = inside.plan; heap = inside.heap; up = inside.up }) c.self.invariant (same-sent c.self.view_is c.requires.few) done.new.dsp (ports c.args.io.now c.args.out.now) (ports done.new.io done.new.out) c.requires.empty done.new.kept c.answer_of-in-Some.result c.in-Some.up done.new.up c.in-Some.is commands.Unload refl refl done.result c.answer_of-in-Some.ensures done.ensures.done done.ensures.state done.ensures.agree)
 
 pub invariant_of-self-in-Some : goal.invariant_of-self-in-Some
 invariant_of-self-in-Some g c =
     let inside = c.self.inside in
     let done = c.unload-dropped in
-    let step = made-steps g.P.Dsp.means (record { link = inside.link; kept = inside.kept; plan = inside.plan; heap = inside.heap; up = inside.up }) c.self.invariant (same-sent c.self.view_is c.requires.few) done.new.dsp (ports c.args.io.now c.args.out.now) (ports done.new.io done.new.out) c.requires.empty done.new.kept c.answer_of-in-Some.result c.in-Some.up done.new.up c.in-Some.is commands.Unload refl refl done.result c.answer_of-in-Some.ensures (fault_of inside.plan inside.kept commands.Unload) refl done.ensures.done done.ensures.state done.ensures.agree in
+    let step = made-steps g.P.Dsp.means (record { link = inside.link; kept = inside.kept; plan = inside.plan; heap = inside.heap; up = inside.up }) c.self.invariant (same-sent c.self.view_is c.requires.few) done.new.dsp (ports c.args.io.now c.args.out.now) (ports done.new.io done.new.out) c.requires.empty done.new.kept c.answer_of-in-Some.result c.in-Some.up done.new.up c.in-Some.is commands.Unload refl refl done.result c.answer_of-in-Some.ensures done.ensures.done done.ensures.state done.ensures.agree in
     step.agreed

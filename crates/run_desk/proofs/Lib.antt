@@ -5,3 +5,4 @@ pub mod BindingLaws
 pub mod SaidLines
 pub mod LoadedBytes
 pub mod LinePhases
+pub mod AskedFiles

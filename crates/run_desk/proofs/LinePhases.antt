@@ -17,9 +17,6 @@ module _ {D : Type 0} (means : DeskMeaning D) where
   then_lines line lines true old m new first others = λ rest turns status end played. first (lines_todo lines rest) turns status end (others rest turns status end played)
   then_lines line lines false old m new first others = λ rest. first (lines_todo lines rest) [] 3 new (others rest)
 
-  pub no_lines : (line : List ℕ) (lines : List (List ℕ)) (old new : D) → DeskPhase means (lines_todo (line ∷ [])) false old new → DeskPhase means (lines_todo (line ∷ lines)) false old new
-  no_lines line lines old new first = λ rest. first (lines_todo lines rest)
-
 -- no turn comes with lines
 pub lines_turnless : (lines : List (List ℕ)) (turns : List Turn) (calls : List DeskCall) (status : ℕ) → DoneBy (lines_todo lines End) turns calls status → turns ≡ []
 lines_turnless [] turns calls status goes = goes.0

@@ -1,10 +1,9 @@
 -- What `replay` ensures, from what it did.
-use Rattle.std.proofs.Common.{◌≡◌, ◌⊎◌, inl, inr, refl, sym, ap, ◌∙◌, subst, ℕ, ◌+◌, ◌<◌, ◌≤◌, Bool, true, false, List, [], ◌∷◌, length, map, Option, Some, None, Ok, Err, codes, arith}
+use Rattle.std.proofs.Common.{◌≡◌, ◌⊎◌, inl, inr, refl, sym, ap, ◌∙◌, subst, ℕ, ◌+◌, ◌≤◌, Bool, true, false, List, [], ◌∷◌, length, map, Option, Some, None, Ok, Err, codes, arith}
 use Rattle.std.specs.Prelude.{is_some, option_map}
 use Rattle.std.specs.Option.{option_or}
-use Rattle.std.specs.List.{AllByRecursion}
 use Rattle.sof_desk.specs.declared.calls.LoadFault.TheVariants.{Failed, TooLong, OutOfMemory}
-use Rattle.sof_desk.specs.Desk.{DeskMeaning, Heard, DeskCall, Load, Did as Done, Read, DeskLed, Loaded}
+use Rattle.sof_desk.specs.Desk.{DeskMeaning, DeskCall, Load, Did as Done, Read, DeskLed}
 use Rattle.stream_law.specs.State.{FwState, view_of}
 use Rattle.mbox_link.specs.Exchange.{Rose}
 use Rattle.mbox_link.specs.Calls.{Meaning}
@@ -20,8 +19,8 @@ use Rattle.sof_session.specs.Lives.{Life, Bare, Turns, device_of}
 use Rattle.sof_script.specs.Tasks.{Turn}
 use Rattle.sof_session.specs.SessionStep.{Calm}
 use Rattle.sof_session.specs.Written.{raised}
-use Rattle.run_desk.specs.Todo.{Todo, End, Says, DoneBy}
-use Rattle.run_desk.specs.TopologyBytes.{AreBytes, BringsBytes}
+use Rattle.run_desk.specs.Todo.{Todo, End, Says, DoneBy, Free}
+use Rattle.run_desk.specs.TopologyBytes.{AreBytes}
 use Rattle.run_desk.specs.Lines.{no_memory_line, with_newline}
 use Rattle.run_desk.specs.LinesTodo.{lines_todo}
 use Rattle.run_desk.specs.DeskCalls.{heard_in, saying}
@@ -31,10 +30,10 @@ use Rattle.run_replay.specs.ReplayTodo.{replayed_todo, replay}
 use Rattle.run_replay.specs.Replays.{reply_after, fault_from, replay_fault, replayed_lines, ReplayVerdict, Replays}
 use Rattle.run_desk.proofs.SaidLines.{said}
 use Rattle.ipc3_trace.proofs.AlikeViews.{alike-view}
-use Rattle.run_desk.proofs.LoadedBytes.{loads_bring}
 use Rattle.run_desk.proofs.LinePhases.{lines_turnless}
 use Rattle.run_replay.proofs.ReplayWalks.{Came, walk}
 use Rattle.run_replay.proofs.ReplayCounts.{stopped-not, booted, fails}
+use Rattle.run_desk.proofs.AskedFiles.{Asked, Brought, Longer, Missing, Broken, unless_cut, where_free, asked, judged}
 
 -- ---- the lines
 
@@ -73,6 +72,10 @@ last_alone es on turns made status goes = lines_turnless (replay_lines (tally_of
 
 -- ---- the bytes
 
+-- what is to do with them
+abbrev done_with : ℕ → List ℕ → Todo
+done_with room bytes = Free (replayed_todo room (trace_in bytes).0 (trace_in bytes).1)
+
 or_none : {A : Type 0} (o rest : Option A) → option_or o rest ≡ None → rest ≡ None
 or_none None rest is = is
 or_none (Some a) rest is = absurd (cc is)
@@ -93,32 +96,14 @@ module _ {P : Type 0} (dsp : Meaning P) (p : P) (last : Life P) (turns : List Tu
   abbrev end : Option TraceFault
   end = (trace_in bytes).1
 
-  abbrev Verdict : List DeskCall → ℕ → Type 0
-  Verdict made status = ReplayVerdict room name bytes made status
-
-  wanting : (made all : List DeskCall) (status : ℕ) → Says no_memory_line 7 turns made status → Verdict all status
-  wanting made all status says = want (said no_memory_line 7 turns made status says)
-    where
-      want : (status ≡ 3) ⊎ ((status ≡ 7) × (made ≡ saying no_memory_line ∷ [])) → Verdict all status
-      want (inl three) = inl (inl three)
-      want (inr seven) = inl (inr seven.0)
-
-  long : (made : List DeskCall) (call : DeskCall) (status : ℕ) → call ≡ Load name 16777216 (Err TooLong) → 16777216 < length bytes → Says (codes "too long trace\n") 5 turns made status → Verdict (call ∷ made) status
-  long made call status is over says = want (said (codes "too long trace\n") 5 turns made status says)
-    where
-      want : (status ≡ 3) ⊎ ((status ≡ 5) × (made ≡ saying (codes "too long trace\n") ∷ [])) → Verdict (call ∷ made) status
-      want (inl three) = inl (inl three)
-      want (inr five) = inr (inl (five.0, over, λ i. is i ∷ five.1 i))
-
   module _ (none : dsp.pending p ≡ 0) (calm : Calm dsp p (device_of last)) where
     -- the result of the records
     came : (made : List DeskCall) (status : ℕ) → DoneBy (replayed_todo room es end) turns made status → Came dsp room end (last_lines es) (last_alone es) (replay_fault room es end) (steps_of es) made status last
     came made status goes = walk dsp room end (last_lines es) (last_alone es) es p turns made status last None None 0 turned goes (ap (option_map quiescent) off) none calm
 
-    -- the bytes are stated
-    tells : AreBytes bytes → length bytes ≤ 16777216 → (call : DeskCall) → call ≡ Load name 16777216 (Ok bytes) → (made : List DeskCall) (status : ℕ) → DoneBy (replayed_todo room es end) turns made status → Verdict (call ∷ made) status
-    tells are short call loads made status goes = by (replay_fault room es end) refl (came made status goes)
-      where
+    module _ {D : Type 0} (means : DeskMeaning D) (made : List DeskCall) (status : ℕ) (d e : D) where
+      -- the records were given up to the first fault, or all
+      module _ (later : List DeskCall) (is : made ≡ Load name 16777216 (Ok bytes) ∷ later) (short : length bytes ≤ 16777216) (are : AreBytes bytes) where
         trace : IsTraceOf bytes es end
         trace = has-trace bytes are
 
@@ -126,63 +111,21 @@ module _ {P : Type 0} (dsp : Meaning P) (p : P) (last : Life P) (turns : List Tu
         whole None is fault = refl
         whole (Some f) is fault = absurd (broken_told room es f None None 0 (subst (λ (x : Option TraceFault). fault_from room es x None None 0 ≡ None) is fault))
 
-        by : (o : Option ReplayFault) → replay_fault room es end ≡ o → Came dsp room end (last_lines es) (last_alone es) o (steps_of es) made status last → Verdict (call ∷ made) status
-        by (Some fault) is came = want (said (replay_fault_line fault) 2 [] made status came)
-          where
-            want : (status ≡ 3) ⊎ ((status ≡ 2) × (made ≡ saying (replay_fault_line fault) ∷ [])) → Verdict (call ∷ made) status
-            want (inl three) = inl (inl three)
-            want (inr two) = inr (inr (inl (es, end, fault, two.0, short, trace, is, λ i. loads i ∷ two.1 i)))
-        by None is came = want (lines_came (replay_lines (tally_of es) (is_some (steps_of es))) [] made status came.0)
-          where
-            none_is : end ≡ None
-            none_is = whole end refl is
+        all : (others : List DeskCall) → later ≡ others → made ≡ Load name 16777216 (Ok bytes) ∷ others
+        all others same = is ∙ ap (λ cs. Load name 16777216 (Ok bytes) ∷ cs) same
 
-            want : (status ≡ 3) ⊎ ((status ≡ 0) × (made ≡ map saying (replayed_lines es))) → Verdict (call ∷ made) status
-            want (inl three) = inl (inl three)
-            want (inr zero) = inr (inr (inr (
-              es,
-              zero.0,
-              short,
-              subst (IsTraceOf bytes es) none_is trace,
-              subst (λ (x : Option TraceFault). replay_fault room es x ≡ None) none_is is,
-              λ i. loads i ∷ zero.1 i,
-            )))
+        by : (o : Option ReplayFault) → replay_fault room es end ≡ o → Came dsp room end (last_lines es) (last_alone es) o (steps_of es) later status last → ReplayVerdict room name bytes made status
+        by (Some fault) fails came =
+            unless_cut status (said (replay_fault_line fault) 2 [] later status came) (λ two. inr (inl (es, end, fault, two.0, short, trace, fails, all (saying (replay_fault_line fault) ∷ []) two.1)))
+        by None passes came =
+            let none_is : end ≡ None = whole end refl passes in
+            unless_cut status (lines_came (replay_lines (tally_of es) (is_some (steps_of es))) [] later status came.0)
+            (λ zero. inr (inr (es, zero.0, short, subst (IsTraceOf bytes es) none_is trace, subst (λ (x : Option TraceFault). replay_fault room es x ≡ None) none_is passes, all (map saying (replayed_lines es)) zero.1)))
 
-    free : AreBytes bytes → length bytes ≤ 16777216 → (call : DeskCall) → call ≡ Load name 16777216 (Ok bytes) → (made : List DeskCall) (status : ℕ) → DoneBy (replayed_todo room es end) turns made status ⊎ Says no_memory_line 7 turns made status → Verdict (call ∷ made) status
-    free are short call loads made status (inl goes) = tells are short call loads made status goes
-    free are short call loads made status (inr says) = wanting made (call ∷ made) status says
-
-    module _ {D : Type 0} (means : DeskMeaning D) where
-      brought : (got : List ℕ) → got ≡ bytes → (n : List ℕ) (l : ℕ) (made : List DeskCall) (status : ℕ) (d e : D) → DoneBy (replay room name) turns (Load n l (Ok got) ∷ made) status → DeskLed means d (Load n l (Ok got) ∷ made) e → Verdict (Load n l (Ok got) ∷ made) status
-      brought got same n l made status d e goes led =
-          let loaded : Loaded means n l (Ok got) d led.0 = led.1 in
-          let short : length bytes ≤ 16777216 = subst (λ k. length bytes ≤ k) goes.1 (subst (λ xs. length xs ≤ l) same loaded.answers.0) in
-          free (subst (λ xs. AreBytes xs) same goes.3) short (Load n l (Ok got)) (λ i. Load (goes.0 i) (goes.1 i) (Ok (same i))) made status
-          (subst (λ xs. DoneBy (replayed_todo room (trace_in xs).0 (trace_in xs).1) turns made status ⊎ Says no_memory_line 7 turns made status) same goes.2)
-
-      judge : (made : List DeskCall) (status : ℕ) (d e : D) → means.holds d name ≡ Some bytes → DoneBy (replay room name) turns made status → DeskLed means d made e → Verdict made status
-      judge [] status d e told goes led = absurd goes
-      judge (Done act done ∷ made) status d e told goes led = absurd goes
-      judge (Read n size got ∷ made) status d e told goes led = absurd goes
-      judge (Load n l (Ok got) ∷ made) status d e told goes led =
-          let loaded : Loaded means n l (Ok got) d led.0 = led.1 in
-          brought got (loaded.answers.1 bytes (ap (means.holds d) goes.0 ∙ told)) n l made status d e goes led
-      judge (Load n l (Err TooLong) ∷ made) status d e told goes led =
-          let loaded : Loaded means n l (Err TooLong) d led.0 = led.1 in
-          long made (Load n l (Err TooLong)) status (λ i. Load (goes.0 i) (goes.1 i) (Err TooLong)) (subst (λ k. k < length bytes) goes.1 (loaded.answers bytes (ap (means.holds d) goes.0 ∙ told))) goes.2
-      judge (Load n l (Err OutOfMemory) ∷ made) status d e told goes led = wanting made (Load n l (Err OutOfMemory) ∷ made) status goes.2
-      judge (Load n l (Err Failed) ∷ made) status d e told goes led = inl (inl goes.2.2)
-
-      heard_judge : (made : List DeskCall) (status : ℕ) (d e : D) → heard_in made ≡ Ok bytes ∷ [] → DoneBy (replay room name) turns made status → DeskLed means d made e → Verdict made status
-      heard_judge [] status d e heard goes led = absurd goes
-      heard_judge (Done act done ∷ made) status d e heard goes led = absurd goes
-      heard_judge (Read n size got ∷ made) status d e heard goes led = absurd goes
-      heard_judge (Load n l (Ok got) ∷ made) status d e heard goes led =
-          let same : got ≡ bytes = cc heard in
-          brought got same n l made status d e goes led
-      heard_judge (Load n l (Err TooLong) ∷ made) status d e heard goes led = absurd (cc heard)
-      heard_judge (Load n l (Err OutOfMemory) ∷ made) status d e heard goes led = absurd (cc heard)
-      heard_judge (Load n l (Err Failed) ∷ made) status d e heard goes led = absurd (cc heard)
+      judge : (means.holds d name ≡ Some bytes) ⊎ (heard_in made ≡ Ok bytes ∷ []) → DoneBy (replay room name) turns made status → DeskLed means d made e → ReplayVerdict room name bytes made status
+      judge told goes led =
+          judged _ _ _ _ turns means bytes made status d e (asked _ _ _ (done_with room) turns means bytes made status d e told goes led)
+          (λ later is short are goes. where_free turns later status goes (λ gave. by later is short are (replay_fault room es end) refl (came later status gave)))
 
   -- ---- with status 0
 
@@ -193,22 +136,20 @@ module _ {P : Type 0} (dsp : Meaning P) (p : P) (last : Life P) (turns : List Tu
       by (inl three) = cc (sym zero ∙ three)
       by (inr is) = omega (arith, zero, is.0)
 
-  -- the records were given
-  given : (made : List DeskCall) (status : ℕ) → heard_in made ≡ Ok bytes ∷ [] → status ≡ 0 → DoneBy (replay room name) turns made status → (later : List DeskCall) × DoneBy (replayed_todo room es end) turns later 0
-  given [] status heard zero goes = absurd goes
-  given (Done act done ∷ made) status heard zero goes = absurd goes
-  given (Read n size got ∷ made) status heard zero goes = absurd goes
-  given (Load n l (Ok got) ∷ made) status heard zero goes = by (subst (λ xs. DoneBy (replayed_todo room (trace_in xs).0 (trace_in xs).1) turns made status ⊎ Says no_memory_line 7 turns made status) same goes.2)
+  -- the load brought bytes, and the records were given
+  given : {D : Type 0} (means : DeskMeaning D) (made : List DeskCall) (status : ℕ) (d e : D) → heard_in made ≡ Ok bytes ∷ [] → status ≡ 0 → DoneBy (replay room name) turns made status → DeskLed means d made e
+      → AreBytes bytes × ((later : List DeskCall) × DoneBy (replayed_todo room es end) turns later 0)
+  given means made status d e heard zero goes led = by (asked _ _ _ _ turns means bytes made status d e (inr heard) goes led)
     where
-      same : got ≡ bytes
-      same = cc heard
+      gave : (later : List DeskCall) → DoneBy (replayed_todo room es end) turns later status ⊎ Says no_memory_line 7 turns later status → DoneBy (replayed_todo room es end) turns later 0
+      gave later (inl done) = subst (λ n. DoneBy (replayed_todo room es end) turns later n) zero done
+      gave later (inr says) = absurd (says_not_zero no_memory_line 6 later status says zero)
 
-      by : DoneBy (replayed_todo room es end) turns made status ⊎ Says no_memory_line 7 turns made status → (later : List DeskCall) × DoneBy (replayed_todo room es end) turns later 0
-      by (inl done) = (made, subst (λ n. DoneBy (replayed_todo room es end) turns made n) zero done)
-      by (inr says) = absurd (says_not_zero no_memory_line 6 made status says zero)
-  given (Load n l (Err TooLong) ∷ made) status heard zero goes = absurd (cc heard)
-  given (Load n l (Err OutOfMemory) ∷ made) status heard zero goes = absurd (cc heard)
-  given (Load n l (Err Failed) ∷ made) status heard zero goes = absurd (cc heard)
+      by : Asked name 16777216 (codes "too long trace\n") (done_with room) turns means bytes made status d e → AreBytes bytes × ((later : List DeskCall) × DoneBy (replayed_todo room es end) turns later 0)
+      by (Brought later m is short are kept holds goes led) = (are, (later, gave later goes))
+      by (Longer later is over says) = absurd (says_not_zero (codes "too long trace\n") 4 later status says zero)
+      by (Missing later m kept says led) = absurd (says_not_zero no_memory_line 6 later status says zero)
+      by (Broken kept three none) = absurd (cc (sym zero ∙ three))
 
   view_by : dsp.pending p ≡ 0 → Calm dsp p (device_of last) → (later : List DeskCall) → DoneBy (replayed_todo room es end) turns later 0 → option_map view_of (dsp.on (device_of last)) ≡ option_map view_of (steps_of es)
   view_by none calm later goes = by (replay_fault room es end) (came none calm later 0 goes)
@@ -249,21 +190,13 @@ module _ {D P : Type 0} (means : DeskMeaning D) (dsp : Meaning P) (words : List 
   replays = record {
     failed = λ name is ten. failed_by dsp p last turns turned off name calls (subst (λ n. DoneBy (replay (dsp.most p) name) turns calls n) ten (goes name is));
     untouched = alone;
-    judged = λ name bytes is by calm. elim by [
-      | inl told ↦ judge dsp p last turns turned off name bytes none calm means calls status old new told (goes name is) led
-      | inr heard ↦ heard_judge dsp p last turns turned off name bytes none calm means calls status old new heard (goes name is) led
-    ];
+    judged = λ name bytes is by calm. judge dsp p last turns turned off name bytes none calm means calls status old new by (goes name is) led;
     view = λ name bytes es is heard trace zero calm.
-        let done = given dsp p last turns turned off name bytes calls status heard zero (goes name is) in
-        let same = one-trace bytes (trace_in bytes).0 es (trace_in bytes).1 None (has-trace bytes (bytes_of name is bytes heard)) trace in
-        view_by dsp p last turns turned off name bytes none calm done.0 done.1 ∙ ap (λ (xs : List Entry). option_map view_of (steps_of xs)) same.0;
+        let done = given dsp p last turns turned off name bytes means calls status old new heard zero (goes name is) led in
+        let same = one-trace bytes (trace_in bytes).0 es (trace_in bytes).1 None (has-trace bytes done.0) trace in
+        view_by dsp p last turns turned off name bytes none calm done.1.0 done.1.1 ∙ ap (λ (xs : List Entry). option_map view_of (steps_of xs)) same.0;
     boots = λ name bytes es is heard trace zero.
-        let done = given dsp p last turns turned off name bytes calls status heard zero (goes name is) in
-        let same = one-trace bytes (trace_in bytes).0 es (trace_in bytes).1 None (has-trace bytes (bytes_of name is bytes heard)) trace in
-        boots_by dsp p last turns turned off name bytes done.0 done.1 ∙ ap (λ (xs : List Entry). raised (tally_of xs).boots (dsp.boots p)) same.0;
+        let done = given dsp p last turns turned off name bytes means calls status old new heard zero (goes name is) led in
+        let same = one-trace bytes (trace_in bytes).0 es (trace_in bytes).1 None (has-trace bytes done.0) trace in
+        boots_by dsp p last turns turned off name bytes done.1.0 done.1.1 ∙ ap (λ (xs : List Entry). raised (tally_of xs).boots (dsp.boots p)) same.0;
   }
-    where
-      -- what was loaded is bytes
-      bytes_of : (name : List ℕ) → replay_of words ≡ Some name → (bytes : List ℕ) → heard_in calls ≡ Ok bytes ∷ [] → AreBytes bytes
-      bytes_of name is bytes heard =
-          (subst (λ (hs : List Heard). AllByRecursion BringsBytes hs) heard (loads_bring (replay (dsp.most p) name) turns calls status (goes name is))).0

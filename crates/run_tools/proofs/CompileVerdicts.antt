@@ -1,17 +1,17 @@
 -- What `compile` ensures, from what it did.
-use Rattle.std.proofs.Common.{◌≡◌, ◌⊎◌, inl, inr, ℕ, nat_eq, ◌≤◌, ◌<◌, Bool, true, false, List, [], ◌∷◌, length, Option, Some, None, Result, Ok, Err, refl, sym, ◌∙◌, ap, subst, codes, arith, if◌then◌else◌}
-use Rattle.sof_desk.specs.declared.calls.LoadFault.TheVariants.{Failed, TooLong, OutOfMemory}
-use Rattle.sof_desk.specs.Desk.{DeskMeaning, DeskPlace, Slot, Spoken, DeskAct, Create, Put, DeskCall, Load, Did, Read, DeskLed, Loaded, Acted, Part, Takes, with_more, with_nothing, written_after}
+use Rattle.std.proofs.Common.{◌≡◌, ◌⊎◌, inl, inr, ℕ, nat_eq, ◌≤◌, Bool, true, false, List, [], ◌∷◌, length, Option, Some, None, Result, Ok, Err, refl, sym, ◌∙◌, ap, subst, if◌then◌else◌}
+use Rattle.sof_desk.specs.declared.calls.LoadFault.TheVariants.{OutOfMemory}
+use Rattle.sof_desk.specs.Desk.{DeskMeaning, DeskPlace, Slot, Spoken, DeskAct, Create, Put, DeskCall, Load, Did, Read, DeskLed, Acted, Part, Takes, with_more, with_nothing, written_after}
 use Rattle.sof_script.specs.Tasks.{Turn}
 use Rattle.tplg_model.specs.declared.block.Topology.{Topology}
 use Rattle.tplg_model.specs.File.{IsTopology, spelling}
 use Rattle.tplg_model.proofs.FileLaws.{IsFileOf-spelling}
 use Rattle.tplg_compile.specs.declared.source_fault.SourceFault.{SourceFault}
 use Rattle.tplg_compile.specs.declared.source_fault.SourceFault.TheVariants as fault
-use Rattle.tplg_compile.specs.Compiled.{IsCompiled, IsCompileFault}
+use Rattle.tplg_compile.specs.Compiled.{IsCompileFault}
 use Rattle.tplg_compile.specs.InOrder.{compiled_of}
 use Rattle.tplg_compile.proofs.CompileLaws.{compiled_take, compiled_again, text_fault_take}
-use Rattle.run_desk.specs.Todo.{Todo, End, Do, Says, DoneBy, Played}
+use Rattle.run_desk.specs.Todo.{Todo, End, Do, Says, DoneBy, Played, Free}
 use Rattle.run_desk.specs.Lines.{no_memory_line, with_newline}
 use Rattle.run_desk.specs.LinesTodo.{lines_todo}
 use Rattle.run_words.specs.ToolForms.{CompileNames, compile_of}
@@ -24,6 +24,11 @@ use Rattle.run_tools.specs.Compiles.{making, CompileVerdict, compiled_at, MadeFi
 use Rattle.run_words.proofs.Requests.{compile_asked}
 use Rattle.run_desk.proofs.Steps.{no_turns}
 use Rattle.run_desk.proofs.SaidLines.{said, none_more, nothing, behind, line_parted}
+use Rattle.run_desk.proofs.AskedFiles.{unless_cut, where_free, asked_alone, asked, judged, asked_wrote}
+
+-- what is to do with the bytes
+abbrev done_with : CompileNames → List ℕ → Todo
+done_with names bytes = Free (compiled_todo names.out (compiled_of bytes))
 
 -- ---- the device
 
@@ -46,15 +51,6 @@ compiled_alone out (Ok t) turns calls status (inl goes) = file_alone out (spelli
 compiled_alone out (Err f) turns calls status (inl goes) = no_turns (source_line f) (source_status f) turns calls status goes
 compiled_alone out r turns calls status (inr says) = no_turns no_memory_line 7 turns calls status says
 
-no_turn : (names : CompileNames) (turns : List Turn) (calls : List DeskCall) (status : ℕ) → DoneBy (compile names) turns calls status → turns ≡ []
-no_turn names turns [] status goes = absurd goes
-no_turn names turns (Did act done ∷ calls) status goes = absurd goes
-no_turn names turns (Read n size got ∷ calls) status goes = absurd goes
-no_turn names turns (Load n l (Ok got) ∷ calls) status goes = compiled_alone names.out (compiled_of got) turns calls status goes.2
-no_turn names turns (Load n l (Err TooLong) ∷ calls) status goes = no_turns (codes "too long source\n") 5 turns calls status goes.2
-no_turn names turns (Load n l (Err OutOfMemory) ∷ calls) status goes = no_turns no_memory_line 7 turns calls status goes.2
-no_turn names turns (Load n l (Err Failed) ∷ calls) status goes = goes.2.0
-
 -- ---- the status
 
 -- a file that was made, or not all of it was
@@ -74,80 +70,25 @@ file_made out bytes turns (Did a true ∷ Did b true ∷ Did c false ∷ calls) 
 file_made out bytes turns (Did a true ∷ Did b true ∷ Did c true ∷ calls) status goes =
     inr (goes.1.1.1.2, λ i. Did (goes.0 i) true ∷ Did (goes.1.0 i) true ∷ Did (goes.1.1.0 i) true ∷ goes.1.1.1.1 i)
 
-module _ (names : CompileNames) (text : List ℕ) where
-  wanting : (turns : List Turn) (calls all : List DeskCall) (status : ℕ) → Says no_memory_line 7 turns calls status → CompileVerdict names text all status
-  wanting turns calls all status says = want (said no_memory_line 7 turns calls status says)
-    where
-      want : (status ≡ 3) ⊎ ((status ≡ 7) × (calls ≡ saying no_memory_line ∷ [])) → CompileVerdict names text all status
-      want (inl three) = inl (inl three)
-      want (inr seven) = inl (inr seven.0)
+-- by the bytes of the source
+module _ (names : CompileNames) (text : List ℕ) (short : length text ≤ 1048576) (turns : List Turn) (calls later : List DeskCall) (status : ℕ) (loads : calls ≡ Load names.source 1048576 (Ok text) ∷ later) where
+  all : (made : List DeskCall) → later ≡ made → calls ≡ Load names.source 1048576 (Ok text) ∷ made
+  all made same = loads ∙ ap (λ cs. Load names.source 1048576 (Ok text) ∷ cs) same
 
-  long : (turns : List Turn) (calls : List DeskCall) (call : DeskCall) (status : ℕ) → call ≡ Load names.source 1048576 (Err TooLong) → 1048576 < length text → Says (codes "too long source\n") 5 turns calls status → CompileVerdict names text (call ∷ calls) status
-  long turns calls call status is over says = want (said (codes "too long source\n") 5 turns calls status says)
-    where
-      want : (status ≡ 3) ⊎ ((status ≡ 5) × (calls ≡ saying (codes "too long source\n") ∷ [])) → CompileVerdict names text (call ∷ calls) status
-      want (inl three) = inl (inl three)
-      want (inr five) = inr (inl (five.0, over, λ i. is i ∷ five.1 i))
+  -- why it is refused is reported with status 4
+  refused : (f : SourceFault) → source_status f ≡ 4 → IsCompileFault text f → Says (source_line f) (source_status f) turns later status → CompileVerdict names text calls status
+  refused f four is says = unless_cut status (said (source_line f) (source_status f) turns later status says) (λ done. inr (inl (f, done.0 ∙ four, short, is, all (saying (source_line f) ∷ []) done.1)))
 
-  module _ (short : length text ≤ 1048576) (call : DeskCall) (loads : call ≡ Load names.source 1048576 (Ok text)) (turns : List Turn) (calls : List DeskCall) (status : ℕ) where
-    -- why it is refused is reported with status 4
-    refused : (f : SourceFault) → source_status f ≡ 4 → IsCompileFault text f → Says (source_line f) (source_status f) turns calls status → CompileVerdict names text (call ∷ calls) status
-    refused f four is says = want (said (source_line f) (source_status f) turns calls status says)
-      where
-        want : (status ≡ 3) ⊎ ((status ≡ source_status f) × (calls ≡ saying (source_line f) ∷ [])) → CompileVerdict names text (call ∷ calls) status
-        want (inl three) = inl (inl three)
-        want (inr done) = inr (inr (inl (f, done.0 ∙ four, short, is, λ i. loads i ∷ done.1 i)))
+  by_end : (r : Result Topology SourceFault) → compiled_of text ≡ r → DoneBy (compiled_todo names.out r) turns later status → CompileVerdict names text calls status
+  by_end (Ok t) is goes =
+      unless_cut status (file_made names.out (spelling t) turns later status goes) (λ done. inr (inr (done.0, short, (t, compiled_take text t is, all (making names.out (spelling t)) done.1))))
+  by_end (Err fault.Syntax) is goes = refused fault.Syntax refl (text_fault_take text fault.Syntax is) goes
+  by_end (Err (fault.Shape list entry)) is goes = refused (fault.Shape list entry) refl (text_fault_take text (fault.Shape list entry) is) goes
+  by_end (Err (fault.Rule rule item)) is goes = refused (fault.Rule rule item) refl (text_fault_take text (fault.Rule rule item) is) goes
+  by_end (Err fault.OutOfMemory) is goes = absurd (text_fault_take text fault.OutOfMemory is)
 
-    compiled : (t : Topology) → IsCompiled text t → DoneBy (file_todo names.out (spelling t) End) turns calls status → CompileVerdict names text (call ∷ calls) status
-    compiled t is goes = want (file_made names.out (spelling t) turns calls status goes)
-      where
-        want : (status ≡ 3) ⊎ ((status ≡ 0) × (calls ≡ making names.out (spelling t))) → CompileVerdict names text (call ∷ calls) status
-        want (inl three) = inl (inl three)
-        want (inr done) = inr (inr (inr (done.0, short, (t, is, λ i. loads i ∷ done.1 i))))
-
-    by_end : (r : Result Topology SourceFault) → compiled_of text ≡ r → DoneBy (compiled_todo names.out r) turns calls status → CompileVerdict names text (call ∷ calls) status
-    by_end (Ok t) is goes = compiled t (compiled_take text t is) goes
-    by_end (Err fault.Syntax) is goes = refused fault.Syntax refl (text_fault_take text fault.Syntax is) goes
-    by_end (Err (fault.Shape list entry)) is goes = refused (fault.Shape list entry) refl (text_fault_take text (fault.Shape list entry) is) goes
-    by_end (Err (fault.Rule rule item)) is goes = refused (fault.Rule rule item) refl (text_fault_take text (fault.Rule rule item) is) goes
-    by_end (Err fault.OutOfMemory) is goes = absurd (text_fault_take text fault.OutOfMemory is)
-
-    free : DoneBy (compiled_todo names.out (compiled_of text)) turns calls status ⊎ Says no_memory_line 7 turns calls status → CompileVerdict names text (call ∷ calls) status
-    free (inl goes) = by_end (compiled_of text) refl goes
-    free (inr says) = wanting turns calls (call ∷ calls) status says
-
-  module _ {D : Type 0} (means : DeskMeaning D) where
-    -- the source's bytes are stated
-    judge : (turns : List Turn) (calls : List DeskCall) (status : ℕ) (d e : D) → means.holds d names.source ≡ Some text → DoneBy (compile names) turns calls status → DeskLed means d calls e → CompileVerdict names text calls status
-    judge turns [] status d e told goes led = absurd goes
-    judge turns (Did act done ∷ calls) status d e told goes led = absurd goes
-    judge turns (Read n size got ∷ calls) status d e told goes led = absurd goes
-    judge turns (Load n l (Ok got) ∷ calls) status d e told goes led =
-        let loaded : Loaded means n l (Ok got) d led.0 = led.1 in
-        let same : got ≡ text = loaded.answers.1 text (ap (means.holds d) goes.0 ∙ told) in
-        let short : length text ≤ 1048576 = subst (λ k. length text ≤ k) goes.1 (subst (λ xs. length xs ≤ l) same loaded.answers.0) in
-        free short (Load n l (Ok got)) (λ i. Load (goes.0 i) (goes.1 i) (Ok (same i))) turns calls status
-        (subst (λ xs. DoneBy (compiled_todo names.out (compiled_of xs)) turns calls status ⊎ Says no_memory_line 7 turns calls status) same goes.2)
-    judge turns (Load n l (Err TooLong) ∷ calls) status d e told goes led =
-        let loaded : Loaded means n l (Err TooLong) d led.0 = led.1 in
-        long turns calls (Load n l (Err TooLong)) status (λ i. Load (goes.0 i) (goes.1 i) (Err TooLong)) (subst (λ k. k < length text) goes.1 (loaded.answers text (ap (means.holds d) goes.0 ∙ told))) goes.2
-    judge turns (Load n l (Err OutOfMemory) ∷ calls) status d e told goes led = wanting turns calls (Load n l (Err OutOfMemory) ∷ calls) status goes.2
-    judge turns (Load n l (Err Failed) ∷ calls) status d e told goes led = inl (inl goes.2.2)
-
-    -- the load brought it
-    heard_judge : (turns : List Turn) (calls : List DeskCall) (status : ℕ) (d e : D) → heard_in calls ≡ Ok text ∷ [] → DoneBy (compile names) turns calls status → DeskLed means d calls e → CompileVerdict names text calls status
-    heard_judge turns [] status d e heard goes led = absurd goes
-    heard_judge turns (Did act done ∷ calls) status d e heard goes led = absurd goes
-    heard_judge turns (Read n size got ∷ calls) status d e heard goes led = absurd goes
-    heard_judge turns (Load n l (Ok got) ∷ calls) status d e heard goes led =
-        let loaded : Loaded means n l (Ok got) d led.0 = led.1 in
-        let same : got ≡ text = cc heard in
-        let short : length text ≤ 1048576 = subst (λ k. length text ≤ k) goes.1 (subst (λ xs. length xs ≤ l) same loaded.answers.0) in
-        free short (Load n l (Ok got)) (λ i. Load (goes.0 i) (goes.1 i) (Ok (same i))) turns calls status
-        (subst (λ xs. DoneBy (compiled_todo names.out (compiled_of xs)) turns calls status ⊎ Says no_memory_line 7 turns calls status) same goes.2)
-    heard_judge turns (Load n l (Err TooLong) ∷ calls) status d e heard goes led = absurd (cc heard)
-    heard_judge turns (Load n l (Err OutOfMemory) ∷ calls) status d e heard goes led = absurd (cc heard)
-    heard_judge turns (Load n l (Err Failed) ∷ calls) status d e heard goes led = absurd (cc heard)
+  by_bytes : DoneBy (compiled_todo names.out (compiled_of text)) turns later status ⊎ Says no_memory_line 7 turns later status → CompileVerdict names text calls status
+  by_bytes goes = where_free turns later status goes (by_end (compiled_of text) refl)
 
 -- ---- what was written
 
@@ -244,39 +185,28 @@ module _ {D : Type 0} (means : DeskMeaning D) where
       by part spoke (inl done) = inr (inr (inr (inl (done.0, subst (λ xs. Spoke means xs d e) done.1 spoke))))
       by part spoke (inr front) = inr (inr (inr (inr (front.0, (part, front.1, spoke)))))
 
+  -- the load failed
+  pub failed_wrote : (bytes line : List ℕ) (e : D) (status : ℕ) → status ≡ 3 → WroteFile means bytes line e e status
+  failed_wrote bytes line e status three = inr (inr (inr (inr (three, ([], (no_memory_line, refl), nothing means e e (λ place. refl))))))
+
   -- the file of a source's topology
   module _ (names : CompileNames) (text : List ℕ) (t : Topology) (short : length text ≤ 1048576) (kept : compiled_of text ≡ Ok t) where
-    abbrev all : List ℕ
-    all = spelling t
+    abbrev written : List ℕ
+    written = spelling t
 
     abbrev last : List ℕ
     last = with_newline (wrote_line (spelling t))
 
-    compiled_wrote : (turns : List Turn) (calls : List DeskCall) (d e : D) (status : ℕ) → DoneBy (compiled_todo names.out (compiled_of text)) turns calls status ⊎ Says no_memory_line 7 turns calls status → DeskLed means d calls e → WroteFile means all last d e status
+    compiled_wrote : (turns : List Turn) (calls : List DeskCall) (d e : D) (status : ℕ) → DoneBy (compiled_todo names.out (compiled_of text)) turns calls status ⊎ Says no_memory_line 7 turns calls status → DeskLed means d calls e → WroteFile means written last d e status
     compiled_wrote turns calls d e status (inl goes) led =
-        file_wrote names.out all turns calls d e status (subst (λ r. DoneBy (compiled_todo names.out r) turns calls status) kept goes) led
-    compiled_wrote turns calls d e status (inr says) led = wanting_wrote all last turns calls d e status says led
+        file_wrote names.out written turns calls d e status (subst (λ r. DoneBy (compiled_todo names.out r) turns calls status) kept goes) led
+    compiled_wrote turns calls d e status (inr says) led = wanting_wrote written last turns calls d e status says led
 
-    compile_wrote : (turns : List Turn) (calls : List DeskCall) (d e : D) (status : ℕ) → means.holds d names.source ≡ Some text → DoneBy (compile names) turns calls status → DeskLed means d calls e → WroteFile means all last d e status
-    compile_wrote turns [] d e status told goes led = absurd goes
-    compile_wrote turns (Did act done ∷ calls) d e status told goes led = absurd goes
-    compile_wrote turns (Read n size got ∷ calls) d e status told goes led = absurd goes
-    compile_wrote turns (Load n l (Ok got) ∷ calls) d e status told goes led =
-        let loaded : Loaded means n l (Ok got) d led.0 = led.1 in
-        let same : got ≡ text = loaded.answers.1 text (ap (means.holds d) goes.0 ∙ told) in
-        loaded_wrote all last d led.0 e status loaded.wrote
-        (compiled_wrote turns calls led.0 e status (subst (λ xs. DoneBy (compiled_todo names.out (compiled_of xs)) turns calls status ⊎ Says no_memory_line 7 turns calls status) same goes.2) led.2)
-    compile_wrote turns (Load n l (Err TooLong) ∷ calls) d e status told goes led =
-        let loaded : Loaded means n l (Err TooLong) d led.0 = led.1 in
-        let over : l < length text = loaded.answers text (ap (means.holds d) goes.0 ∙ told) in
-        let limit : l ≡ 1048576 = goes.1 in
-        absurd (omega (arith, over, limit, short))
-    compile_wrote turns (Load n l (Err OutOfMemory) ∷ calls) d e status told goes led =
-        loaded_wrote all last d led.0 e status (let loaded : Loaded means n l (Err OutOfMemory) d led.0 = led.1 in loaded.wrote) (wanting_wrote all last turns calls led.0 e status goes.2 led.2)
-    compile_wrote turns (Load n l (Err Failed) ∷ calls) d e status told goes led =
-        let loaded : Loaded means n l (Err Failed) d led.0 = led.1 in
-        let same : e ≡ led.0 = subst (λ cs. DeskLed means led.0 cs e) goes.2.1 led.2 in
-        inr (inr (inr (inr (goes.2.2, ([], (no_memory_line, refl), nothing means d e (λ place. ap (λ x. means.wrote x place) same ∙ loaded.wrote place))))))
+    compile_wrote : (turns : List Turn) (calls : List DeskCall) (d e : D) (status : ℕ) → means.holds d names.source ≡ Some text → DoneBy (compile names) turns calls status → DeskLed means d calls e → WroteFile means written last d e status
+    compile_wrote turns calls d e status told goes led =
+        let found = asked _ _ _ (done_with names) turns means text calls status d e (inl told) goes led in
+        asked_wrote _ _ _ _ turns means text (λ m. WroteFile means written last m e status) calls status d e short found
+        (λ m kept. loaded_wrote written last d m e status kept) (λ later m are. compiled_wrote turns later m e status) (λ later m. wanting_wrote written last turns later m e status) (failed_wrote written last e status)
 
 -- ---- what was made is a topology, by what the words ask for
 
@@ -296,16 +226,18 @@ module _ {D P : Type 0} (means : DeskMeaning D) (words : List (List ℕ)) (old n
   goes_on names is = subst (λ what. DoneBy what turns played.calls status) (only names is) played.goes
 
   untouched : (names : CompileNames) → compile_of words ≡ Some names → q ≡ p
-  untouched names is = still (no_turn names turns played.calls status (goes_on names is))
+  untouched names is = still (asked_alone _ _ _ (done_with names) turns played.calls status (goes_on names is) (λ got later. compiled_alone names.out (compiled_of got) turns later status))
+
+  judges : (names : CompileNames) (text : List ℕ) → compile_of words ≡ Some names → (means.holds old names.source ≡ Some text) ⊎ (heard_in played.calls ≡ Ok text ∷ []) → CompileVerdict names text played.calls status
+  judges names text named by =
+      judged _ _ _ _ turns means text played.calls status old new (asked _ _ _ (done_with names) turns means text played.calls status old new by (goes_on names named) played.led)
+      (λ later is short are. by_bytes names text short turns played.calls later status is)
 
   pub compiles : Compiles means words old p played.calls status new q
   compiles =
       record {
         alone = untouched;
-        judged = λ names text is by. elim by [
-          | inl told ↦ judge names text means turns played.calls status old new told (goes_on names is) played.led
-          | inr heard ↦ heard_judge names text means turns played.calls status old new heard (goes_on names is) played.led
-        ];
+        judged = judges;
         wrote = λ names text t named told short is. compile_wrote means names text t short (compiled_again text t is) turns played.calls old new status told (goes_on names named) played.led;
         reads_back = λ names text t named told is done. (makes names text t (record { named = named; told = told }) (compiled_again text t is) done, IsFileOf-spelling t);
       }

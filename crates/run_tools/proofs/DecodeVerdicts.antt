@@ -1,9 +1,8 @@
 -- What `decode` ensures, from what it did.
-use Rattle.std.proofs.Common.{◌≡◌, ◌⊎◌, inl, inr, ℕ, ◌≤◌, ◌<◌, true, false, List, [], ◌∷◌, ◌++◌, length, map, Option, Some, None, Ok, Err, refl, sym, ◌∙◌, ap, subst, codes, arith}
+use Rattle.std.proofs.Common.{◌≡◌, ◌⊎◌, inl, inr, ℕ, ◌≤◌, true, false, List, [], ◌∷◌, ◌++◌, length, map, Option, Some, None, Ok, refl, sym, ◌∙◌, ap, subst}
 use Rattle.std.specs.List.{concat}
 use Rattle.std.proofs.lemmas.List.{append-nil}
-use Rattle.sof_desk.specs.declared.calls.LoadFault.TheVariants.{Failed, TooLong, OutOfMemory}
-use Rattle.sof_desk.specs.Desk.{DeskMeaning, DeskCall, Load, Did, Read, DeskLed, Loaded, Acted}
+use Rattle.sof_desk.specs.Desk.{DeskMeaning, DeskCall, Load, Did, Read, DeskLed, Acted}
 use Rattle.ipc3_trace.specs.declared.entry.Entry.{Entry}
 use Rattle.ipc3_trace.specs.declared.fault.TraceFault.{TraceFault}
 use Rattle.ipc3_trace.specs.EntryLines.{entry_line}
@@ -12,8 +11,8 @@ use Rattle.ipc3_trace.specs.Reading.{trace_in}
 use Rattle.ipc3_trace.specs.FaultLines.{trace_fault_line}
 use Rattle.ipc3_trace.proofs.WholeLaws.{has-trace, one-trace}
 use Rattle.sof_script.specs.Tasks.{Turn}
-use Rattle.run_desk.specs.Todo.{Says, DoneBy, Played, Todo}
-use Rattle.run_desk.specs.Lines.{no_memory_line, with_newline}
+use Rattle.run_desk.specs.Todo.{DoneBy, Played, Todo}
+use Rattle.run_desk.specs.Lines.{with_newline}
 use Rattle.run_desk.specs.TopologyBytes.{AreBytes}
 use Rattle.run_words.specs.TraceForms.{decode_of}
 use Rattle.run_tools.specs.TraceLines.{trace_lines, trace_status}
@@ -25,12 +24,17 @@ use Rattle.run_tools.specs.Decodes.{DecodeVerdict, Decodes}
 use Rattle.run_desk.proofs.Steps.{no_turns}
 use Rattle.run_desk.proofs.SaidLines.{said, front_behind, nothing, behind, put, took, Parted, line_failed, line_parted}
 use Rattle.run_tools.proofs.CheckVerdicts.{loaded_told, all_told, wanting_told, failed_told}
+use Rattle.run_desk.proofs.AskedFiles.{unless_cut, asked_alone, asked, judged, asked_wrote}
 
 -- ---- the words
 
 -- what is to do with these bytes
 abbrev ToTell : List ℕ → List Turn → List DeskCall → ℕ → Type 0
 ToTell bytes turns calls status = DoneBy (decoded_todo (trace_in bytes).0 (trace_in bytes).1) turns calls status
+
+-- what is to do with the bytes
+abbrev done_with : List ℕ → Todo
+done_with bytes = decoded_todo (trace_in bytes).0 (trace_in bytes).1
 
 -- ---- the device
 
@@ -42,15 +46,6 @@ told_alone (e ∷ es) fault turns (Load name limit heard ∷ calls) status goes 
 told_alone (e ∷ es) fault turns (Read n size got ∷ calls) status goes = absurd goes
 told_alone (e ∷ es) fault turns (Did act true ∷ calls) status goes = told_alone es fault turns calls status goes.1
 told_alone (e ∷ es) fault turns (Did act false ∷ calls) status goes = goes.1.0
-
-no_turn : (name : List ℕ) (turns : List Turn) (calls : List DeskCall) (status : ℕ) → DoneBy (decode name) turns calls status → turns ≡ []
-no_turn name turns [] status goes = absurd goes
-no_turn name turns (Did act done ∷ calls) status goes = absurd goes
-no_turn name turns (Read n size got ∷ calls) status goes = absurd goes
-no_turn name turns (Load n l (Ok got) ∷ calls) status goes = told_alone (trace_in got).0 (trace_in got).1 turns calls status goes.2
-no_turn name turns (Load n l (Err TooLong) ∷ calls) status goes = no_turns (codes "too long trace\n") 5 turns calls status goes.2
-no_turn name turns (Load n l (Err OutOfMemory) ∷ calls) status goes = no_turns no_memory_line 7 turns calls status goes.2
-no_turn name turns (Load n l (Err Failed) ∷ calls) status goes = goes.2.0
 
 -- ---- the status
 
@@ -67,64 +62,6 @@ lines_told (e ∷ es) fault turns (Did act true ∷ calls) status goes = one_mor
     one_more : (status ≡ 3) ⊎ ((status ≡ trace_status fault) × (calls ≡ map saying (trace_lines es fault))) → (status ≡ 3) ⊎ ((status ≡ trace_status fault) × (Did act true ∷ calls ≡ map saying (trace_lines (e ∷ es) fault)))
     one_more (inl three) = inl three
     one_more (inr done) = inr (done.0, λ i. Did (goes.0 i) true ∷ done.1 i)
-
-module _ (name bytes : List ℕ) where
-  wanting : (turns : List Turn) (calls all : List DeskCall) (status : ℕ) → Says no_memory_line 7 turns calls status → DecodeVerdict name bytes all status
-  wanting turns calls all status says = want (said no_memory_line 7 turns calls status says)
-    where
-      want : (status ≡ 3) ⊎ ((status ≡ 7) × (calls ≡ saying no_memory_line ∷ [])) → DecodeVerdict name bytes all status
-      want (inl three) = inl (inl three)
-      want (inr seven) = inl (inr seven.0)
-
-  long : (turns : List Turn) (calls : List DeskCall) (call : DeskCall) (status : ℕ) → call ≡ Load name 16777216 (Err TooLong) → 16777216 < length bytes → Says (codes "too long trace\n") 5 turns calls status → DecodeVerdict name bytes (call ∷ calls) status
-  long turns calls call status is over says = want (said (codes "too long trace\n") 5 turns calls status says)
-    where
-      want : (status ≡ 3) ⊎ ((status ≡ 5) × (calls ≡ saying (codes "too long trace\n") ∷ [])) → DecodeVerdict name bytes (call ∷ calls) status
-      want (inl three) = inl (inl three)
-      want (inr five) = inr (inl (five.0, over, λ i. is i ∷ five.1 i))
-
-  -- the bytes are stated
-  tells : (es : List Entry) (fault : Option TraceFault) → IsTraceOf bytes es fault → length bytes ≤ 16777216 → (call : DeskCall) → call ≡ Load name 16777216 (Ok bytes) → (turns : List Turn) (calls : List DeskCall) (status : ℕ) → DoneBy (decoded_todo es fault) turns calls status → DecodeVerdict name bytes (call ∷ calls) status
-  tells es fault is short call loads turns calls status goes = want (lines_told es fault turns calls status goes)
-    where
-      want : (status ≡ 3) ⊎ ((status ≡ trace_status fault) × (calls ≡ map saying (trace_lines es fault))) → DecodeVerdict name bytes (call ∷ calls) status
-      want (inl three) = inl (inl three)
-      want (inr done) = inr (inr (es, fault, done.0, short, is, λ i. loads i ∷ done.1 i))
-
-  module _ {D : Type 0} (means : DeskMeaning D) where
-    -- a load brought these bytes
-    brought : (got : List ℕ) → got ≡ bytes → (n : List ℕ) (l : ℕ) (turns : List Turn) (calls : List DeskCall) (status : ℕ) (d e : D) → DoneBy (decode name) turns (Load n l (Ok got) ∷ calls) status → DeskLed means d (Load n l (Ok got) ∷ calls) e → DecodeVerdict name bytes (Load n l (Ok got) ∷ calls) status
-    brought got same n l turns calls status d e goes led =
-        let loaded : Loaded means n l (Ok got) d led.0 = led.1 in
-        let short : length bytes ≤ 16777216 = subst (λ k. length bytes ≤ k) goes.1 (subst (λ xs. length xs ≤ l) same loaded.answers.0) in
-        tells (trace_in bytes).0 (trace_in bytes).1 (has-trace bytes (subst (λ xs. AreBytes xs) same goes.3)) short (Load n l (Ok got)) (λ i. Load (goes.0 i) (goes.1 i) (Ok (same i))) turns calls status
-        (subst (λ xs. ToTell xs turns calls status) same goes.2)
-
-    -- the file's bytes are stated
-    judge : (turns : List Turn) (calls : List DeskCall) (status : ℕ) (d e : D) → means.holds d name ≡ Some bytes → DoneBy (decode name) turns calls status → DeskLed means d calls e → DecodeVerdict name bytes calls status
-    judge turns [] status d e told goes led = absurd goes
-    judge turns (Did act done ∷ calls) status d e told goes led = absurd goes
-    judge turns (Read n size got ∷ calls) status d e told goes led = absurd goes
-    judge turns (Load n l (Ok got) ∷ calls) status d e told goes led =
-        let loaded : Loaded means n l (Ok got) d led.0 = led.1 in
-        brought got (loaded.answers.1 bytes (ap (means.holds d) goes.0 ∙ told)) n l turns calls status d e goes led
-    judge turns (Load n l (Err TooLong) ∷ calls) status d e told goes led =
-        let loaded : Loaded means n l (Err TooLong) d led.0 = led.1 in
-        long turns calls (Load n l (Err TooLong)) status (λ i. Load (goes.0 i) (goes.1 i) (Err TooLong)) (subst (λ k. k < length bytes) goes.1 (loaded.answers bytes (ap (means.holds d) goes.0 ∙ told))) goes.2
-    judge turns (Load n l (Err OutOfMemory) ∷ calls) status d e told goes led = wanting turns calls (Load n l (Err OutOfMemory) ∷ calls) status goes.2
-    judge turns (Load n l (Err Failed) ∷ calls) status d e told goes led = inl (inl goes.2.2)
-
-    -- the load brought it
-    heard_judge : (turns : List Turn) (calls : List DeskCall) (status : ℕ) (d e : D) → heard_in calls ≡ Ok bytes ∷ [] → DoneBy (decode name) turns calls status → DeskLed means d calls e → DecodeVerdict name bytes calls status
-    heard_judge turns [] status d e heard goes led = absurd goes
-    heard_judge turns (Did act done ∷ calls) status d e heard goes led = absurd goes
-    heard_judge turns (Read n size got ∷ calls) status d e heard goes led = absurd goes
-    heard_judge turns (Load n l (Ok got) ∷ calls) status d e heard goes led =
-        let same : got ≡ bytes = cc heard in
-        brought got same n l turns calls status d e goes led
-    heard_judge turns (Load n l (Err TooLong) ∷ calls) status d e heard goes led = absurd (cc heard)
-    heard_judge turns (Load n l (Err OutOfMemory) ∷ calls) status d e heard goes led = absurd (cc heard)
-    heard_judge turns (Load n l (Err Failed) ∷ calls) status d e heard goes led = absurd (cc heard)
 
 -- ---- what was written
 
@@ -172,23 +109,10 @@ module _ {D : Type 0} (means : DeskMeaning D) where
         all_told means text n d e status (lines_parted es fault turns calls d e status (subst (λ (t : List Entry × Option TraceFault). DoneBy (decoded_todo t.0 t.1) turns calls status) path goes) led)
 
     decode_told : (turns : List Turn) (calls : List DeskCall) (d e : D) (status : ℕ) → means.holds d name ≡ Some bytes → DoneBy (decode name) turns calls status → DeskLed means d calls e → WroteText means text n d e status
-    decode_told turns [] d e status told goes led = absurd goes
-    decode_told turns (Did act done ∷ calls) d e status told goes led = absurd goes
-    decode_told turns (Read m size got ∷ calls) d e status told goes led = absurd goes
-    decode_told turns (Load m l (Ok got) ∷ calls) d e status told goes led =
-        let loaded : Loaded means m l (Ok got) d led.0 = led.1 in
-        let same : got ≡ bytes = loaded.answers.1 bytes (ap (means.holds d) goes.0 ∙ told) in
-        loaded_told means text n m l (Ok got) d led.0 e status loaded
-        (read_told (subst (λ xs. AreBytes xs) same goes.3) turns calls led.0 e status (subst (λ xs. ToTell xs turns calls status) same goes.2) led.2)
-    decode_told turns (Load m l (Err TooLong) ∷ calls) d e status told goes led =
-        let loaded : Loaded means m l (Err TooLong) d led.0 = led.1 in
-        let over : l < length bytes = loaded.answers bytes (ap (means.holds d) goes.0 ∙ told) in
-        let limit : l ≡ 16777216 = goes.1 in
-        absurd (omega (arith, over, limit, short))
-    decode_told turns (Load m l (Err OutOfMemory) ∷ calls) d e status told goes led =
-        loaded_told means text n m l (Err OutOfMemory) d led.0 e status led.1 (wanting_told means text n turns calls led.0 e status goes.2 led.2)
-    decode_told turns (Load m l (Err Failed) ∷ calls) d e status told goes led =
-        loaded_told means text n m l (Err Failed) d led.0 e status led.1 (failed_told means text n calls led.0 e status goes.2.1 goes.2.2 led.2)
+    decode_told turns calls d e status told goes led =
+        let found = asked _ _ _ done_with turns means bytes calls status d e (inl told) goes led in
+        asked_wrote _ _ _ _ turns means bytes (λ m. WroteText means text n m e status) calls status d e short found
+        (λ m kept. loaded_told means text n d m e status kept) (λ later m are. read_told are turns later m e status) (λ later m. wanting_told means text n turns later m e status) (failed_told means text n e status)
 
 -- ---- all
 
@@ -199,15 +123,20 @@ module _ {D P : Type 0} (means : DeskMeaning D) (words : List (List ℕ)) (old n
   goes_on name is = subst (λ what. DoneBy what turns played.calls status) (only name is) played.goes
 
   untouched : (name : List ℕ) → decode_of words ≡ Some name → q ≡ p
-  untouched name is = still (no_turn name turns played.calls status (goes_on name is))
+  untouched name is = still (asked_alone _ _ _ done_with turns played.calls status (goes_on name is) (λ got later. told_alone (trace_in got).0 (trace_in got).1 turns later status))
+
+  judges : (name bytes : List ℕ) → decode_of words ≡ Some name → (means.holds old name ≡ Some bytes) ⊎ (heard_in played.calls ≡ Ok bytes ∷ []) → DecodeVerdict name bytes played.calls status
+  judges name bytes named by =
+      let es : List Entry = (trace_in bytes).0 in
+      let fault : Option TraceFault = (trace_in bytes).1 in
+      judged _ _ _ _ turns means bytes played.calls status old new (asked _ _ _ done_with turns means bytes played.calls status old new by (goes_on name named) played.led)
+      (λ later is short are goes. unless_cut status (lines_told es fault turns later status goes)
+      (λ done. inr (es, fault, done.0, short, has-trace bytes are, is ∙ ap (λ cs. Load name 16777216 (Ok bytes) ∷ cs) done.1)))
 
   pub decodes : Decodes means words old p played.calls status new q
   decodes =
       record {
         alone = untouched;
-        judged = λ name bytes is by. elim by [
-          | inl told ↦ judge name bytes means turns played.calls status old new told (goes_on name is) played.led
-          | inr heard ↦ heard_judge name bytes means turns played.calls status old new heard (goes_on name is) played.led
-        ];
+        judged = judges;
         told = λ name bytes es fault is told short trace. decode_told means name bytes es fault short trace turns played.calls old new status told (goes_on name is) played.led;
       }

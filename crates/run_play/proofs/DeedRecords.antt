@@ -101,14 +101,14 @@ module _ {P : Type 0} (device : Meaning P) (C : Type 0) where
         plain = λ x y. (x.0, rest.plain x.1 y);
       }
 
-  pub none-leaves : (w v : World (Traced P)) → v ≡ w → Leaves w v [] [] 0
-  none-leaves w v same = record { led = same; are = tt; few = omega arith; met = λ c none s alike. (tt, refl) }
+  pub none-leaves : {w v : World (Traced P)} (most : ℕ) → v ≡ w → Leaves w v [] [] most
+  none-leaves most same = record { led = same; are = tt; few = omega arith; met = λ c none s alike. (tt, refl) }
 
-  pub within : (w v : World (Traced P)) (cs : List Call) (deeds : List Deed) (n k : ℕ) → n ≤ k → Leaves w v cs deeds n → Leaves w v cs deeds k
-  within w v cs deeds n k less l = record { led = l.led; are = l.are; few = omega (arith, less, l.few); met = l.met }
+  pub within : {w v : World (Traced P)} {cs : List Call} {deeds : List Deed} {n : ℕ} (most : ℕ) → n ≤ most → Leaves w v cs deeds n → Leaves w v cs deeds most
+  within most less l = record { led = l.led; are = l.are; few = omega (arith, less, l.few); met = l.met }
 
-  pub retold : (w v : World (Traced P)) (cs : List Call) (d e : List Deed) (n : ℕ) → (C → d ≡ e) → Leaves w v cs d n → Leaves w v cs e n
-  retold w v cs d e n same l = record {
+  pub retold : {w v : World (Traced P)} {cs : List Call} {d e : List Deed} {most : ℕ} → Leaves w v cs d most → (C → d ≡ e) → Leaves w v cs e most
+  retold l same = record {
     led = l.led;
     are = l.are;
     few = l.few;
@@ -118,8 +118,8 @@ module _ {P : Type 0} (device : Meaning P) (C : Type 0) where
   pub leaves-steady : (w v : World (Traced P)) (cs : List Call) (d : List Deed) (n : ℕ) → Leaves w v cs d n → Steady T w.device v.device
   leaves-steady w v cs d n l = Led-steady T cs w v l.led
 
-  pub append-leaves : (w m v : World (Traced P)) (before after : List Call) (d e : List Deed) (n k : ℕ) → Leaves w m before d n → Leaves m v after e k → Leaves w v (before ++ after) (d ++ e) (n + k)
-  append-leaves w m v before after d e n k a b =
+  pub append-leaves : {w m v : World (Traced P)} {before after : List Call} {d e : List Deed} {n k : ℕ} (most : ℕ) → n + k ≤ most → Leaves w m before d n → Leaves m v after e k → Leaves w v (before ++ after) (d ++ e) most
+  append-leaves {w} {m} {v} {before} {after} {d} {e} {n} {k} most less a b =
       let j = joined before w m v a.led after b.led in
       let es = entries_along T w before m a.led in
       let fs = entries_along T m after v b.led in
@@ -127,12 +127,12 @@ module _ {P : Type 0} (device : Meaning P) (C : Type 0) where
       record {
         led = j.led;
         are = subst (AllByRecursion IsEntry) (sym j.entries) (all-append es fs a.are b.are);
-        few = let same : length (records_bytes (entries_along T w (before ++ after) v j.led)) ≡ length (records_bytes (es ++ fs)) = ap (λ (xs : List Entry). length (records_bytes xs)) j.entries in omega (arith, same, long, a.few, b.few);
+        few = let same : length (records_bytes (entries_along T w (before ++ after) v j.led)) ≡ length (records_bytes (es ++ fs)) = ap (λ (xs : List Entry). length (records_bytes xs)) j.entries in omega (arith, same, long, a.few, b.few, less);
         met = λ c none s alike.
             let first = a.met c none s alike in
             let lead = subst (λ (xs : List Entry). AreAlike (T.on m.device) (steps_from s xs)) first.1 (records-lead T w m before a.led first.0 s alike) in
-            let less = (leaves-steady w m before d n a).pending in
-            let later = b.met c (omega (arith, none, less)) (steps_from s (recorded s d)) lead in (
+            let fewer = (leaves-steady w m before d n a).pending in
+            let later = b.met c (omega (arith, none, fewer)) (steps_from s (recorded s d)) lead in (
               j.plain first.0 later.0,
               j.entries ∙ (λ i. first.1 i ++ later.1 i) ∙ sym (recorded-append d e s),
             );
@@ -198,10 +198,8 @@ module _ {P : Type 0} (device : Meaning P) (C : Type 0) where
 
   -- so many ticks
   pub ticks-leave : (n : ℕ) (w v : World (Traced P)) → Led T w (replicate n calls.Tick) v → Leaves w v (replicate n calls.Tick) (replicate n Wait) (8 * n)
-  ticks-leave zero w v led = within w v [] [] 0 (8 * 0) (omega arith) (none-leaves w v led)
-  ticks-leave (suc n) w v led =
-      within w v (replicate (suc n) calls.Tick) (replicate (suc n) Wait) (8 + 8 * n) (8 * suc n) (omega arith)
-      (append-leaves w led.0 v (calls.Tick ∷ []) (replicate n calls.Tick) (Wait ∷ []) (replicate n Wait) 8 (8 * n) (tick-leaves w led.0 led.1) (ticks-leave n led.0 v led.2))
+  ticks-leave zero w v led = none-leaves (8 * 0) led
+  ticks-leave (suc n) w v led = append-leaves (8 * suc n) (omega arith) (tick-leaves w led.0 led.1) (ticks-leave n led.0 v led.2)
 
   -- they leave a device on
   pub ticks-on : (n : ℕ) (w v : World (Traced P)) → Led T w (replicate n calls.Tick) v → is_some (T.on w.device) ≡ true → is_some (T.on v.device) ≡ true

@@ -1,5 +1,5 @@
 -- The files of a run were opened and its session begun, or the run ended before.
-use Rattle.std.proofs.Common.{◌≡◌, ◌⊎◌, inl, inr, ℕ, ◌<◌, ◌≤◌, Bool, true, false, eqb, ltb, nat_eq, ◌||◌, if◌then◌else◌, List, [], ◌∷◌, ◌++◌, length, Option, Some, None, unwrap_or, Ok, Err, refl, sym, ◌∙◌, ap, subst, arith}
+use Rattle.std.proofs.Common.{◌≡◌, ◌⊎◌, inl, inr, ℕ, ◌≤◌, Bool, true, false, eqb, ltb, nat_eq, ◌||◌, if◌then◌else◌, List, [], ◌∷◌, ◌++◌, length, Option, Some, None, unwrap_or, refl, sym, ◌∙◌, ap, subst, arith}
 use Rattle.std.proofs.lemmas.List.{append-nil}
 use Rattle.std.proofs.lemmas.Bool.{cases_Bool}
 use Rattle.std.specs.List.{AllByRecursion}
@@ -9,8 +9,7 @@ use Rattle.sof_io.specs.Takes.{input_slots}
 use Rattle.sof_io.specs.Fills.{with_input}
 use Rattle.sof_io.proofs.InputLaws.{has_slot-with_input}
 use Rattle.sof_io.proofs.OutputLaws.{has_slot-with_slot}
-use Rattle.sof_desk.specs.declared.calls.LoadFault.TheVariants.{Failed, TooLong, OutOfMemory}
-use Rattle.sof_desk.specs.Desk.{DeskMeaning, DeskPlace, Slot, Spoken, DeskAct, Create, Put, Open, DeskCall, Load, Did, Read, DeskLed, Loaded, Acted, Part, Takes, same_place, with_more, with_nothing, written_after}
+use Rattle.sof_desk.specs.Desk.{DeskMeaning, DeskPlace, Slot, Spoken, DeskAct, Create, Put, Open, DeskCall, Load, Did, Read, DeskLed, Acted, Part, Takes, same_place, with_more, with_nothing, written_after}
 use Rattle.tplg_plan.specs.declared.plans.Plan.{Plan}
 use Rattle.sof_script.specs.Commands.{Bound}
 use Rattle.stream_law.specs.Table.{list_of}
@@ -26,6 +25,7 @@ use Rattle.run_play.specs.LineParts.{IsKeptOrOpened}
 use Rattle.run_play.specs.Plays.{IsGiven}
 use Rattle.run_desk.specs.OpeningCalls.{IsOpeningAct}
 use Rattle.run_play.proofs.WrittenPieces.{more_none, put_part}
+use Rattle.run_desk.proofs.AskedFiles.{Asked, Brought, Longer, Missing, Broken, asked}
 
 -- ---- slots
 
@@ -142,28 +142,14 @@ module _ {D : Type 0} (means : DeskMeaning D) where
 
   -- a load of a file whose bytes are stated and fit
   module _ (name : List ℕ) (limit : ℕ) (line : List ℕ) (rest : List ℕ → Todo) (turns : List Turn) (status : ℕ) (old new : D) (bytes : List ℕ) (told : means.holds old name ≡ Some bytes) (short : length bytes ≤ limit) where
-    asks : (calls : List DeskCall) → DoneBy (Ask name limit line rest) turns calls status → DeskLed means old calls new → Onwards (rest bytes) turns status old new ⊎ Stopped turns status old new
-    asks [] goes led = absurd goes
-    asks (Did act done ∷ calls) goes led = absurd goes
-    asks (Read n size got ∷ calls) goes led = absurd goes
-    asks (Load n l (Ok got) ∷ calls) goes led =
-        let loaded : Loaded means n l (Ok got) old led.0 = led.1 in
-        let same : got ≡ bytes = loaded.answers.1 bytes (ap (means.holds old) goes.0 ∙ told) in
-        inl record { mid = led.0; next = record { calls = calls; goes = subst (λ bs. DoneBy (rest bs) turns calls status) same goes.2; led = led.2 }; wrote = loaded.wrote; holds = loaded.kept.holds }
-    asks (Load n l (Err TooLong) ∷ calls) goes led =
-        let loaded : Loaded means n l (Err TooLong) old led.0 = led.1 in
-        let long : l < length bytes = loaded.answers bytes (ap (means.holds old) goes.0 ∙ told) in
-        absurd (omega (arith, long, short, goes.1))
-    asks (Load n l (Err OutOfMemory) ∷ calls) goes led =
-        let loaded : Loaded means n l (Err OutOfMemory) old led.0 = led.1 in
-        inr (stopped_later turns status old led.0 new loaded.wrote (wanting turns calls status led.0 new goes.2 led.2))
-    asks (Load n l (Err Failed) ∷ calls) goes led =
-        let loaded : Loaded means n l (Err Failed) old led.0 = led.1 in
-        let last : new ≡ led.0 = subst (λ cs. DeskLed means led.0 cs new) goes.2.1 led.2 in
-        inr record { ended = inl goes.2.2; none = goes.2.0; wrote = none_wrote old new (λ place. ap (λ d. means.wrote d place) last ∙ loaded.wrote place) }
-
     pub ask_goes : Next (Ask name limit line rest) turns status old new → Onwards (rest bytes) turns status old new ⊎ Stopped turns status old new
-    ask_goes n = asks n.calls n.goes n.led
+    ask_goes n = by (asked name limit line rest turns means bytes n.calls status old new (inl told) n.goes n.led)
+      where
+        by : Asked name limit line rest turns means bytes n.calls status old new → Onwards (rest bytes) turns status old new ⊎ Stopped turns status old new
+        by (Brought later m is fits are kept holds goes led) = inl record { mid = m; next = record { calls = later; goes = goes; led = led }; wrote = kept; holds = holds }
+        by (Longer later is over says) = absurd (omega (arith, over, short))
+        by (Missing later m kept says led) = inr (stopped_later turns status old m new kept (wanting turns later status m new says led))
+        by (Broken kept three none) = inr record { ended = inl three; none = none; wrote = none_wrote old new kept }
 
   -- a file is opened or created
   pub record Done (act : DeskAct) (todo : Todo) (turns : List Turn) (status : ℕ) (old new : D) : Type 0 where

@@ -1,5 +1,5 @@
 -- The records that a run leaves: what the host does to a device that does nothing of its own accord, and what the firmware answers.
-use Rattle.std.specs.Prelude.{ℕ, List, [], ◌∷◌, ◌++◌, replicate, Bool, true, false, Option, Some, None, if◌then◌else◌}
+use Rattle.std.specs.Prelude.{ℕ, List, [], ◌∷◌, ◌++◌, replicate, Bool, true, false, Option, Some, None}
 use Rattle.std.specs.List.{flat_map}
 use Rattle.stream_law.specs.Past as past
 use Rattle.stream_law.specs.Past.{Moment}
@@ -14,8 +14,8 @@ use Rattle.host_widgets.specs.declared.answers.HostFault.{HostFault}
 use Rattle.host_widgets.specs.declared.kept.Record.{Record}
 use Rattle.host_widgets.specs.HostActs.{Act}
 use Rattle.host_widgets.specs.ActMessages.{act_message}
-use Rattle.host_widgets.specs.OneAct.{act_rules, one_act}
-use Rattle.host_widgets.specs.Walk.{goes_past, walk}
+use Rattle.host_widgets.specs.OneAct.{act_rules}
+use Rattle.host_widgets.specs.Walk.{walk}
 use Rattle.host_widgets.specs.Orders.{Procedure, goes_on_after_refusal, end_by}
 use Rattle.ipc3_trace.specs.declared.entry.Entry.{Entry}
 use Rattle.ipc3_trace.specs.Steps.{Deed, Start, Stop, Send, Wait, recorded, steps_from}
@@ -36,12 +36,10 @@ sent_deeds Drop message = []
 abbrev pub act_deeds : Plan → Act → Meeting → List Deed
 act_deeds plan act m = replicate m.lag Wait ++ sent_deeds m.fate (message_spelling (act_message plan act))
 
--- of acts, up to the first after which they do not go on
-abbrev pub walk_deeds : {Q : Type 0} → Plan → ℕ → Bool → (Q → Meeting × Q) → Record → Q → List Act → List Deed
-walk_deeds plan heap goes_on next kept q [] = []
-walk_deeds plan heap goes_on next kept q (act ∷ acts) =
-    let a = one_act (act_rules plan heap) kept act (next q).0 in
-    act_deeds plan act (next q).0 ++ (if goes_past goes_on a.outcome then walk_deeds plan heap goes_on next a.kept (next q).1 acts else [])
+-- of acts whose messages are sent, one after another
+abbrev pub acts_deeds : {Q : Type 0} → Plan → (Q → Meeting × Q) → Q → List Act → List Deed
+acts_deeds plan next q [] = []
+acts_deeds plan next q (act ∷ acts) = act_deeds plan act (next q).0 ++ acts_deeds plan next (next q).1 acts
 
 -- of moments before and after the acts
 abbrev pub moment_deeds : ℕ → List Moment → List Deed
@@ -51,13 +49,12 @@ moment_deeds heap (past.Cut ∷ moments) = Stop ∷ moment_deeds heap moments
 moment_deeds heap (past.Now view fresh ∷ moments) = moment_deeds heap moments
 moment_deeds heap (past.Tick ∷ moments) = Wait ∷ moment_deeds heap moments
 
--- of an order: its first moments, its acts and its last moments
+-- of an order: its first moments, those of its acts whose messages were sent, and its last moments
 abbrev pub order_deeds : Plan → ℕ → Known Record → Procedure → List Deed
 order_deeds plan heap known o =
-    let goes_on = goes_on_after_refusal o.ending in
-    let w = walk (act_rules plan heap) goes_on (next_meeting calm) known.kept known.queue o.acts in
+    let w = walk (act_rules plan heap) (goes_on_after_refusal o.ending) (next_meeting calm) known.kept known.queue o.acts in
     moment_deeds heap o.first
-    ++ (walk_deeds plan heap goes_on (next_meeting calm) known.kept known.queue o.acts
+    ++ (acts_deeds plan (next_meeting calm) known.queue w.sent
     ++ moment_deeds heap (end_by o.ending plan o.done known.kept w.kept w.outcome).1)
 
 -- none where a test fails or something is planned

@@ -28,14 +28,14 @@ use Rattle.host_widgets.specs.Walk.{Walked, followed_by, goes_past, walk}
 use Rattle.host_widgets.specs.Orders.{Procedure, Ending, goes_on_after_refusal, plain_end, brought_end, end_by, where_on, loading, unloading, suspending, resuming, ticking, fault_of_load}
 use Rattle.host_widgets.specs.Routines.{order_job}
 use Rattle.ipc3_trace.specs.declared.entry.Entry.{Entry}
-use Rattle.ipc3_trace.specs.Steps.{Deed, Wait, recorded, steps_from}
+use Rattle.ipc3_trace.specs.Steps.{Wait, recorded, steps_from}
 use Rattle.sof_script.specs.declared.script.Command.{Command}
 use Rattle.sof_script.specs.declared.script.Command.TheVariants as commands
 use Rattle.sof_session.specs.AskedOrders.{asked_order}
 use Rattle.sof_session.specs.CommandTests.{asking, fault_of}
 use Rattle.sof_session.specs.Commands.{Known, carried, command_rules, first_known, next, order_of, planned_where_room, tested}
 use Rattle.sof_session.proofs.StillOrders.{IsStill, quiet-still, set-still, bytes-still, get-still, read-still, asked-still}
-use Rattle.run_play.specs.Met.{sent_deeds, act_deeds, walk_deeds, moment_deeds, order_deeds, deeds_by, command_deeds, met, met_from}
+use Rattle.run_play.specs.Met.{sent_deeds, act_deeds, acts_deeds, moment_deeds, order_deeds, deeds_by, command_deeds, met, met_from}
 use Rattle.run_replay.specs.Replays.{fault_from, replay_fault}
 use Rattle.sof_run.specs.PlayLaws.{TracesReplay}
 use Rattle.sof_run.proofs.RightDeeds.{AreRight, right-append, right-leads, right-passes}
@@ -89,17 +89,10 @@ module _ (plan : Plan) (heap room : ℕ) (fits : heap ≤ room) where
       let message = message_spelling (act_message plan act) in
       right-append room (replicate m.lag Wait) (sent_deeds m.fate message) on on on (waits-right m.lag on) (sent-right m.fate message on)
 
-  where-right : (b : Bool) (deeds : List Deed) (on : Bool) → AreRight room on deeds on → AreRight room on (if b then deeds else []) on
-  where-right true deeds on right = right
-  where-right false deeds on right = refl
-
-  walk-right : {Q : Type 0} (goes_on : Bool) (next : Q → Meeting × Q) (acts : List Act) (kept : Record) (q : Q) (on : Bool) → AreRight room on (walk_deeds plan heap goes_on next kept q acts) on
-  walk-right goes_on next [] kept q on = refl
-  walk-right goes_on next (act ∷ acts) kept q on =
-      let a = one_act (act_rules plan heap) kept act (next q).0 in
-      let rest = walk_deeds plan heap goes_on next a.kept (next q).1 acts in
-      right-append room (act_deeds plan act (next q).0) (if goes_past goes_on a.outcome then rest else []) on on on (act-right act (next q).0 on)
-      (where-right (goes_past goes_on a.outcome) rest on (walk-right goes_on next acts a.kept (next q).1 on))
+  acts-right : {Q : Type 0} (next : Q → Meeting × Q) (acts : List Act) (q : Q) (on : Bool) → AreRight room on (acts_deeds plan next q acts) on
+  acts-right next [] q on = refl
+  acts-right next (act ∷ acts) q on =
+      right-append room (act_deeds plan act (next q).0) (acts_deeds plan next (next q).1 acts) on on on (act-right act (next q).0 on) (acts-right next acts (next q).1 on)
 
   module _ (known : Known Record) where
     abbrev on : Bool
@@ -118,12 +111,11 @@ module _ (plan : Plan) (heap room : ℕ) (fits : heap ≤ room) where
     -- by its first and its last moments
     order-right : (o : Procedure) (mid : Bool) → AreRight room on (moment_deeds heap o.first) mid → AreRight room mid (moment_deeds heap (ended o).1) (is_powered (ended o).0.power) → IsRight o
     order-right o mid first last =
-        let goes_on = goes_on_after_refusal o.ending in
-        let deeds = walk_deeds plan heap goes_on (next_meeting calm) known.kept known.queue o.acts in
+        let deeds = acts_deeds plan (next_meeting calm) known.queue (walked o).sent in
         let later = moment_deeds heap (ended o).1 in
         let after = is_powered (ended o).0.power in
         right-append room (moment_deeds heap o.first) (deeds ++ later) on mid after first
-        (right-append room deeds later mid mid after (walk-right goes_on (next_meeting calm) o.acts known.kept known.queue mid) last)
+        (right-append room deeds later mid mid after (acts-right (next_meeting calm) (walked o).sent known.queue mid) last)
 
     -- ---- how it ends
 

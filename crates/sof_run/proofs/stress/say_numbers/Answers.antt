@@ -1,84 +1,41 @@
-use Rattle.std.proofs.Common.{true, false, [], ◌∷◌, codes, is_ok}
-use Rattle.run_desk.specs.Todo.{DeskPhase}
-use Rattle.run_desk.specs.LinesTodo.{lines_todo}
-use Rattle.run_desk.specs.Lines.{count_line}
-use Rattle.run_desk.proofs.LinePhases.{was_err, then_lines, no_lines}
+use Rattle.std.proofs.Common.{ℕ, List, [], drop, get_or, is_ok}
+use Rattle.sof_run.specs.Stressing.{stress_lines}
+use Rattle.run_desk.proofs.LinePhases.{was_err, then_lines}
 use Rattle.sof_run.proofs.stress.say_numbers.Goals as goal
 
 pub returns-in_err-say_count : goal.returns-in_err-say_count
 returns-in_err-say_count g c =
-    let means = g.D.Desk.means in
-    let line_1 = count_line (codes "messages ") c.args.counts.now.messages in
-    let line_2 = count_line (codes "ticks ") c.args.counts.now.ticks in
-    let line_3 = count_line (codes "done ") c.args.counts.now.done in
-    let line_4 = count_line (codes "refused ") c.args.counts.now.refused in
-    let line_5 = count_line (codes "bytes ") c.args.counts.now.bytes in
-    let failed : DeskPhase means (lines_todo (line_1 ∷ [])) false c.args.desk.now c.say_count.new.desk = rw c.in_err-say_count.was at c.say_count.ensures in
-    rw (was_err c.from_residual.result c.from_residual.ensures.0)
-    (no_lines means line_1 (line_2 ∷ line_3 ∷ line_4 ∷ line_5 ∷ []) c.args.desk.now c.say_count.new.desk failed)
+    let failed = rw c.in_err-say_count.was at c.say_count.ensures in
+    rw (was_err c.from_residual.result c.from_residual.ensures.0) (λ rest. failed _)
 
 pub returns-in_err-say_count-2 : goal.returns-in_err-say_count-2
 returns-in_err-say_count-2 g c =
-    let means = g.D.Desk.means in
-    let line_1 = count_line (codes "messages ") c.args.counts.now.messages in
-    let line_2 = count_line (codes "ticks ") c.args.counts.now.ticks in
-    let line_3 = count_line (codes "done ") c.args.counts.now.done in
-    let line_4 = count_line (codes "refused ") c.args.counts.now.refused in
-    let line_5 = count_line (codes "bytes ") c.args.counts.now.bytes in
-    let said_1 : DeskPhase means (lines_todo (line_1 ∷ [])) true c.args.desk.now c.say_count.new.desk = rw c.in_ok-say_count.was at c.say_count.ensures in
-    let failed : DeskPhase means (lines_todo (line_2 ∷ [])) false c.say_count.new.desk c.say_count-2.new.desk = rw c.in_err-say_count-2.was at c.say_count-2.ensures in
-    rw (was_err c.from_residual-in_err-say_count-2.result c.from_residual-in_err-say_count-2.ensures.0)
-    (then_lines means line_1 (line_2 ∷ line_3 ∷ line_4 ∷ line_5 ∷ []) false c.args.desk.now c.say_count.new.desk c.say_count-2.new.desk said_1
-    (no_lines means line_2 (line_3 ∷ line_4 ∷ line_5 ∷ []) c.say_count.new.desk c.say_count-2.new.desk failed))
+    let said_1 = rw c.in_ok-say_count.was at c.say_count.ensures in
+    let failed = rw c.in_err-say_count-2.was at c.say_count-2.ensures in
+    rw (was_err c.from_residual-in_err-say_count-2.result c.from_residual-in_err-say_count-2.ensures.0) (λ rest. said_1 _ _ _ _ (failed _))
 
 pub returns-in_err-say_count-3 : goal.returns-in_err-say_count-3
 returns-in_err-say_count-3 g c =
-    let means = g.D.Desk.means in
-    let line_1 = count_line (codes "messages ") c.args.counts.now.messages in
-    let line_2 = count_line (codes "ticks ") c.args.counts.now.ticks in
-    let line_3 = count_line (codes "done ") c.args.counts.now.done in
-    let line_4 = count_line (codes "refused ") c.args.counts.now.refused in
-    let line_5 = count_line (codes "bytes ") c.args.counts.now.bytes in
-    let said_1 : DeskPhase means (lines_todo (line_1 ∷ [])) true c.args.desk.now c.say_count.new.desk = rw c.in_ok-say_count.was at c.say_count.ensures in
-    let said_2 : DeskPhase means (lines_todo (line_2 ∷ [])) true c.say_count.new.desk c.say_count-2.new.desk = rw c.in_ok-say_count-2.was at c.say_count-2.ensures in
-    let failed : DeskPhase means (lines_todo (line_3 ∷ [])) false c.say_count-2.new.desk c.say_count-3.new.desk = rw c.in_err-say_count-3.was at c.say_count-3.ensures in
-    rw (was_err c.from_residual-in_err-say_count-3.result c.from_residual-in_err-say_count-3.ensures.0)
-    (then_lines means line_1 (line_2 ∷ line_3 ∷ line_4 ∷ line_5 ∷ []) false c.args.desk.now c.say_count.new.desk c.say_count-3.new.desk said_1
-    (then_lines means line_2 (line_3 ∷ line_4 ∷ line_5 ∷ []) false c.say_count.new.desk c.say_count-2.new.desk c.say_count-3.new.desk said_2
-    (no_lines means line_3 (line_4 ∷ line_5 ∷ []) c.say_count-2.new.desk c.say_count-3.new.desk failed)))
+    let said_1 = rw c.in_ok-say_count.was at c.say_count.ensures in
+    let said_2 = rw c.in_ok-say_count-2.was at c.say_count-2.ensures in
+    let failed = rw c.in_err-say_count-3.was at c.say_count-3.ensures in
+    rw (was_err c.from_residual-in_err-say_count-3.result c.from_residual-in_err-say_count-3.ensures.0) (λ rest. said_1 _ _ _ _ (said_2 _ _ _ _ (failed _)))
 
 pub returns-in_err-say_count-4 : goal.returns-in_err-say_count-4
 returns-in_err-say_count-4 g c =
-    let means = g.D.Desk.means in
-    let line_1 = count_line (codes "messages ") c.args.counts.now.messages in
-    let line_2 = count_line (codes "ticks ") c.args.counts.now.ticks in
-    let line_3 = count_line (codes "done ") c.args.counts.now.done in
-    let line_4 = count_line (codes "refused ") c.args.counts.now.refused in
-    let line_5 = count_line (codes "bytes ") c.args.counts.now.bytes in
-    let said_1 : DeskPhase means (lines_todo (line_1 ∷ [])) true c.args.desk.now c.say_count.new.desk = rw c.in_ok-say_count.was at c.say_count.ensures in
-    let said_2 : DeskPhase means (lines_todo (line_2 ∷ [])) true c.say_count.new.desk c.say_count-2.new.desk = rw c.in_ok-say_count-2.was at c.say_count-2.ensures in
-    let said_3 : DeskPhase means (lines_todo (line_3 ∷ [])) true c.say_count-2.new.desk c.say_count-3.new.desk = rw c.in_ok-say_count-3.was at c.say_count-3.ensures in
-    let failed : DeskPhase means (lines_todo (line_4 ∷ [])) false c.say_count-3.new.desk c.say_count-4.new.desk = rw c.in_err-say_count-4.was at c.say_count-4.ensures in
-    rw (was_err c.from_residual-in_err-say_count-4.result c.from_residual-in_err-say_count-4.ensures.0)
-    (then_lines means line_1 (line_2 ∷ line_3 ∷ line_4 ∷ line_5 ∷ []) false c.args.desk.now c.say_count.new.desk c.say_count-4.new.desk said_1
-    (then_lines means line_2 (line_3 ∷ line_4 ∷ line_5 ∷ []) false c.say_count.new.desk c.say_count-2.new.desk c.say_count-4.new.desk said_2
-    (then_lines means line_3 (line_4 ∷ line_5 ∷ []) false c.say_count-2.new.desk c.say_count-3.new.desk c.say_count-4.new.desk said_3
-    (no_lines means line_4 (line_5 ∷ []) c.say_count-3.new.desk c.say_count-4.new.desk failed))))
+    let said_1 = rw c.in_ok-say_count.was at c.say_count.ensures in
+    let said_2 = rw c.in_ok-say_count-2.was at c.say_count-2.ensures in
+    let said_3 = rw c.in_ok-say_count-3.was at c.say_count-3.ensures in
+    let failed = rw c.in_err-say_count-4.was at c.say_count-4.ensures in
+    rw (was_err c.from_residual-in_err-say_count-4.result c.from_residual-in_err-say_count-4.ensures.0) (λ rest. said_1 _ _ _ _ (said_2 _ _ _ _ (said_3 _ _ _ _ (failed _))))
 
 pub returns : goal.returns
 returns g c =
     let means = g.D.Desk.means in
-    let line_1 = count_line (codes "messages ") c.args.counts.now.messages in
-    let line_2 = count_line (codes "ticks ") c.args.counts.now.ticks in
-    let line_3 = count_line (codes "done ") c.args.counts.now.done in
-    let line_4 = count_line (codes "refused ") c.args.counts.now.refused in
-    let line_5 = count_line (codes "bytes ") c.args.counts.now.bytes in
-    let said_1 : DeskPhase means (lines_todo (line_1 ∷ [])) true c.args.desk.now c.say_count.new.desk = rw c.in_ok-say_count.was at c.say_count.ensures in
-    let said_2 : DeskPhase means (lines_todo (line_2 ∷ [])) true c.say_count.new.desk c.say_count-2.new.desk = rw c.in_ok-say_count-2.was at c.say_count-2.ensures in
-    let said_3 : DeskPhase means (lines_todo (line_3 ∷ [])) true c.say_count-2.new.desk c.say_count-3.new.desk = rw c.in_ok-say_count-3.was at c.say_count-3.ensures in
-    let said_4 : DeskPhase means (lines_todo (line_4 ∷ [])) true c.say_count-3.new.desk c.say_count-4.new.desk = rw c.in_ok-say_count-4.was at c.say_count-4.ensures in
-    then_lines means line_1 (line_2 ∷ line_3 ∷ line_4 ∷ line_5 ∷ []) (is_ok c.say_count-5.result) c.args.desk.now c.say_count.new.desk c.say_count-5.new.desk said_1
-    (then_lines means line_2 (line_3 ∷ line_4 ∷ line_5 ∷ []) (is_ok c.say_count-5.result) c.say_count.new.desk c.say_count-2.new.desk c.say_count-5.new.desk said_2
-    (then_lines means line_3 (line_4 ∷ line_5 ∷ []) (is_ok c.say_count-5.result) c.say_count-2.new.desk c.say_count-3.new.desk c.say_count-5.new.desk said_3
-    (then_lines means line_4 (line_5 ∷ []) (is_ok c.say_count-5.result) c.say_count-3.new.desk c.say_count-4.new.desk c.say_count-5.new.desk said_4
+    let lines : List (List ℕ) = stress_lines c.args.counts.now in
+    let done = is_ok c.say_count-5.result in
+    then_lines means (get_or lines 0 []) (drop 1 lines) done c.args.desk.now c.say_count.new.desk c.say_count-5.new.desk (rw c.in_ok-say_count.was at c.say_count.ensures)
+    (then_lines means (get_or lines 1 []) (drop 2 lines) done c.say_count.new.desk c.say_count-2.new.desk c.say_count-5.new.desk (rw c.in_ok-say_count-2.was at c.say_count-2.ensures)
+    (then_lines means (get_or lines 2 []) (drop 3 lines) done c.say_count-2.new.desk c.say_count-3.new.desk c.say_count-5.new.desk (rw c.in_ok-say_count-3.was at c.say_count-3.ensures)
+    (then_lines means (get_or lines 3 []) (drop 4 lines) done c.say_count-3.new.desk c.say_count-4.new.desk c.say_count-5.new.desk (rw c.in_ok-say_count-4.was at c.say_count-4.ensures)
     c.say_count-5.ensures)))

@@ -18,7 +18,6 @@ use Rattle.host_widgets.specs.declared.kept.StreamRec.{StreamRec}
 use Rattle.host_widgets.specs.declared.kept.Record.{Record}
 use Rattle.host_widgets.specs.HostRecord.{closed, may_have}
 use Rattle.host_widgets.specs.Kept.{changed, with_stream}
-use Rattle.host_widgets.specs.HostActs.{Act}
 use Rattle.host_widgets.specs.ActLists.{close_by}
 use Rattle.host_widgets.specs.Expected.{phase_of, stream_view}
 use Rattle.host_widgets.specs.ViewOf.{graph_by}

@@ -6,7 +6,6 @@ use Rattle.stream_law.specs.State.{FwState}
 use Rattle.stream_law.specs.Past.{Moment, Past, Leads}
 use Rattle.mbox_link.specs.Calls.{World, Meaning}
 use Rattle.mbox_link.specs.Wire.{Wire}
-use Rattle.mbox_link.specs.Link.{link}
 use Rattle.host_widgets.proofs.StandingOn.{StandsOn, Gained, stands-none}
 use Rattle.sof_session.specs.SessionStep.{StandsAt}
 use Rattle.sof_session.specs.SessionCalls.{ports}

@@ -1,4 +1,4 @@
-use Rattle.std.proofs.Common.{◌≡◌, sym, ap, ◌∙◌, subst, ℕ, ◌<◌, ◌==◌, List, ◌++◌, length, map, filter, get_or, arith}
+use Rattle.std.proofs.Common.{sym, ap, ◌∙◌, subst, ℕ, ◌<◌, ◌==◌, List, ◌++◌, length, map, filter, get_or, arith}
 use Rattle.std.proofs.lemmas.List.{take_all, append-nil}
 use Rattle.std.specs.Prelude.{position}
 use Rattle.fw_units.specs.declared.component.Component.{Component}

@@ -1,4 +1,4 @@
-use Rattle.std.proofs.Common.{◌≡◌, sym, ap, ◌∙◌, ℕ, min, map, length, List, Some, arith}
+use Rattle.std.proofs.Common.{sym, ap, ◌∙◌, ℕ, min, map, length, List, Some, arith}
 use Rattle.std.proofs.lemmas.List.{take_all}
 use Rattle.stream_law.specs.Moves.{least}
 use Rattle.fw_components.specs.Tables.{held_frames}

@@ -1,4 +1,4 @@
-use Rattle.std.proofs.Common.{◌≡◌, ◌∙◌, ap, ◌==◌, List}
+use Rattle.std.proofs.Common.{◌∙◌, ap, ◌==◌, List}
 use Rattle.std.specs.Prelude.{position}
 use Rattle.fw_units.specs.declared.component.Component.{Component}
 use Rattle.fw_components.specs.Tables.{Tables}

@@ -1,4 +1,4 @@
-use Rattle.std.proofs.Common.{◌≡◌, ◌≤◌, ◌+◌, ◌-◌, ◌∙◌, min, refl, sym, ap, subst, false, length, get_or, List, Option, Some, true, set, ◌==◌, ℕ, arith}
+use Rattle.std.proofs.Common.{◌≡◌, ◌≤◌, ◌+◌, ◌-◌, ◌∙◌, min, refl, sym, ap, subst, length, get_or, List, Some, true, set, ◌==◌, ℕ, arith}
 use Rattle.std.specs.Prelude.{position, find}
 use Rattle.std.specs.List.{AllByRecursion}
 use Rattle.stream_law.specs.declared.graph.Join.{Join}
@@ -12,7 +12,6 @@ use Rattle.fw_moves.specs.Processed.{IsShaped, chosen_by, output_number, run_by}
 use Rattle.fw_components.specs.Processed.{moves_at, feeds_at, channels_moved, most_moved, made_at, output_at, numbers_made_at, processed}
 use Rattle.fw_moves.specs.Moving.{AreAt, IsMoved}
 use Rattle.fw_units.proofs.Ids.{all-by}
-use Rattle.fw_moves.proofs.MadeLaws.{all-at}
 use Rattle.fw_units.proofs.Putting.{put-words}
 use Rattle.fw_units.proofs.Taking.{taken-found}
 use Rattle.fw_components.proofs.ProcessLaws.{can-process, now-processed, now-numbers, now-staged, now-kept, one-inlet, one-outlet, one-moved}

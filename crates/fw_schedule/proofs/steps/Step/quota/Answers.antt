@@ -1,4 +1,4 @@
-use Rattle.std.proofs.Common.{◌≡◌, sym, ap, ◌∙◌, ◌+◌, ◌*◌, ◌/◌, ◌%◌, true, false, arith}
+use Rattle.std.proofs.Common.{sym, ◌∙◌, true}
 use Rattle.fw_schedule.proofs.Running.{quota-even}
 use Rattle.fw_schedule.proofs.steps.Step.quota.Goals as goal
 

@@ -25,6 +25,6 @@ inner_of_sum sum = sat 32 (int_div_euclid sum (pos 1073741824))
 abbrev pub HasRoomToRound : ℤ → ℤ → Type 0
 HasRoomToRound a sum = nat_abs a * 2 ^ 31 + nat_abs sum < 2 ^ 63 - 2 ^ 29
 
--- a mark of a sum that is not held: the sum and 2 ^ 61 is neither below 0 nor from 2 ^ 62 on
+-- a mark is a sum plus 2 ^ 61, and clear where it is at least 0 and below 2 ^ 62: such a sum is not held
 abbrev pub IsClear : ℤ → Type 0
 IsClear mark = (n : ℕ) × ((mark ≡ pos n) × (n < 2 ^ 62))

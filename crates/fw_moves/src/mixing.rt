@@ -1,4 +1,4 @@
-// What a mixer makes of the frames of buffers: sums over all of them, as many places at a time as lie in one piece in each ring.
+// What a mixer makes of the frames of buffers: sums over all of them, as many samples at a time as lie in one piece in each ring.
 ghost use Rattle.std.specs.Prelude.{◌≡◌, ◌+◌, ◌*◌, ◌≤◌, ◌<◌, ◌==◌, ℕ, Some, map, length, get_or, position, pos};
 ghost use Rattle.std.specs.List.{AllByRecursion};
 ghost use Rattle.sof_base.specs.Samples.{sat};
@@ -72,7 +72,7 @@ fn mix_by<const N: usize>(
     }
 }
 
-// Writes those of a piece, from a place on, and answers where it ends.
+// Writes those of a piece, from sample `done` on, and answers where it ends.
 fn mix_piece<const N: usize>(
     looked: &[u32],
     from: &[u16],
@@ -100,7 +100,7 @@ fn mix_piece<const N: usize>(
     done + more
 }
 
-// Gathers the samples of the first `n` frames of each of these buffers from a place on, each up to the end of its ring. Answers how
+// Gathers the samples of the first `n` frames of each of these buffers from sample `done` on, each up to the end of its ring. Answers how
 // many of `left` samples the shortest part has.
 fn gather<'a, const N: usize>(
     looked: &[u32],
@@ -133,7 +133,7 @@ fn gather<'a, const N: usize>(
     count
 }
 
-// The samples of the first `n` frames of a buffer from a place on, up to the end of its ring.
+// The samples of the first `n` frames of the buffer at `at` from sample `done` on, up to the end of its ring.
 fn part_of<'a>(buffers: &'a [Component], inlet: u32, at: usize, n: u32, done: usize) -> &'a [Sample]
     requires ascends { Ascends (λ c. c.id) buffers.now }
     requires place { Some at ≡ position (λ c. c.id == inlet) buffers.now }

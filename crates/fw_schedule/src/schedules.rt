@@ -17,7 +17,7 @@ use fw_walks::{active, kind_of};
 use sof_base::Params;
 
 /// A step for each component of a registry, in the order in which they move, and ids and places of the buffers that they take frames
-/// from and that they feed. A tick goes by it, and looks nothing up. It takes no memory.
+/// from and that they feed. A tick goes by it, and looks up no component and no buffer. It takes no memory.
 #[derive(Drop)]
 pub struct Schedule {
     pub(crate) steps: ArrayVec<Step, 128>,

@@ -1,2 +1,3 @@
 mod AloneLaws
 mod FilledLaws
+mod MixingLaws

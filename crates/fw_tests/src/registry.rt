@@ -1,7 +1,8 @@
-// A registry with nothing in it, one with a host, and one with a host and a buffer that it feeds and pulls from.
+// A registry with nothing in it, one with a host, one with a host and a buffer that it feeds and pulls from, and one with a mixer between
+// two buffers.
 ghost use Rattle.std.specs.Prelude.{◌≡◌, ◌≤◌, None, false, []};
 ghost use Rattle.stream_law.specs.declared.stream.Phase.TheVariants.{Idle};
-ghost use Rattle.fw_units.specs.declared.component.Unit.TheVariants.{Host, Buffer};
+ghost use Rattle.fw_units.specs.declared.component.Unit.TheVariants.{Host, Buffer, Mixer};
 
 use fw_components::{Component, Registry, RegistryFull, Unit};
 use fw_heap::{Piece, Region};
@@ -38,13 +39,25 @@ fn host(piece: Piece) -> Component
     }
 }
 
-// A buffer of 32 bytes in a piece of 64: there is room for four frames of two channels.
-fn buffer(piece: Piece) -> Component
-    requires { 64 ≤ piece.size }
-    ensures { result ≡ record { id = 5; pipe = 1; channels = 2; unit = Buffer 32 (record { frames = []; words = 8; channels = 2; start = 0; piece = piece }) None None } }
+// A mixer in a piece of 64 bytes.
+fn mixer(piece: Piece) -> Component
+    ensures { result ≡ record { id = 4; pipe = 1; channels = 2; unit = Mixer piece } }
 {
     Component {
-        id: 5,
+        id: 4,
+        pipe: 1,
+        channels: 2,
+        unit: Unit::Mixer { piece },
+    }
+}
+
+// A buffer of 32 bytes in a piece of 64: there is room for four frames of two channels.
+fn buffer(id: u32, piece: Piece) -> Component
+    requires { 64 ≤ piece.size }
+    ensures { result ≡ record { id = id; pipe = 1; channels = 2; unit = Buffer 32 (record { frames = []; words = 8; channels = 2; start = 0; piece = piece }) None None } }
+{
+    Component {
+        id,
         pipe: 1,
         channels: 2,
         unit: Unit::Buffer {
@@ -135,7 +148,7 @@ fn fed_by_a_host(alloc: Global) -> Result<bool, NoMemory> {
             return Ok(false);
         }
     }
-    match registry.add(buffer(second)) {
+    match registry.add(buffer(5, second)) {
         Ok(()) => (),
         Err(RegistryFull { component }) => {
             region.give(component.into_piece());
@@ -198,7 +211,7 @@ fn fed_and_pulled(alloc: Global) -> Result<(bool, bool), NoMemory> {
             return Ok((false, false));
         }
     }
-    match registry.add(buffer(second)) {
+    match registry.add(buffer(5, second)) {
         Ok(()) => (),
         Err(RegistryFull { component }) => {
             region.give(component.into_piece());
@@ -222,6 +235,85 @@ fn fed_and_pulled(alloc: Global) -> Result<(bool, bool), NoMemory> {
     registry.close();
     region.close();
     Ok((fed, pulled))
+}
+
+// A mixer takes two frames of three from one buffer, and puts them into another.
+fn moved_by_a_mixer(alloc: Global) -> Result<bool, NoMemory> {
+    let mut registry = Registry::new(alloc)?;
+    let mut region = match Region::new(alloc, 192) {
+        Ok(region) => region,
+        Err(e) => {
+            registry.close();
+            return Err(e);
+        }
+    };
+    let Ok(first) = region.carve(64) else {
+        registry.close();
+        region.close();
+        return Ok(false);
+    };
+    let Ok(second) = region.carve(64) else {
+        region.give(first);
+        registry.close();
+        region.close();
+        return Ok(false);
+    };
+    let Ok(third) = region.carve(64) else {
+        region.give(first);
+        region.give(second);
+        registry.close();
+        region.close();
+        return Ok(false);
+    };
+    let params = Params {
+        rate: 48000,
+        channels: 2,
+        format: Format::S16,
+    };
+    match registry.add(mixer(first)) {
+        Ok(()) => (),
+        Err(RegistryFull { component }) => {
+            region.give(component.into_piece());
+            region.give(second);
+            region.give(third);
+            registry.close();
+            region.close();
+            return Ok(false);
+        }
+    }
+    match registry.add(buffer(5, second)) {
+        Ok(()) => (),
+        Err(RegistryFull { component }) => {
+            region.give(component.into_piece());
+            region.give(third);
+            registry.remove(4, &mut region);
+            registry.close();
+            region.close();
+            return Ok(false);
+        }
+    }
+    match registry.add(buffer(6, third)) {
+        Ok(()) => (),
+        Err(RegistryFull { component }) => {
+            region.give(component.into_piece());
+            registry.remove(5, &mut region);
+            registry.remove(4, &mut region);
+            registry.close();
+            region.close();
+            return Ok(false);
+        }
+    }
+    registry.begin(5, params);
+    registry.begin(6, params);
+    registry.push_bytes(5, 0, Format::S32, 3, &FRAMES[..24]);
+    registry.process(4, &[5], &[6], 2);
+    let (front, back) = registry.spans(6, 1, 2);
+    let moved = front == [1, 2, 3, 4].as_slice() && back.is_empty();
+    let left = registry.held(5) == 1 && registry.held(6) == 2;
+    registry.remove_all(&mut region);
+    registry.close();
+    region.close();
+    Ok(moved && left)
 }
 
 #[test]
@@ -252,4 +344,10 @@ fn what_is_fed_stands_in_the_buffer(rt: HostRuntime) {
 fn what_is_pulled_leaves_the_buffer(rt: HostRuntime) {
     let moved = fed_and_pulled(rt.alloc());
     assert!(rt; matches!(moved, Ok((_, true))));
+}
+
+#[test]
+fn a_mixer_moves_frames_from_one_buffer_into_another(rt: HostRuntime) {
+    let moved = moved_by_a_mixer(rt.alloc());
+    assert!(rt; matches!(moved, Ok(true)));
 }

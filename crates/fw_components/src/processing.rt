@@ -78,7 +78,7 @@ impl Registry {
     }
 
     /// The same from one buffer into one other, for as many frames as the first holds and the second has room for, at most so many.
-    /// This takes no memory.
+    /// A volume past its ramp makes them where they come to lie, without the workspace. This takes no memory.
     pub fn process_one(
         &mut self,
         _id: u32,

@@ -1,6 +1,6 @@
 // What a tick works out from a registry before anything moves. Tallies say what is Live and Active, and the buffers that a component waits
-// for give the order: time grows as components times buffers, and no memory is taken. The inlets of all steps stand in one list, since
-// each buffer goes to one component.
+// for give the order: time grows as components times buffers, and no memory is taken. The inlets of all steps and the buffers that
+// they feed stand in one list, with their places: a buffer comes from one component and goes to one, so that it stands there twice at most.
 ghost use Rattle.std.specs.Prelude.{◌≡◌, ◌+◌, ◌*◌, ◌/◌, ◌%◌, ◌<◌, ◌≤◌, ◌++◌, length, slice_index};
 ghost use Rattle.std.specs.Option.{option_map_or};
 ghost use Rattle.stream_law.specs.Ways.{components};

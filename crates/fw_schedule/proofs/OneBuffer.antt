@@ -13,7 +13,7 @@ use Rattle.fw_components.specs.Tables.{Tables, held_frames, capacity_at}
 use Rattle.fw_units.specs.Changes.{has_id}
 use Rattle.fw_units.specs.Frames.{channels_by, taken_unit, pushed_unit}
 use Rattle.fw_components.specs.Frames.{channels_at, with_taken, pushed}
-use Rattle.fw_units.proofs.Units.{taken-unit, pushed-unit, taken-channels, pushed-channels, pushed-capacity, taken-frames, pushed-most}
+use Rattle.fw_units.proofs.Units.{pushed-unit, taken-channels, pushed-channels, pushed-capacity, taken-frames, pushed-most}
 
 -- ---- a change of the units under one id
 
@@ -131,6 +131,3 @@ module _ (b n : ℕ) (t : Tables) where
       by : (o : Option Component) → find (λ c. c.id == b) t.buffers ≡ o → option_map_or (λ c. unit_frames c.unit) (option_map (changed_at (taken_unit n) b) o) [] ≡ drop n (option_map_or (λ c. unit_frames c.unit) o [])
       by None is = sym (drop-nil n)
       by (Some c) is = ap (λ h. unit_frames (cond h (record { id = c.id; pipe = c.pipe; channels = c.channels; unit = taken_unit n c.unit }) c).unit) (eq-eqb c.id b (found-id b t.buffers c is)) ∙ taken-frames n c.unit
-
-pub taken-twice : (b a m : ℕ) (t : Tables) → with_taken b m (with_taken b a t) ≡ with_taken b (a + m) t
-taken-twice b a m t = ap (λ (bs : List Component). record { comps = t.comps; buffers = bs; pipes = t.pipes; joins = t.joins }) (twice-at (taken_unit a) (taken_unit m) (taken_unit (a + m)) b (taken-unit a m) t.buffers)

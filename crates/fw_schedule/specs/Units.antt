@@ -1,18 +1,9 @@
 -- What is read off units.
-use Rattle.std.specs.Prelude.{Option, None}
 use Rattle.std.specs.Option.{option_map_or}
 use Rattle.sof_base.specs.declared.format.Format.{Format}
 use Rattle.sof_base.specs.declared.format.Format.TheVariants.{S32}
-use Rattle.sof_base.specs.declared.format.Params.{Params}
-use Rattle.stream_law.specs.declared.stream.Phase.{Phase}
-use Rattle.stream_law.specs.declared.stream.Phase.TheVariants.{Idle}
 use Rattle.fw_units.specs.declared.component.Unit as units
 use Rattle.fw_units.specs.declared.component.Unit.TheVariants.{Host, Dai}
-
--- the phase and the parameters of a host's stream
-abbrev pub stream_by : units.Unit → Phase × Option Params
-stream_by (Host capture phase params piece) = (phase, params)
-stream_by unit = (Idle, None)
 
 -- the format of an endpoint's samples
 abbrev pub unit_format : units.Unit → Format

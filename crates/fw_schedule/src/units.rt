@@ -5,21 +5,11 @@ ghost use Rattle.stream_law.specs.Moves.{skips_idle_inputs};
 ghost use Rattle.fw_units.specs.Units.{period_by};
 ghost use Rattle.stream_law.specs.Endpoints.{is_input};
 ghost use Rattle.fw_schedule.specs.Outputs.{is_output_kind, least_by};
-ghost use Rattle.fw_schedule.specs.Units.{stream_by, unit_format};
+ghost use Rattle.fw_schedule.specs.Units.{unit_format};
 
 use fw_components::{Component, Unit};
-use sof_base::{Format, Params};
-use stream_law::{Kind, Phase};
-
-/// The phase and the parameters of a host's stream; no other unit has one.
-pub(crate) fn stream_in(unit: &Unit) -> (Phase, Option<Params>)
-    ensures { result ≡ stream_by unit.now }
-{
-    match unit {
-        Unit::Host { phase, params, .. } => (*phase, *params),
-        _ => (Phase::Idle, None),
-    }
-}
+use sof_base::Format;
+use stream_law::Kind;
 
 /// The format of an endpoint's samples: a DAI has its own, a host that of its stream.
 pub(crate) fn format_in(unit: &Unit) -> Format

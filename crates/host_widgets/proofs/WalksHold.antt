@@ -17,10 +17,6 @@ ByLink (Err LinkDown) Up Down = Down
 ByLink (Err (Refused e)) Up Down = Up
 ByLink (Err fault) Up Down = Up
 
--- what is said where the link did not fail
-abbrev pub WhereUp : Outcome → Type 0 → Type 0
-WhereUp o Up = ByLink o Up (Unit {0})
-
 -- Each has the law of one act, by the record so far; after a refusal too, where acts go on.
 abbrev pub HaveLaw : Plan → Bool → Record → List Act → Type 0
 HaveLaw plan goes_on kept [] = Unit {0}

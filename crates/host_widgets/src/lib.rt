@@ -29,11 +29,9 @@ pub use going_down::link_down;
 pub use host_call::HostCall;
 pub use kept::{ControlRec, Found, Power, Record, StreamRec};
 pub use laws::walk_rows;
-pub use lists::{
-    all_indices, all_widgets, finish_pipes, has, make, make_widgets, put_controls, widget_index,
-};
+pub use lists::{all_indices, all_widgets, has, make, widget_index};
 pub use loading::load;
-pub use messages::{direction, make_message};
+pub use messages::direction;
 pub use naming::is_named;
 pub use need_laws::need_law;
 pub use parts::{part_count, send_parts};

@@ -75,8 +75,8 @@ pub fn all_widgets(plan: &Plan) -> ArrayVec<u32, 288>
 
 // ---- widgets and joins
 
-/// Makes these widgets, one after another, and lists those that were made. Those that were listed and these are at most 288.
-pub fn make_widgets<P: Dsp>(
+// Makes these widgets, one after another, and lists those that were made. Those that were listed and these are at most 288.
+fn make_widgets<P: Dsp>(
     plan: &Plan,
     ids: &[u32],
     made: &mut ArrayVec<u32, 288>,
@@ -146,8 +146,8 @@ fn put_control_of<P: Dsp>(
     put_control(plan, control, kept, dsp, io, out)
 }
 
-/// Sets each live control of these indices to what the record says, by component.
-pub fn put_controls<P: Dsp>(
+// Sets each live control of these indices to what the record says, by component.
+fn put_controls<P: Dsp>(
     plan: &Plan,
     kept: &Record,
     indices: &[u32],
@@ -199,8 +199,8 @@ fn finish_pipe_of<P: Dsp>(
     Ok(())
 }
 
-/// Completes the pipelines of these indices, by id.
-pub fn finish_pipes<P: Dsp>(
+// Completes the pipelines of these indices, by id.
+fn finish_pipes<P: Dsp>(
     plan: &Plan,
     indices: &[u32],
     dsp: &mut P,

@@ -31,7 +31,7 @@ use Rattle.host_pcm.specs.StreamCalls.{Asked, host_at, opened_stream, place_orde
 use Rattle.host_widgets.proofs.ActSteps.{Both, all_after, sends-carried}
 use Rattle.host_pcm.proofs.AtRest.{closed-idle, is_idle, later-agrees}
 use Rattle.host_pcm.proofs.HostTests.{Found_place, Stood, asked-late}
-use Rattle.host_pcm.proofs.OrdersTaken.{acts-plain, acts_at, ask-acts, done_at, order-is, streams-met}
+use Rattle.host_pcm.proofs.OrdersTaken.{AreStreamActs, acts-plain, acts_at, ask-acts, close-acts, done_at, order-is, streams-met}
 use Rattle.host_pcm.proofs.Places.{place-changed, shut-over}
 
 -- orders of no acts
@@ -41,18 +41,12 @@ sends-none power done = refl
 
 -- ---- where the two sides agree
 
-module _ {D : Type 0} (means : Meaning D) (plan : Plan) (sound : IsSound plan) (k : ℕ) (within : k < length plan.streams) (kept : Record) (ask : Ask) (stood : Stood (stream_caps plan k) ask (stream_at kept k).found kept.power) where
+module _ {D : Type 0} (means : Meaning D) (plan : Plan) (sound : IsSound plan) (k : ℕ) (within : k < length plan.streams) (kept : Record) where
   abbrev host : ℕ
   host = host_at plan k
 
   abbrev Goes : Record → (Record → Record) → Type 0
   Goes now done = (d : D) → Agrees means plan now d → Agrees means plan (done now) d
-
-  -- with another record where nothing is sent
-  rest-goes : (ask : Ask) → Stood (stream_caps plan k) ask (stream_at kept k).found kept.power → (kept.power ≡ On → ⊥) → Goes kept (done_at plan kept k ask)
-  rest-goes Opening stood off = later-agrees means plan sound k within kept stood.up (opened_stream closed) (refl, refl) refl (λ on. absurd (off on))
-  rest-goes Closing stood off = later-agrees means plan sound k within kept stood.up closed (refl, refl) refl (λ on. absurd (off on))
-  rest-goes ask stood off = λ d agrees. agrees
 
   -- once a stream was freed, it is closed
   freed-goes : (now : Record) → Goes (after plan (Free host) now) (with_stream plan host shut)
@@ -64,18 +58,37 @@ module _ {D : Type 0} (means : Meaning D) (plan : Plan) (sound : IsSound plan) (
   close-goes Paused found up = freed-goes (after plan (Trig host Stop) kept)
   close-goes idle found up = later-agrees means plan sound k within kept up closed (refl, refl) refl (λ on. ap is_idle found)
 
-  all-goes : (ask : Ask) → Stood (stream_caps plan k) ask (stream_at kept k).found kept.power → Goes (all_after plan (acts_at plan kept k ask) kept) (done_at plan kept k ask)
-  all-goes Opening stood = later-agrees means plan sound k within kept stood.up (opened_stream closed) (refl, refl) refl (λ on. closed-idle (stream_at kept k).found stood.takes_it)
-  all-goes Closing stood = close-goes (stream_at kept k).found refl stood.up
-  all-goes (Preparing p) stood = λ d agrees. agrees
-  all-goes (Triggering what) stood = λ d agrees. agrees
+  -- with another record where nothing is sent
+  close-rests : (kept.power ≡ Unloaded → ⊥) → (kept.power ≡ On → ⊥) → Goes kept (with_stream plan host shut)
+  close-rests up off = later-agrees means plan sound k within kept up closed (refl, refl) refl (λ on. absurd (off on))
 
-  pub place-carried : (heap : ℕ) (w : World D) → Agrees means plan kept w.device → (kept' : Record) (v : World D) (result : Outcome) → OrderAnswered means plan heap (place_order plan kept k ask) kept kept' w v result → Both means plan heap (place_order plan kept k ask) kept kept' w v result
-  place-carried heap w agrees kept' v result x =
+  -- by acts that are the stream's, after which they agree
+  acts-carried : (ask : Ask) (heap : ℕ) → AreStreamActs plan heap kept (acts_at plan kept k ask) → Goes (all_after plan (acts_at plan kept k ask) kept) (done_at plan kept k ask) → ((kept.power ≡ On → ⊥) → Goes kept (done_at plan kept k ask)) →
+      (w : World D) → Agrees means plan kept w.device → (kept' : Record) (v : World D) (result : Outcome) → OrderAnswered means plan heap (place_order plan kept k ask) kept kept' w v result → Both means plan heap (place_order plan kept k ask) kept kept' w v result
+  acts-carried ask heap acts goes rests w agrees kept' v result x =
       subst (λ (o : Procedure). Both means plan heap o kept kept' w v result) (sym (order-is plan kept k ask))
-      (sends-carried means plan heap kept.power (acts_at plan kept k ask) (done_at plan kept k ask) Done kept kept' w v result (λ on. streams-met plan heap (acts_at plan kept k ask) kept on (ask-acts plan sound kept agrees.record_is k within heap ask stood))
-      (plain-ready plan false (acts_at plan kept k ask) (acts-plain plan kept k ask)) (λ on. all-goes ask stood) (rest-goes ask stood) agrees
+      (sends-carried means plan heap kept.power (acts_at plan kept k ask) (done_at plan kept k ask) Done kept kept' w v result (λ on. streams-met plan heap (acts_at plan kept k ask) kept on acts)
+      (plain-ready plan false (acts_at plan kept k ask) (acts-plain plan kept k ask)) (λ on. goes) rests agrees
       (subst (λ (o : Procedure). OrderAnswered means plan heap o kept kept' w v result) (order-is plan kept k ask) x))
+
+  -- of a stream that is closed, whatever it is
+  pub close-carried : (kept.power ≡ Unloaded → ⊥) → (heap : ℕ) (w : World D) → Agrees means plan kept w.device → (kept' : Record) (v : World D) (result : Outcome) → OrderAnswered means plan heap (place_order plan kept k Closing) kept kept' w v result → Both means plan heap (place_order plan kept k Closing) kept kept' w v result
+  close-carried up heap w agrees = acts-carried Closing heap (close-acts plan sound kept agrees.record_is k within heap (stream_at kept k).found refl) (close-goes (stream_at kept k).found refl up) (close-rests up) w agrees
+
+  module _ (ask : Ask) (stood : Stood (stream_caps plan k) ask (stream_at kept k).found kept.power) where
+    rest-goes : (ask : Ask) → Stood (stream_caps plan k) ask (stream_at kept k).found kept.power → (kept.power ≡ On → ⊥) → Goes kept (done_at plan kept k ask)
+    rest-goes Opening stood off = later-agrees means plan sound k within kept stood.up (opened_stream closed) (refl, refl) refl (λ on. absurd (off on))
+    rest-goes Closing stood off = close-rests stood.up off
+    rest-goes ask stood off = λ d agrees. agrees
+
+    all-goes : (ask : Ask) → Stood (stream_caps plan k) ask (stream_at kept k).found kept.power → Goes (all_after plan (acts_at plan kept k ask) kept) (done_at plan kept k ask)
+    all-goes Opening stood = later-agrees means plan sound k within kept stood.up (opened_stream closed) (refl, refl) refl (λ on. closed-idle (stream_at kept k).found stood.takes_it)
+    all-goes Closing stood = close-goes (stream_at kept k).found refl stood.up
+    all-goes (Preparing p) stood = λ d agrees. agrees
+    all-goes (Triggering what) stood = λ d agrees. agrees
+
+    pub place-carried : (heap : ℕ) (w : World D) → Agrees means plan kept w.device → (kept' : Record) (v : World D) (result : Outcome) → OrderAnswered means plan heap (place_order plan kept k ask) kept kept' w v result → Both means plan heap (place_order plan kept k ask) kept kept' w v result
+    place-carried heap w agrees = acts-carried ask heap (ask-acts plan sound kept agrees.record_is k within heap ask stood) (all-goes ask stood) (rest-goes ask stood) w agrees
 
 -- ---- by the tests
 

@@ -114,7 +114,7 @@ module _ (plan : Plan) (sound : IsSound plan) (kept : Record) (is : IsRecordOf p
           let rests = all-stopped host plan.streams kept.streams in
           ((trig-is plan sound kept is host some Stop moves, trig-comes plan sound kept is host some heap Stop moves), λ now. ((free-is plan sound stopped now host some rests, free-comes plan sound stopped now host some heap rests), λ later. tt))
 
-      close-acts : (found : Found) → (stream_at kept k).found ≡ found → AreStreamActs plan heap kept (close_by host found)
+      pub close-acts : (found : Found) → (stream_at kept k).found ≡ found → AreStreamActs plan heap kept (close_by host found)
       close-acts Prepared found =
           let rests = at-host (λ r. r.found ≡ Prepared) found in
           ((free-is plan sound kept is host some rests, free-comes plan sound kept is host some heap rests), λ now. tt)

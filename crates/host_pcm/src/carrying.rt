@@ -4,7 +4,8 @@ ghost use Rattle.sof_base.specs.Ports.{HasRoom};
 ghost use Rattle.tplg_plan.specs.Sound.{IsSound};
 ghost use Rattle.host_widgets.specs.AnsweredOrders.{ActsAnswered, OrderAnswered};
 ghost use Rattle.host_widgets.specs.HostRecord.{closed};
-ghost use Rattle.host_widgets.specs.Host.{IsRecordOf};
+ghost use Rattle.host_widgets.specs.Host.{Agrees, IsRecordOf};
+ghost use Rattle.host_widgets.specs.Orders.{Carried};
 ghost use Rattle.host_widgets.specs.HostActs.{Prepare, Trig, Free, triggered_found};
 ghost use Rattle.host_widgets.specs.Kept.{with_stream};
 ghost use Rattle.host_pcm.specs.Asks.{stream_at, takes_ask};
@@ -167,6 +168,10 @@ pub fn close<P: Dsp>(side: &mut HostCall<'_, P>, place: usize) -> Result<(), Hos
     requires place { place < length side.old.plan.now.streams }
     ensures answered { OrderAnswered P.means side.old.plan.now side.old.heap (place_order side.old.plan.now side.old.kept.now place Ask.Closing) side.old.kept.now side.new.kept.now
         (world_of side.old) (world_of side.new) result }
+    ensures agree { Agrees P.means side.old.plan.now side.old.kept.now side.old.dsp.now →
+        Carried P.means side.old.plan.now side.old.heap (place_order side.old.plan.now side.old.kept.now place Ask.Closing) side.old.kept.now side.new.kept.now
+        (world_of side.old) (world_of side.new) result
+        × Agrees P.means side.old.plan.now side.new.kept.now side.new.dsp.now }
     ensures record_is { result ≡ Ok tt → IsRecordOf side.old.plan.now side.new.kept.now }
     ensures same { SameSide side.old side.new }
 {

@@ -1,8 +1,10 @@
 // A registry with nothing in it, one with a host, one with a host and a buffer that it feeds and pulls from, and one with a mixer between
 // two buffers.
-ghost use Rattle.std.specs.Prelude.{◌≡◌, ◌≤◌, None, false, []};
+ghost use Rattle.std.specs.Prelude.{◌≡◌, ◌≤◌, None, true, false, [], if◌then◌else◌};
 ghost use Rattle.stream_law.specs.declared.stream.Phase.TheVariants.{Idle};
 ghost use Rattle.fw_units.specs.declared.component.Unit.TheVariants.{Host, Buffer, Mixer};
+ghost use Rattle.fw_units.specs.Changes.{IsOfHome, given_by};
+ghost use Rattle.fw_components.specs.Changes.{added, is_there, IsNew, has_new_index};
 
 use fw_components::{Component, Registry, RegistryFull, Unit};
 use fw_heap::{Piece, Region};
@@ -69,6 +71,24 @@ fn buffer(id: u32, piece: Piece) -> Component
     }
 }
 
+// Adds a component, or gives its piece back to the region.
+fn add_or_give_back(registry: &mut Registry, region: &mut Region, component: Component) -> bool
+    requires id { is_there registry.old component.id ≡ false }
+    requires unit { IsNew component.unit }
+    requires index { has_new_index component registry.old ≡ true }
+    requires piece { IsOfHome region.old.home component }
+    ensures tables { registry.new ≡ (if result then added component registry.old else registry.old) }
+    ensures region { region.new ≡ (if result then region.old else record region.old { holes = given_by component region.old.holes }) }
+{
+    match registry.add(component) {
+        Ok(()) => true,
+        Err(RegistryFull { component }) => {
+            region.give(component.into_piece());
+            false
+        }
+    }
+}
+
 // A host is added, found, paused, counted and removed, and its piece comes back.
 fn one_host(alloc: Global) -> Result<bool, NoMemory> {
     let mut registry = Registry::new(alloc)?;
@@ -90,16 +110,13 @@ fn one_host(alloc: Global) -> Result<bool, NoMemory> {
         format: Format::S16,
     };
     let mut right = false;
-    match registry.add(host(piece)) {
-        Ok(()) => {
-            right = registry.len() == 1 && registry.find(3) == Some(0);
-            registry.set_stream(3, Phase::Paused, Some(params));
-            right = right && registry.at(0).id == 3;
-            right = right && registry.counts(3) == (0, 1);
-            right = right && registry.live_params(3) == Some(params);
-            registry.remove(3, &mut region);
-        }
-        Err(RegistryFull { component }) => region.give(component.into_piece()),
+    if add_or_give_back(&mut registry, &mut region, host(piece)) {
+        right = registry.len() == 1 && registry.find(3) == Some(0);
+        registry.set_stream(3, Phase::Paused, Some(params));
+        right = right && registry.at(0).id == 3;
+        right = right && registry.counts(3) == (0, 1);
+        right = right && registry.live_params(3) == Some(params);
+        registry.remove(3, &mut region);
     }
     right = right && registry.len() == 0 && region.used() == 0;
     registry.close();
@@ -138,25 +155,17 @@ fn fed_by_a_host(alloc: Global) -> Result<bool, NoMemory> {
         channels: 2,
         format: Format::S16,
     };
-    match registry.add(host(first)) {
-        Ok(()) => (),
-        Err(RegistryFull { component }) => {
-            region.give(component.into_piece());
-            region.give(second);
-            registry.close();
-            region.close();
-            return Ok(false);
-        }
+    if !add_or_give_back(&mut registry, &mut region, host(first)) {
+        region.give(second);
+        registry.close();
+        region.close();
+        return Ok(false);
     }
-    match registry.add(buffer(5, second)) {
-        Ok(()) => (),
-        Err(RegistryFull { component }) => {
-            region.give(component.into_piece());
-            registry.remove(3, &mut region);
-            registry.close();
-            region.close();
-            return Ok(false);
-        }
+    if !add_or_give_back(&mut registry, &mut region, buffer(5, second)) {
+        registry.remove(3, &mut region);
+        registry.close();
+        region.close();
+        return Ok(false);
     }
     registry.join(3, 5);
     registry.begin(5, params);
@@ -201,25 +210,17 @@ fn fed_and_pulled(alloc: Global) -> Result<(bool, bool), NoMemory> {
         channels: 2,
         format: Format::S16,
     };
-    match registry.add(host(first)) {
-        Ok(()) => (),
-        Err(RegistryFull { component }) => {
-            region.give(component.into_piece());
-            region.give(second);
-            registry.close();
-            region.close();
-            return Ok((false, false));
-        }
+    if !add_or_give_back(&mut registry, &mut region, host(first)) {
+        region.give(second);
+        registry.close();
+        region.close();
+        return Ok((false, false));
     }
-    match registry.add(buffer(5, second)) {
-        Ok(()) => (),
-        Err(RegistryFull { component }) => {
-            region.give(component.into_piece());
-            registry.remove(3, &mut region);
-            registry.close();
-            region.close();
-            return Ok((false, false));
-        }
+    if !add_or_give_back(&mut registry, &mut region, buffer(5, second)) {
+        registry.remove(3, &mut region);
+        registry.close();
+        region.close();
+        return Ok((false, false));
     }
     registry.join(3, 5);
     registry.join(5, 3);
@@ -270,38 +271,26 @@ fn moved_by_a_mixer(alloc: Global) -> Result<bool, NoMemory> {
         channels: 2,
         format: Format::S16,
     };
-    match registry.add(mixer(first)) {
-        Ok(()) => (),
-        Err(RegistryFull { component }) => {
-            region.give(component.into_piece());
-            region.give(second);
-            region.give(third);
-            registry.close();
-            region.close();
-            return Ok(false);
-        }
+    if !add_or_give_back(&mut registry, &mut region, mixer(first)) {
+        region.give(second);
+        region.give(third);
+        registry.close();
+        region.close();
+        return Ok(false);
     }
-    match registry.add(buffer(5, second)) {
-        Ok(()) => (),
-        Err(RegistryFull { component }) => {
-            region.give(component.into_piece());
-            region.give(third);
-            registry.remove(4, &mut region);
-            registry.close();
-            region.close();
-            return Ok(false);
-        }
+    if !add_or_give_back(&mut registry, &mut region, buffer(5, second)) {
+        region.give(third);
+        registry.remove(4, &mut region);
+        registry.close();
+        region.close();
+        return Ok(false);
     }
-    match registry.add(buffer(6, third)) {
-        Ok(()) => (),
-        Err(RegistryFull { component }) => {
-            region.give(component.into_piece());
-            registry.remove(5, &mut region);
-            registry.remove(4, &mut region);
-            registry.close();
-            region.close();
-            return Ok(false);
-        }
+    if !add_or_give_back(&mut registry, &mut region, buffer(6, third)) {
+        registry.remove(5, &mut region);
+        registry.remove(4, &mut region);
+        registry.close();
+        region.close();
+        return Ok(false);
     }
     registry.begin(5, params);
     registry.begin(6, params);

@@ -1,5 +1,5 @@
 -- What is among a list, and where.
-use Rattle.std.proofs.Common.{◌≡◌, refl, sym, ap, ◌∙◌, ℕ, ◌≤◌, List, [], ◌∷◌, ◌++◌, length, Bool, true, false, ◌==◌, ◌||◌, ◌⊎◌, inl, inr, Option, Some, None, nat_eq}
+use Rattle.std.proofs.Common.{◌≡◌, refl, sym, ap, ◌∙◌, ℕ, ◌≤◌, List, [], ◌∷◌, ◌++◌, length, true, false, ◌==◌, ◌||◌, ◌⊎◌, inl, inr, Option, Some, None, nat_eq}
 use Rattle.std.specs.List.{list_any, IsDistinct}
 use Rattle.std.specs.Cmp.{nat_eq_equiv}
 use Rattle.std.proofs.lemmas.Bool.{false≢true, eqb-true, eq-eqb, or_left, or_right, or_cases}
@@ -49,20 +49,3 @@ distinct-le xs ids d there = length-le_from_is_member nat_eq_equiv xs ids d (λ 
 pub is_end-some : (end : Option ℕ) (a : ℕ) → is_end end a ≡ true → end ≡ Some a
 is_end-some None a h = absurd (false≢true h)
 is_end-some (Some b) a h = ap Some (eqb-true b a h)
-
--- what passes a test among a list
-pub any-among : (p : ℕ → Bool) (xs : List ℕ) → list_any p xs ≡ true → (d : ℕ) × (is_among xs d ≡ true) × (p d ≡ true)
-any-among p [] h = absurd (false≢true h)
-any-among p (x ∷ xs) h = by_first (or_cases (p x) (list_any p xs) h) (any-among p xs)
-  where
-    by_first : (p x ≡ true) ⊎ (list_any p xs ≡ true) → (list_any p xs ≡ true → (d : ℕ) × (is_among xs d ≡ true) × (p d ≡ true)) → (d : ℕ) × (is_among (x ∷ xs) d ≡ true) × (p d ≡ true)
-    by_first (inl k) rest = (x, or_left (x == x) (is_among xs x) (eq-eqb x x refl), k)
-    by_first (inr k) rest = let r = rest k in (r.0, or_right (x == r.0) (is_among xs r.0) r.1, r.2)
-
-pub among-any : (p : ℕ → Bool) (xs : List ℕ) (d : ℕ) → is_among xs d ≡ true → p d ≡ true → list_any p xs ≡ true
-among-any p [] d h k = absurd (false≢true h)
-among-any p (x ∷ xs) d h k = by_first (or_cases (x == d) (is_among xs d) h) (among-any p xs d)
-  where
-    by_first : ((x == d) ≡ true) ⊎ (is_among xs d ≡ true) → (is_among xs d ≡ true → p d ≡ true → list_any p xs ≡ true) → (p x || list_any p xs) ≡ true
-    by_first (inl e) rest = or_left (p x) (list_any p xs) (ap p (eqb-true x d e) ∙ k)
-    by_first (inr e) rest = or_right (p x) (list_any p xs) (rest e k)

@@ -1,5 +1,5 @@
 -- The tests of walks say whether there is one.
-use Rattle.std.proofs.Common.{◌≡◌, refl, sym, ap, subst, ◌∙◌, ℕ, zero, suc, List, [], ◌∷◌, Bool, true, false, ◌==◌, ◌&&◌, ◌⊎◌, ◌↔◌, inl, inr, Option, Some, None}
+use Rattle.std.proofs.Common.{◌≡◌, refl, sym, ap, subst, ◌∙◌, ℕ, zero, suc, List, [], ◌∷◌, Bool, true, false, ◌==◌, ◌&&◌, ◌||◌, ◌⊎◌, ◌↔◌, inl, inr, Option, Some, None}
 use Rattle.std.specs.List.{list_any}
 use Rattle.std.specs.Option.{option_map_or}
 use Rattle.std.proofs.lemmas.Bool.{false≢true, eqb-true, eq-eqb, and_parts, and_from, or_left, or_right, or_cases}
@@ -9,8 +9,8 @@ use Rattle.stream_law.specs.declared.graph.Kind.{Kind}
 use Rattle.stream_law.specs.Order.{is_among}
 use Rattle.stream_law.specs.Ways.{is_end, is_capture}
 use Rattle.tplg_walks.specs.Cycles.{are_joined, EdgeWalk, Reaches, ReachesCapture}
-use Rattle.tplg_walks.specs.Echoes.{leads_along, reaches, leads_to_capture, is_sort_at, reaches_sort}
-use Rattle.tplg_walks.proofs.Among.{is_end-some, any-among, among-any}
+use Rattle.tplg_walks.specs.Echoes.{leads_along, reaches, leads_to_capture, is_sort_at, reaches_sort, reached_by_sort}
+use Rattle.tplg_walks.proofs.Among.{is_end-some}
 
 -- two tests that hold together are one
 pub same_from_iff : (a b : Bool) → (a ≡ true) ↔ (b ≡ true) → a ≡ b
@@ -167,12 +167,18 @@ some-to (c ∷ cs) edges sort id d h on = by_case (or_cases (c.id == d && sort c
         (and_from (sort c.kind) (reaches edges id c.id) parts.1 (ap (λ x. reaches edges id x) (eqb-true c.id d parts.0) ∙ on))
     by_case (inr k) rest = or_right (sort c.kind && reaches edges id c.id) (reaches_sort cs edges sort id) (rest k)
 
--- one of what is reached is of the sort exactly where one of the sort is reached
-pub some-among : (comps : List Comp) (edges : List Edge) (sort : Kind → Bool) (id : ℕ) (seen : List ℕ) → ((b : ℕ) → (is_among seen b ≡ true) ↔ Reaches edges id b) → list_any (is_sort_at comps sort) seen ≡ reaches_sort comps edges sort id
-some-among comps edges sort id seen all = same_from_iff (list_any (is_sort_at comps sort) seen) (reaches_sort comps edges sort id) (
-  λ h. let d = any-among (is_sort_at comps sort) seen h in some-to comps edges sort id d.0 d.2 (reaches-to edges id d.0 ((all d.0).0 d.1)),
-  λ h. let d = some-from comps edges sort id h in among-any (is_sort_at comps sort) seen d.0 ((all d.0).1 (reaches-from edges id d.0 d.2)) d.1,
-)
+-- one of the sort is among what passes a test exactly where one of the sort passes it
+among-test : (comps : List Comp) (sort : Kind → Bool) (some other : ℕ → Bool) → ((b : ℕ) → (some b ≡ true) ↔ (other b ≡ true)) → list_any (λ c. sort c.kind && some c.id) comps ≡ list_any (λ c. sort c.kind && other c.id) comps
+among-test [] sort some other all = refl
+among-test (c ∷ cs) sort some other all = λ i. (sort c.kind && same_from_iff (some c.id) (other c.id) (all c.id) i) || among-test cs sort some other all i
+
+-- one of the sort is among what is reached exactly where one of the sort is reached
+pub some-among : (comps : List Comp) (edges : List Edge) (sort : Kind → Bool) (id : ℕ) (seen : List ℕ) → ((b : ℕ) → (is_among seen b ≡ true) ↔ Reaches edges id b) → list_any (λ c. sort c.kind && is_among seen c.id) comps ≡ reaches_sort comps edges sort id
+some-among comps edges sort id seen all = among-test comps sort (is_among seen) (λ b. reaches edges id b) (λ b. (λ h. reaches-to edges id b ((all b).0 h), λ h. (all b).1 (reaches-from edges id b h)))
+
+-- and so where it is reached from what is seen
+pub some-before : (comps : List Comp) (edges : List Edge) (sort : Kind → Bool) (id : ℕ) (seen : List ℕ) → ((a : ℕ) → (is_among seen a ≡ true) ↔ Reaches edges a id) → list_any (λ c. sort c.kind && is_among seen c.id) comps ≡ reached_by_sort comps edges sort id
+some-before comps edges sort id seen all = among-test comps sort (is_among seen) (λ a. reaches edges a id) (λ a. (λ h. reaches-to edges a id ((all a).0 h), λ h. (all a).1 (reaches-from edges a id h)))
 
 -- ---- hosts that capture
 

@@ -1,14 +1,14 @@
 -- What is seen is reached, and where nothing more is found all that is reached is seen.
-use Rattle.std.proofs.Common.{◌≡◌, refl, sym, ap, subst, ◌∙◌, ℕ, zero, suc, ◌<◌, ◌≤◌, List, [], ◌∷◌, ◌++◌, length, get_or, Bool, true, false, not, ◌==◌, ◌&&◌, ◌||◌, ◌⊎◌, inl, inr, Option, Some, None, nat_eq, arith}
+use Rattle.std.proofs.Common.{◌≡◌, refl, sym, ap, subst, ◌∙◌, ℕ, zero, suc, ◌<◌, ◌≤◌, List, [], ◌∷◌, ◌++◌, length, length-append, get_or, Bool, true, false, not, ◌==◌, ◌&&◌, ◌||◌, ◌⊎◌, inl, inr, Option, Some, None, arith}
 use Rattle.std.specs.Option.{option_map_or}
-use Rattle.std.specs.List.{list_any, filter_map, cons_option, IsDistinct}
+use Rattle.std.specs.List.{list_any, cons_option, IsDistinct}
 use Rattle.std.proofs.lemmas.Bool.{false≢true, true≢false, eqb-true, eq-eqb, and_parts, and_from, not-true, not_from_false, or_left, or_right, or_cases, or_parts, cases_Bool}
 use Rattle.std.proofs.lemmas.List.Folds.{list_any_at}
 use Rattle.stream_law.specs.declared.graph.Edge.{Edge}
 use Rattle.stream_law.specs.Ways.{is_end}
 use Rattle.tplg_walks.specs.Cycles.{are_joined, EdgeWalk, Reaches}
 use Rattle.stream_law.specs.Order.{is_among}
-use Rattle.tplg_walks.specs.Reach.{IsFound, IsSaturated}
+use Rattle.tplg_walks.specs.Reach.{IsFound, IsSaturated, AreSeen, sinks_of}
 use Rattle.tplg_walks.proofs.Among.{push_cases, distinct-push, distinct-le}
 use Rattle.tplg_walks.proofs.Among.{is_end-some}
 
@@ -71,10 +71,6 @@ closed (e ∷ es) from seen none a b behind j =
     by_first (inr h) no_more rest = rest h
     by_first (inl h) no_more rest = let ends = and_parts (is_end e.source a) (is_end e.sink b) h in seen_already (cases_Bool (is_among seen b)) ends.0 ends.1 no_more
 
--- the sinks of the edges
-abbrev pub sinks_of : List Edge → List ℕ
-sinks_of edges = filter_map (λ e. e.sink) edges
-
 pub length-sinks_of : (edges : List Edge) → length (sinks_of edges) ≤ length edges
 length-sinks_of [] = omega arith
 length-sinks_of (e ∷ es) = by_sink e.sink (length-sinks_of es)
@@ -95,16 +91,11 @@ joined-sink (e ∷ es) a b h = by_first (or_cases (is_end e.source a && is_end e
     by_first (inl k) rest = ap (λ o. is_among (cons_option o (sinks_of es)) b) (is_end-some e.sink b (and_parts (is_end e.source a) (is_end e.sink b) k).1) ∙ or_left (b == b) (is_among (sinks_of es) b) (eq-eqb b b refl)
     by_first (inr k) rest = more e.sink (rest k)
 
-pub record Seen (edges : List Edge) (from : ℕ) (seen : List ℕ) : Type 0 where
-  pub distinct : IsDistinct nat_eq seen
-  pub there : (x : ℕ) → is_among seen x ≡ true → is_among (sinks_of edges) x ≡ true
-  pub reached : (x : ℕ) → is_among seen x ≡ true → Reaches edges from x
-
-pub Seen-none : (edges : List Edge) (from : ℕ) → Seen edges from []
+pub Seen-none : (edges : List Edge) (from : ℕ) → AreSeen edges from []
 unfolding IsDistinct
 Seen-none edges from = record { distinct = tt; there = λ x h. absurd (false≢true h); reached = λ x h. absurd (false≢true h) }
 
-pub Seen-more : (edges : List Edge) (from : ℕ) (seen : List ℕ) (b : ℕ) → IsFound edges from seen b → Seen edges from seen → Seen edges from (seen ++ b ∷ [])
+pub Seen-more : (edges : List Edge) (from : ℕ) (seen : List ℕ) (b : ℕ) → IsFound edges from seen b → AreSeen edges from seen → AreSeen edges from (seen ++ b ∷ [])
 Seen-more edges from seen b f s = record { distinct = distinct-push seen b s.distinct f.apart; there = λ x h. there x (push_cases seen b x h); reached = λ x h. reached x (push_cases seen b x h) }
   where
     there : (x : ℕ) → (is_among seen x ≡ true) ⊎ (b ≡ x) → is_among (sinks_of edges) x ≡ true
@@ -119,12 +110,16 @@ Seen-more edges from seen b f s = record { distinct = distinct-push seen b s.dis
     reached x (inl h) = s.reached x h
     reached x (inr h) = let r = by_source f.behind in (r.0, subst (EdgeWalk edges (suc r.0) from) h r.1)
 
-pub Seen-few : (edges : List Edge) (from : ℕ) (seen : List ℕ) → Seen edges from seen → length seen ≤ length edges
+pub Seen-few : (edges : List Edge) (from : ℕ) (seen : List ℕ) → AreSeen edges from seen → length seen ≤ length edges
 Seen-few edges from seen s = let few = distinct-le seen (sinks_of edges) s.distinct s.there in omega (arith, few, length-sinks_of edges)
+
+-- before one more is found, there are fewer than the edges
+pub Seen-room : (edges : List Edge) (from : ℕ) (seen : List ℕ) (b : ℕ) → IsFound edges from seen b → AreSeen edges from seen → length seen < length edges
+Seen-room edges from seen b f s = omega (arith, Seen-few edges from (seen ++ b ∷ []) (Seen-more edges from seen b f s), length-append seen (b ∷ []))
 
 all_seen : (edges : List Edge) (from : ℕ) (seen : List ℕ) → IsSaturated edges from seen → (n a b : ℕ) → (a ≡ from) ⊎ (is_among seen a ≡ true) → EdgeWalk edges (suc n) a b → is_among seen b ≡ true
 all_seen edges from seen closed zero a b behind w = ap (is_among seen) (sym w.2) ∙ closed a w.0 behind w.1
 all_seen edges from seen closed (suc n) a b behind w = all_seen edges from seen closed n w.0 b (inr (closed a w.0 behind w.1)) w.2
 
-pub Seen-all : (edges : List Edge) (from : ℕ) (seen : List ℕ) → IsSaturated edges from seen → Seen edges from seen → (b : ℕ) → Reaches edges from b → is_among seen b ≡ true
+pub Seen-all : (edges : List Edge) (from : ℕ) (seen : List ℕ) → IsSaturated edges from seen → AreSeen edges from seen → (b : ℕ) → Reaches edges from b → is_among seen b ≡ true
 Seen-all edges from seen closed s b r = all_seen edges from seen closed r.0 from b (inl refl) r.1

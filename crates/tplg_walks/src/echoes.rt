@@ -1,12 +1,13 @@
 // Echo edges, and the edges that are none.
-ghost use Rattle.std.specs.Prelude.{◌≡◌, ◌≤◌, length, take, false};
+ghost use Rattle.std.specs.Prelude.{◌≡◌, ◌≤◌, ◌&&◌, ◌||◌, not, length, take, false};
 ghost use Rattle.std.specs.List.{list_any};
 ghost use Rattle.std.specs.Option.{option_map_or};
+ghost use Rattle.stream_law.specs.Order as order;
 ghost use Rattle.stream_law.specs.Ways as ways;
 ghost use Rattle.tplg_walks.specs.Cycles as cycles;
 ghost use Rattle.tplg_walks.specs.Echoes as law;
 
-use crate::walks::{reached, reaches};
+use crate::walks::{is_among, reached, reaching};
 use stream_law::{Comp, Edge, Kind};
 
 fn is_play(kind: Kind) -> bool
@@ -60,16 +61,27 @@ fn splits_at(comps: &[Comp], id: u32) -> bool
 
 /// Whether one of some ids is a host that captures.
 pub fn any_captures(comps: &[Comp], ids: &[u32]) -> bool
-    ensures { result ≡ list_any (cycles.captures_at comps.now) ids.now }
+    ensures { result ≡ list_any (λ c. ways.is_capture c.kind && order.is_among ids.now c.id) comps.now }
 {
-    ids.iter().any(|id| captures_at(comps, *id))
+    comps
+        .iter()
+        .any(|c| is_capture(c.kind) && is_among(ids, c.id))
 }
 
 /// Whether one of some ids is a DAI that plays.
 fn any_dai_plays(comps: &[Comp], ids: &[u32]) -> bool
-    ensures { result ≡ list_any (law.is_sort_at comps.now ways.is_dai_play) ids.now }
+    ensures { result ≡ list_any (λ c. ways.is_dai_play c.kind && order.is_among ids.now c.id) comps.now }
 {
-    ids.iter().any(|id| dai_plays_at(comps, *id))
+    comps
+        .iter()
+        .any(|c| is_dai_play(c.kind) && is_among(ids, c.id))
+}
+
+/// Whether one of some ids is a host that plays.
+fn any_plays(comps: &[Comp], ids: &[u32]) -> bool
+    ensures { result ≡ list_any (λ c. ways.is_play c.kind && order.is_among ids.now c.id) comps.now }
+{
+    comps.iter().any(|c| is_play(c.kind) && is_among(ids, c.id))
 }
 
 /// Whether an id reaches a DAI that plays.
@@ -80,22 +92,12 @@ fn reaches_dai(comps: &[Comp], edges: &[Edge], id: u32) -> bool
     any_dai_plays(comps, reached(edges, id).as_slice())
 }
 
-/// Whether an id reaches a host that captures.
-fn reaches_capture(comps: &[Comp], edges: &[Edge], id: u32) -> bool
-    requires { length edges.now ≤ 128 }
-    ensures { result ≡ law.reaches_sort comps.now edges.now ways.is_capture id }
-{
-    any_captures(comps, reached(edges, id).as_slice())
-}
-
 /// Whether an id is reached from a host that plays.
 fn is_played(comps: &[Comp], edges: &[Edge], id: u32) -> bool
     requires { length edges.now ≤ 128 }
     ensures { result ≡ law.reached_by_sort comps.now edges.now ways.is_play id }
 {
-    comps
-        .iter()
-        .any(|c| is_play(c.kind) && reaches(edges, c.id, id))
+    any_plays(comps, reaching(edges, id).as_slice())
 }
 
 /// Whether a component splits, is reached from a host that plays and reaches a DAI that plays.
@@ -106,13 +108,20 @@ fn leaves_demux(comps: &[Comp], edges: &[Edge], id: u32) -> bool
     splits_at(comps, id) && is_played(comps, edges, id) && reaches_dai(comps, edges, id)
 }
 
+/// Whether an id or one of those that it reaches is a host that captures, and none of them a DAI that plays.
+fn leads_to_captures_alone(comps: &[Comp], ids: &[u32], id: u32) -> bool
+    ensures { result ≡ ((law.is_sort_at comps.now ways.is_capture id || list_any (λ c. ways.is_capture c.kind && order.is_among ids.now c.id) comps.now) && not (law.is_sort_at comps.now ways.is_dai_play id || list_any (λ c. ways.is_dai_play c.kind && order.is_among ids.now c.id) comps.now)) }
+{
+    (captures_at(comps, id) || any_captures(comps, ids))
+        && !(dai_plays_at(comps, id) || any_dai_plays(comps, ids))
+}
+
 /// Whether a component is or reaches a host that captures, and neither is nor reaches a DAI that plays.
 fn enters_host_capture(comps: &[Comp], edges: &[Edge], id: u32) -> bool
     requires { length edges.now ≤ 128 }
     ensures { result ≡ law.enters_host_capture comps.now edges.now id }
 {
-    (captures_at(comps, id) || reaches_capture(comps, edges, id))
-        && !(dai_plays_at(comps, id) || reaches_dai(comps, edges, id))
+    leads_to_captures_alone(comps, reached(edges, id).as_slice(), id)
 }
 
 fn leaves_demux_at(comps: &[Comp], edges: &[Edge], end: Option<u32>) -> bool
@@ -135,11 +144,23 @@ fn enters_host_capture_at(comps: &[Comp], edges: &[Edge], end: Option<u32>) -> b
     }
 }
 
+fn splits_from(comps: &[Comp], end: Option<u32>) -> bool
+    ensures { result ≡ option_map_or (law.is_sort_at comps.now ways.splits) end false }
+{
+    match end {
+        None => false,
+        Some(id) => splits_at(comps, id),
+    }
+}
+
+/// Whether an edge is an echo edge. Most are not even from a component that splits, and of the others most lead into no capture.
 fn is_echo_edge(comps: &[Comp], edges: &[Edge], edge: Edge) -> bool
     requires { length edges.now ≤ 128 }
     ensures { result ≡ law.is_echo_edge comps.now edges.now edge }
 {
-    leaves_demux_at(comps, edges, edge.source) && enters_host_capture_at(comps, edges, edge.sink)
+    splits_from(comps, edge.source)
+        && enters_host_capture_at(comps, edges, edge.sink)
+        && leaves_demux_at(comps, edges, edge.source)
 }
 
 /// Puts the edges that are no echo edges at the front of a list, and answers how many they are.

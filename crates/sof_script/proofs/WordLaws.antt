@@ -1,5 +1,5 @@
 -- A first token that is a word says what the word does.
-use Rattle.std.proofs.Common.{◌≡◌, ℕ, Bool, true, false, cond, List, [], ◌∷◌, codes, Option, Some, None, Result, Ok, Err, refl}
+use Rattle.std.proofs.Common.{◌≡◌, ℕ, Bool, true, false, cond, List, [], ◌∷◌, codes, Option, Some, None, Result, Ok, Err, IfOk, refl, ap, ◌∙◌}
 use Rattle.std.specs.List.{AllByRecursion}
 use Rattle.std.specs.Str.{bytes_eq}
 use Rattle.sof_script.specs.declared.words.Word.{Word}
@@ -105,3 +105,8 @@ along token args ((text, w, form) ∷ rows) are =
 
 pub said-by-word : (token : List ℕ) (args : List (List ℕ)) → behind_word (word_named token) args ≡ said_by token args
 said-by-word token args = along token args word_rows (bound-is true args, (bound-is false args, (refl, (refl, (refl, (refl, (refl, (name-is command.Open args, (name-is command.Start args, (name-is command.Stop args, (name-is command.Pause args, (name-is command.Release args, (name-is command.Close args, (name-is command.Get args, (name-is command.Read args, (refl, (refl, (hex-is args, (number-is 60000 command.Tick args, (error-is args, (number-is 100000 command.Drop args, (number-is 100000 command.Lose args, (lag-is args, tt)))))))))))))))))))))))
+
+-- what is made of a word that a token is, where there was memory
+pub if-said : {E : Type 0} (r : Result (Result Item Cause) E) (token : List ℕ) (args : List (List ℕ)) (w : Word) → Some w ≡ word_named token → IfOk r (λ item. item ≡ worded_item w args) → IfOk r (λ item. item ≡ said_by token args)
+if-said (Ok item) token args w is made = made ∙ ap (λ (o : Option Word). behind_word o args) is ∙ said-by-word token args
+if-said (Err e) token args w is made = tt

@@ -1,10 +1,14 @@
 // What a line is.
-ghost use Rattle.std.specs.Prelude.{◌≡◌, ◌≤◌, length};
+ghost use Rattle.std.specs.Prelude.{◌≡◌, ◌≢◌, ◌≤◌, length, Ok, Err, IfOk, MatchResult};
 ghost use Rattle.sof_script.specs.TokenStarts.{texts};
+ghost use Rattle.sof_script.specs.declared.items.Item.TheVariants.{Do};
+ghost use Rattle.sof_script.specs.declared.script.Command.TheVariants as command;
+ghost use Rattle.sof_script.specs.declared.words.Word.TheVariants as words;
 ghost use Rattle.sof_script.specs.Words.{worded_item};
 ghost use Rattle.sof_script.specs.Commands.{line_item, said_by, alone, params_item, values_item, number_values};
 ghost use Rattle.sof_script.specs.ArgumentForms.{one_name, one_number, bound, hex_item, error_item, lag_item};
 
+use crate::blob::Blob;
 use crate::fault_causes::Cause;
 use crate::file_name::FileName;
 use crate::line_tokens::Tokens;
@@ -13,25 +17,26 @@ use crate::script::Command;
 use crate::values::{error, format, hex, name, number};
 use crate::words::Word;
 use arrayvec::ArrayVec;
-use sof_base::{Bounded, Name44, Params};
+use sof_base::{Bounded, Name44, NoMemory, Params};
+use std::alloc::Global;
 
 /// What a line is.
 #[derive(Debug, Drop)]
-pub enum Item {
+pub enum Item<'a> {
     /// It is skipped.
     Nothing,
     /// An endpoint's bytes come from a file (`input`) or go to it.
     Bind {
         input: bool,
         endpoint: Name44,
-        file: FileName,
+        file: FileName<'a>,
     },
     /// A command.
     Do(Command),
 }
 
 // A word without arguments.
-fn without(args: &[&[u8]], command: Command) -> Result<Item, Cause>
+fn without(args: &[&[u8]], command: Command) -> Result<Item<'static>, Cause>
     ensures { result ≡ alone command (texts args.now) }
 {
     if args.is_empty() {
@@ -62,7 +67,7 @@ fn lone_number(args: &[&[u8]], most: u32) -> Result<u32, Cause>
 }
 
 // An endpoint and its file.
-fn binding(args: &[&[u8]], input: bool) -> Result<Item, Cause>
+fn binding<'a>(args: &[&'a [u8]], input: bool) -> Result<Item<'a>, Cause>
     ensures { result ≡ bound input (texts args.now) }
 {
     if args.len() != 2 {
@@ -78,7 +83,7 @@ fn binding(args: &[&[u8]], input: bool) -> Result<Item, Cause>
 }
 
 // A stream and its parameters.
-fn params(args: &[&[u8]]) -> Result<Item, Cause>
+fn params(args: &[&[u8]]) -> Result<Item<'static>, Cause>
     ensures { result ≡ params_item (texts args.now) }
 {
     if args.len() != 4 {
@@ -112,7 +117,7 @@ fn numbers(tokens: &[&[u8]]) -> Result<Bounded<u32, 8>, Cause>
 }
 
 // A control and one to eight numbers.
-fn values(args: &[&[u8]]) -> Result<Item, Cause>
+fn values(args: &[&[u8]]) -> Result<Item<'static>, Cause>
     ensures { result ≡ values_item (texts args.now) }
 {
     if args.len() < 2 {
@@ -126,20 +131,35 @@ fn values(args: &[&[u8]]) -> Result<Item, Cause>
     Ok(Item::Do(Command::Set(control, values)))
 }
 
-// A control and bytes.
-fn blob(args: &[&[u8]]) -> Result<Item, Cause>
-    ensures { result ≡ hex_item (texts args.now) }
+// A control and bytes, as they stand on the line.
+fn control_and_bytes(args: &[&[u8]]) -> Result<(Name44, Bounded<u8, 1024>), Cause>
+    ensures { MatchResult result
+        (λ read. hex_item (texts args.now) ≡ Ok (Do (command.Bytes read.0 read.1)))
+        (λ cause. hex_item (texts args.now) ≡ Err cause) }
 {
     if args.len() != 2 {
         return Err(Cause::Count);
     }
     let bytes = hex(args[1])?;
     let control = name(args[0])?;
-    Ok(Item::Do(Command::Bytes(control, bytes)))
+    Ok((control, bytes))
+}
+
+// A control and bytes, which take memory of their own.
+fn blob(alloc: Global, args: &[&[u8]]) -> Result<Result<Item<'static>, Cause>, NoMemory>
+    ensures { IfOk result (λ item. item ≡ hex_item (texts args.now)) }
+{
+    match control_and_bytes(args) {
+        Ok((control, bytes)) => {
+            let blob = Blob::new(alloc, bytes.items())?;
+            Ok(Ok(Item::Do(Command::Bytes(control, blob))))
+        }
+        Err(cause) => Ok(Err(cause)),
+    }
 }
 
 // A message and an error.
-fn refusal(args: &[&[u8]]) -> Result<Item, Cause>
+fn refusal(args: &[&[u8]]) -> Result<Item<'static>, Cause>
     ensures { result ≡ error_item (texts args.now) }
 {
     if args.len() != 2 {
@@ -151,7 +171,7 @@ fn refusal(args: &[&[u8]]) -> Result<Item, Cause>
 }
 
 // A message and ticks.
-fn lag(args: &[&[u8]]) -> Result<Item, Cause>
+fn lag(args: &[&[u8]]) -> Result<Item<'static>, Cause>
     ensures { result ≡ lag_item (texts args.now) }
 {
     if args.len() != 2 {
@@ -162,8 +182,9 @@ fn lag(args: &[&[u8]]) -> Result<Item, Cause>
     Ok(Item::Do(Command::Lag(message, ticks)))
 }
 
-// What a word and the tokens after it say.
-fn meant(word: Word, args: &[&[u8]]) -> Result<Item, Cause>
+// What a word and the tokens after it say that take no memory, which all do but `bytes`.
+fn meant_at_once<'a>(word: Word, args: &[&'a [u8]]) -> Result<Item<'a>, Cause>
+    requires { word ≢ words.Bytes }
     ensures { result ≡ worded_item word (texts args.now) }
 {
     match word {
@@ -184,7 +205,7 @@ fn meant(word: Word, args: &[&[u8]]) -> Result<Item, Cause>
         Word::Read => Ok(Item::Do(Command::Read(lone_name(args)?))),
         Word::Params => params(args),
         Word::Set => values(args),
-        Word::Bytes => blob(args),
+        Word::Bytes => unreachable!(),
         Word::Tick => Ok(Item::Do(Command::Tick(lone_number(args, 60_000)?))),
         Word::Refuse => refusal(args),
         Word::Drop => Ok(Item::Do(Command::Drop(lone_number(args, 100_000)?))),
@@ -193,32 +214,50 @@ fn meant(word: Word, args: &[&[u8]]) -> Result<Item, Cause>
     }
 }
 
+// What a word and the tokens after it say.
+fn meant<'a>(
+    alloc: Global,
+    word: Word,
+    args: &[&'a [u8]],
+) -> Result<Result<Item<'a>, Cause>, NoMemory>
+    ensures { IfOk result (λ item. item ≡ worded_item word (texts args.now)) }
+{
+    match word {
+        Word::Bytes => blob(alloc, args),
+        _ => Ok(meant_at_once(word, args)),
+    }
+}
+
 // What a first token and the tokens after it say.
-fn said(first: &[u8], args: &[&[u8]]) -> Result<Item, Cause>
-    ensures { result ≡ said_by first.now (texts args.now) }
+fn said<'a>(
+    alloc: Global,
+    first: &[u8],
+    args: &[&'a [u8]],
+) -> Result<Result<Item<'a>, Cause>, NoMemory>
+    ensures { IfOk result (λ item. item ≡ said_by first.now (texts args.now)) }
 {
     match Word::of(first) {
-        Some(word) => meant(word, args),
-        None => Err(Cause::Word),
+        Some(word) => meant(alloc, word, args),
+        None => Ok(Err(Cause::Word)),
     }
 }
 
 /// What a line is, or its least cause: a byte that may not stand there, a broken quote, an unknown word, a wrong count of
-/// tokens, a number, hex, a name.
-pub fn read_line(line: &[u8]) -> Result<Item, Cause>
-    ensures { result ≡ line_item line.now }
+/// tokens, a number, hex, a name. Bytes take memory.
+pub fn read_line(alloc: Global, line: &[u8]) -> Result<Result<Item<'_>, Cause>, NoMemory>
+    ensures { IfOk result (λ item. item ≡ line_item line.now) }
 {
     let Some(rest) = from_first_token(line) else {
-        return Ok(Item::Nothing);
+        return Ok(Ok(Item::Nothing));
     };
     if !all_may_stand(line) {
-        return Err(Cause::Byte);
+        return Ok(Err(Cause::Byte));
     }
     let Some(tokens) = Tokens::of(rest) else {
-        return Err(Cause::Quote);
+        return Ok(Err(Cause::Quote));
     };
     let [first, args @ ..] = tokens.all() else {
-        return Ok(Item::Nothing);
+        return Ok(Ok(Item::Nothing));
     };
-    said(first, args)
+    said(alloc, first, args)
 }

@@ -2,6 +2,7 @@
 #![tactic(auto)]
 
 mod answer;
+mod blob;
 mod fault_causes;
 mod file_name;
 mod items;
@@ -15,6 +16,7 @@ pub mod values;
 mod words;
 
 pub use answer::{say_bytes, say_values, write_answer};
+pub use blob::Blob;
 pub use fault_causes::{Cause, cause_word};
 pub use file_name::FileName;
 pub use kinds::{format_words, kind_words};

@@ -26,9 +26,9 @@ pub enum ScriptFault {
 }
 
 // One more item of a script.
-fn add(alloc: Global, script: &mut Script, line: u32, next: Item) -> Result<(), NoMemory>
+fn add(alloc: Global, script: &mut Script, line: u32, next: Item<'_>) -> Result<(), NoMemory>
     ensures added { (read : Result Read ScriptFault) → OnOk result
-        (behind (script_read script.old) (with_item line (Ok next) read) ≡ behind (script_read script.new) read) }
+        (behind (script_read script.old) (with_item line (Ok next.entry) read) ≡ behind (script_read script.new) read) }
     ensures one { length script.new.commands ≤ length script.old.commands + 1 }
 {
     match next {
@@ -69,7 +69,11 @@ pub fn parse(alloc: Global, bytes: &[u8]) -> Result<Script, ScriptFault>
     let mut number = 1;
     while !rest.is_empty() {
         let (line, behind) = first_line(rest);
-        let next = match read_line(before_return(line)) {
+        let read = match read_line(alloc, before_return(line)) {
+            Ok(read) => read,
+            Err(NoMemory) => return Err(ScriptFault::OutOfMemory),
+        };
+        let next = match read {
             Ok(next) => next,
             Err(cause) => {
                 return Err(ScriptFault::Line {

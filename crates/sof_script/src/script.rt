@@ -4,6 +4,7 @@ ghost use Rattle.std.specs.List.{sum_by};
 ghost use Rattle.sof_script.specs.Ticks.{command_ticks};
 ghost use Rattle.sof_script.specs.ScriptRead.{line_ticks};
 
+use crate::blob::Blob;
 use sof_base::{Bounded, Items, Name44, Params};
 
 /// A command of the host. A `K` counts messages from the next one, which is 1.
@@ -35,7 +36,7 @@ pub enum Command {
     /// One to eight values for a control.
     Set(Name44, Bounded<u32, 8>),
     /// A blob of at most 1024 bytes for an equaliser.
-    Bytes(Name44, Bounded<u8, 1024>),
+    Bytes(Name44, Blob),
     /// This many ticks, 1 to 60000.
     Tick(u32),
     /// Message K is answered with this error, from -4095 to -1, and not delivered.

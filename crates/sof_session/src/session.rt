@@ -30,7 +30,7 @@ use host_widgets::{Answer, HostFault, Power, Record, Trigger, load, unload};
 use mbox_link::{Drain, Dsp, Fate, FaultLink, NoRoom};
 use sof_base::{Bounded, Name44, NoMemory};
 use sof_io::{Inputs, Outputs};
-use sof_script::{Command, Line};
+use sof_script::{Blob, Command, Line};
 use std::alloc::Global;
 use std::marker::Model;
 use tplg_plan::Plan;
@@ -501,7 +501,7 @@ impl<P: Dsp> Session<P> {
     fn set_bytes(
         &mut self,
         name: &Name44,
-        blob: &Bounded<u8, 1024>,
+        blob: &Blob,
         io: &mut Inputs,
         out: &mut Outputs,
     ) -> Answer

@@ -1,10 +1,14 @@
-use Rattle.std.proofs.Common.{◌≡◌, ap, ◌∙◌, ℕ, List, true, false}
+use Rattle.std.proofs.Common.{◌≡◌, sym, ap, ◌∙◌, ℕ, List, true, false}
 use Rattle.fw_components.specs.Tables.{Tables, graph_of}
 use Rattle.stream_law.specs.declared.graph.Join.{Join}
 use Rattle.stream_law.specs.Order.{is_among}
 use Rattle.fw_places.specs.Walks.{leads_by}
-use Rattle.fw_pipeline.proofs.OneJoin.{cycle-marked, ends-listed}
+use Rattle.fw_pipeline.proofs.OneJoin.{cycle-marked, ends-listed, never-closes}
 use Rattle.fw_pipeline.proofs.one_join.closes.Goals as goal
+
+pub returns-then-not-may_lead-clause-cycle : goal.returns-then-not-may_lead-clause-cycle
+returns-then-not-may_lead-clause-cycle c =
+    never-closes (graph_of c.args.registry.now) c.joins.result.now c.args.source c.args.sink c.joins.ensures.items (sym c.may_lead.ensures ∙ c.if-not-may_lead.true)
 
 pub returns-clause-cycle : goal.returns-clause-cycle
 returns-clause-cycle c =

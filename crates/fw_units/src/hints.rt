@@ -4,7 +4,7 @@ ghost use Rattle.stream_law.specs.Placed.{Ascends};
 ghost use Rattle.fw_units.specs.Changes.{has_id};
 
 use crate::component::Component;
-use crate::table::place_of;
+use crate::table::place_by_halves;
 
 /// By the last byte of an id the place at which it was seen. Any place will do: one that is wrong costs a search.
 #[derive(Drop)]
@@ -34,7 +34,7 @@ impl Hints {
         if seen < components.len() && components[seen].id == id {
             return Some(seen);
         }
-        place_of(components, id)
+        place_by_halves(components, id)
     }
     /// The place of the component of an id that is there.
     #[inline]

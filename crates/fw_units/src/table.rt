@@ -17,6 +17,32 @@ pub fn place_of(components: &[Component], id: u32) -> Option<usize>
     components.iter().position(|component| component.id == id)
 }
 
+/// The place of the component of an id in a list that ascends, by halves.
+#[tactic(auto, using(crate::proofs::Hinted::below_none, crate::proofs::Hinted::from_none, crate::proofs::Hinted::below_to, crate::proofs::Hinted::from_at, crate::proofs::Hinted::none_past, crate::proofs::Hinted::none_between, crate::proofs::Hinted::found_at))]
+pub fn place_by_halves(components: &[Component], id: u32) -> Option<usize>
+    requires { Ascends (λ c. c.id) components.now }
+    ensures { result ≡ position (λ c. c.id == id) components.now }
+{
+    let mut from = 0;
+    let mut end = components.len();
+    while from < end {
+        let middle = from + (end - from) / 2;
+        if components[middle].id < id {
+            from = middle + 1;
+        } else {
+            end = middle;
+        }
+    }
+    if from >= components.len() {
+        return None;
+    }
+    if components[from].id == id {
+        Some(from)
+    } else {
+        None
+    }
+}
+
 // The place of the first component of a greater id.
 fn first_above(components: &[Component], id: u32) -> Option<usize>
     ensures { result ≡ position (λ c. nat_lt id c.id) components.now }

@@ -1,8 +1,8 @@
 //! One region of memory.
-ghost use Rattle.std.specs.Prelude.{◌≡◌, ◌+◌, ◌*◌, ◌/◌, ◌%◌, ◌^◌, ◌<◌, ◌≤◌, ◌↔◌, [], true, false, length, vec_capacity, IsTrue, IsOk, IfOk, IfErr};
+ghost use Rattle.std.specs.Prelude.{◌≡◌, ◌+◌, ◌*◌, ◌/◌, ◌%◌, ◌^◌, ◌<◌, ◌≤◌, ◌↔◌, [], max, true, false, length, vec_capacity, IsTrue, IsOk, IfOk, IfErr};
 ghost use Rattle.core.specs.Mem.Slots.{slots_len, SamePlaces, IsFull};
 ghost use Rattle.fw_heap.specs.HoleList.{spans, Ours};
-ghost use Rattle.sof_base.specs.Holes.{fresh_holes, usable_of, rounded, fits, first_fit, carved, given};
+ghost use Rattle.sof_base.specs.Holes.{fresh_holes, usable_of, rounded, fits, first_fit, carved, given, largest as largest_of};
 ghost use Rattle.sof_base.specs.Spacing.{total};
 ghost use Rattle.fw_heap.specs.Regions.{carves, limited};
 
@@ -91,6 +91,24 @@ fn free(holes: &Vec<FreeRun>) -> u32
     free
 }
 
+// The size of the largest of these, 0 if there is none.
+fn greatest(holes: &Vec<FreeRun>) -> u32
+    ensures { result ≡ largest_of (spans holes.now.items) }
+{
+    let mut most = 0;
+    for hole in holes {
+        most = greater(most, hole.size);
+    }
+    most
+}
+
+// The greater of two numbers.
+fn greater(a: u32, b: u32) -> u32
+    ensures { result ≡ max a b }
+{
+    if a < b { b } else { a }
+}
+
 /// Writes 0 to each word of a run.
 fn written(run: Run, home: Home, first: usize, len: u32) -> Run
     requires { (home.start ≡ run.start) × (first ≡ run.first) × (len ≡ length run.items) × (first + len < 2 ^ 32) × (run.written ≡ false) }
@@ -159,6 +177,13 @@ impl Region {
         ensures { result + total self.now.holes ≡ self.now.usable }
     {
         self.usable - free(&self.holes)
+    }
+
+    /// The size of the largest hole, in bytes; 0 if no hole is left.
+    pub fn largest(&self) -> u32
+        ensures { result ≡ largest_of self.now.holes }
+    {
+        greatest(&self.holes)
     }
 
     pub fn size(&self) -> u32

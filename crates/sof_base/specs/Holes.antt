@@ -1,5 +1,5 @@
 -- The free parts of a heap as a list, and what carving and giving back make of it. Places and sizes are in bytes.
-use Rattle.std.specs.Prelude.{ℕ, ◌+◌, ◌-◌, ◌*◌, ◌/◌, Bool, List, [], ◌∷◌, ◌==◌, nat_le, nat_lt, if◌then◌else◌}
+use Rattle.std.specs.Prelude.{ℕ, ◌+◌, ◌-◌, ◌*◌, ◌/◌, Bool, List, [], ◌∷◌, ◌==◌, nat_le, nat_lt, max, if◌then◌else◌}
 use Rattle.std.specs.List.{list_any}
 use Rattle.sof_base.specs.declared.hole.Hole.{Hole}
 
@@ -18,6 +18,11 @@ fresh_holes n = if n == 0 then [] else record { place = 0; size = n } ∷ []
 -- some hole has n bytes
 abbrev pub fits : ℕ → List Hole → Bool
 fits n hs = list_any (λ (h : Hole). nat_le n h.size) hs
+
+-- the size of the largest hole, 0 if there is no hole
+abbrev pub largest : List Hole → ℕ
+largest [] = 0
+largest (h ∷ hs) = max h.size (largest hs)
 
 -- the place of the first hole that has n bytes
 abbrev pub first_fit : ℕ → List Hole → ℕ

@@ -17,6 +17,7 @@ mod ProcessLaws
 mod SeenFrames
 mod SeenLaws
 mod SeenMoves
+pub mod StagedUnder
 mod Started
 mod TallyKept
 pub mod Tallying

@@ -45,7 +45,8 @@ use Rattle.fw_core.proofs.Streams.{err-same}
 use Rattle.fw_core.proofs.Values.{there-used, comp-found}
 use Rattle.fw_core.proofs.Shapes.{Fits, moves, frames, HasRamp, IsSame, shapes-are, fits-map, ramps-map, set_value-same}
 use Rattle.fw_core.proofs.Numbers.{marked-equaliser, numbers-own, seen-mark, seen-on}
-use Rattle.fw_core.proofs.PartStaging.{put, staging-found, staging-parted}
+use Rattle.fw_components.proofs.StagedUnder.{staging-found}
+use Rattle.fw_core.proofs.PartStaging.{put, staging-parted}
 use Rattle.fw_core.proofs.PartedUnits.{parted-kind, parted-setting, takes-row, parted-id, parted-moves, parted-lengths, seat-parted, parted-streams, parted-comps, same-settings, histories-kept, rings-alike}
 
 -- ---- SET_DATA

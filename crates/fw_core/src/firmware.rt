@@ -1,6 +1,7 @@
 // The firmware, its making and its end.
 ghost use Rattle.std.specs.Prelude.{◌≡◌, ◌&&◌, ◌||◌, IfOk, None, Some, true, is_some};
 ghost use Rattle.fw_components.specs.States.{AreOf, with_tables};
+ghost use Rattle.sof_base.specs.Holes.{largest as largest_of};
 ghost use Rattle.stream_law.specs.State.{FwState};
 ghost use Rattle.fw_core.specs.Device.{used_of, stepped, reply_to, with_state};
 ghost use Rattle.fw_core.specs.Laid.{no_tables};
@@ -75,6 +76,13 @@ impl Firmware {
         ensures { result ≡ used_of self.now.state }
     {
         self.region.used()
+    }
+
+    /// The size of the largest hole of its heap, in bytes; 0 if no hole is left.
+    pub fn largest(&self) -> u32
+        ensures { (f : FwState) → self.now.state ≡ Some f → result ≡ largest_of f.heap.holes }
+    {
+        self.region.largest()
     }
 
     /// Its components, buffers and pipelines: those of its state where it is on, and none where it is off. Each piece that they hold,

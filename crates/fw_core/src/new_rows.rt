@@ -9,8 +9,8 @@ ghost use Rattle.fw_components.specs.Changes.{added, is_there, is_full, IsNew, h
 ghost use Rattle.fw_core.specs.Held.{IsPieceHeld};
 ghost use Rattle.fw_core.specs.Answers.{IsRow};
 
-use crate::units::{bytes_of, unit_of};
-use fw_components::{Component, Registry, Unit, additions_are_seen};
+use crate::units::unit_of;
+use fw_components::{Component, Registry, Unit, additions_are_seen, bytes_of};
 use fw_heap::Region;
 use fw_pipeline::is_complete;
 use fw_ring::Ring;

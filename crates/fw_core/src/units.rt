@@ -1,5 +1,5 @@
-// What a new component is, by the words of its message, and how many bytes it takes.
-ghost use Rattle.std.specs.Prelude.{ℕ, ◌≡◌, ◌≤◌, ◌<◌, replicate, false};
+// What a new component is, by the words of its message.
+ghost use Rattle.std.specs.Prelude.{◌≡◌, ◌≤◌, replicate, false};
 ghost use Rattle.sof_base.specs.Holes.{rounded};
 ghost use Rattle.mbox_link.specs.Step.{comp_bytes, sample_format, kind_of as named_kind, first_setting as named_setting, first_ramp as named_ramp};
 ghost use Rattle.ipc3_model.specs.Meanings.{IsKind};
@@ -97,17 +97,5 @@ fn frame_format(number: u32) -> Format
         0 => Format::S16,
         1 => Format::S24,
         _ => Format::S32,
-    }
-}
-
-/// The stated size of a component, in bytes, whatever its frame format.
-pub(crate) fn bytes_of(words: CompWords) -> u32
-    ensures size { (frame_fmt : ℕ) → result ≡ comp_bytes (named_kind words frame_fmt) }
-    ensures some { 0 < result }
-{
-    match words {
-        CompWords::Host { .. } | CompWords::Dai { .. } | CompWords::Volume { .. } => 64,
-        CompWords::Mixer | CompWords::Mux | CompWords::Demux => 32,
-        CompWords::Eq => 4160,
     }
 }

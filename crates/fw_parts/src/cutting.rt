@@ -37,6 +37,23 @@ fn cut(blob: &[u8], index: u32) -> Option<Part>
     }
 }
 
+/// How many parts the blob in force has.
+pub fn parts_in(eq: &Eq) -> u32
+    ensures { result ≡ parts eq.now.blob }
+{
+    let mut bytes = [0; 1024];
+    let len = eq.blob(&mut bytes) as usize;
+    count(&bytes[..len])
+}
+
+// How many parts a blob has.
+fn count(blob: &[u8]) -> u32
+    requires { length blob.now ≤ 1024 }
+    ensures { result ≡ parts blob.now }
+{
+    count_of(blob.len())
+}
+
 /// The part of this number of the blob in force, counted from 0; none where there are fewer.
 pub fn part_in(eq: &Eq, index: u32) -> Option<Part>
     ensures { result ≡ (if nat_lt index (parts eq.now.blob) then Some (blob_part eq.now.blob index) else None) }

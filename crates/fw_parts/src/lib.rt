@@ -5,5 +5,5 @@
 mod cutting;
 mod staging;
 
-pub use cutting::part_in;
+pub use cutting::{part_in, parts_in};
 pub use staging::{joined, put};

@@ -50,7 +50,7 @@ turned true false = refl
 turned false true = refl
 turned false false = refl
 
-one-way : (o : Option Params) → same_shape o None ≡ true
+pub one-way : (o : Option Params) → same_shape o None ≡ true
 one-way None = refl
 one-way (Some p) = refl
 
@@ -93,17 +93,17 @@ module _ (g : Graph) (given : Option Given) (cs : List Component) (ss : List Str
   other p c id (Host capture phase params piece) = turned (touch g c id) (same_shape p (given_to given id params))
   other p c id u = sym (ap (λ h. h || not (touch g c id)) (one-way p))
 
-  abbrev body : ℕ → Option Params → Bool
+  abbrev pub body : ℕ → Option Params → Bool
   body host params = list_all (λ r. not (touch g host r.host) || same_shape params r.params) ss
 
-  one : (id : ℕ) (unit : units.Unit) → passes body given id unit ≡ list_all (λ d. same_shape (shape_in given id unit) (shape_by given d) || not (touch g id d.id)) cs
-  one id (Host capture phase params piece) =
+  pub suits-one : (id : ℕ) (unit : units.Unit) → passes body given id unit ≡ list_all (λ d. same_shape (shape_in given id unit) (shape_by given d) || not (touch g id d.id)) cs
+  suits-one id (Host capture phase params piece) =
       law (λ host other. not (touch g id host) || same_shape (given_to given id params) other)
       ∙ all-each (λ d. passes (λ host other. not (touch g id host) || same_shape (given_to given id params) other) given d.id d.unit) (λ d. same_shape (given_to given id params) (shape_by given d) || not (touch g id d.id)) cs (λ d there. other (given_to given id params) id d.id d.unit)
-  one id u = sym (all-true cs)
+  suits-one id u = sym (all-true cs)
 
   pub suits-all : list_all (λ s. list_all (λ r. not (touch g s.host r.host) || same_shape s.params r.params) ss) ss ≡ list_all (λ c. list_all (λ d. suits g given c d) cs) cs
-  suits-all = law body ∙ all-each (λ c. passes body given c.id c.unit) (λ c. list_all (λ d. suits g given c d) cs) cs (λ c there. one c.id c.unit)
+  suits-all = law body ∙ all-each (λ c. passes body given c.id c.unit) (λ c. list_all (λ d. suits g given c d) cs) cs (λ c there. suits-one c.id c.unit)
 
 pub suits-now : (g : Graph) (cs : List Component) → list_all (λ c. list_all (λ d. suits g None c d) cs) cs ≡ agree (record { graph = g; streams = streams_by cs })
 unfolding agree

@@ -55,7 +55,7 @@ module _ (t : Tables) (up : Ascends (λ c. c.id) t.comps) where
   g = graph_of t
 
   -- the component of an id is of its own kind
-  kind-own : (p : Kind → Bool) (c : Component) → IsIn c t.comps → is_of g p c.id ≡ p (kind_by c.unit)
+  pub kind-own : (p : Kind → Bool) (c : Component) → IsIn c t.comps → is_of g p c.id ≡ p (kind_by c.unit)
   kind-own p c here = ap (λ (o : Option Comp). option_map_or (λ x. p x.kind) o false) (find-own t.comps c up here)
 
   -- among the ids of a kind

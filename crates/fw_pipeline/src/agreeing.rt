@@ -14,9 +14,9 @@ use sof_base::Params;
 
 /// The parameters that a host's stream would have.
 #[derive(Clone, Copy)]
-pub(crate) struct Given {
-    pub(crate) host: u32,
-    pub(crate) params: Params,
+pub struct Given {
+    pub host: u32,
+    pub params: Params,
 }
 
 /// Whether each two of these suit each other, with parameters that one would have.
@@ -26,8 +26,8 @@ pub(crate) fn all_suit(comps: &[Component], ways: &Ways, given: Option<Given>) -
     comps.iter().all(|one| suits_all(comps, ways, given, one))
 }
 
-// Whether one suits each of these: one without parameters suits all.
-fn suits_all(comps: &[Component], ways: &Ways, given: Option<Given>, one: &Component) -> bool
+/// Whether one suits each of these: one without parameters suits all.
+pub fn suits_all(comps: &[Component], ways: &Ways, given: Option<Given>, one: &Component) -> bool
     ensures { (g : Graph) → AreWaysOf g ways.now → AreHostsIn g comps.now → AreHostsIn g (one.now ∷ []) → result ≡ list_all (λ d. suits g given one.now d) comps.now }
 {
     if shape(one, given).is_none() {
@@ -36,8 +36,8 @@ fn suits_all(comps: &[Component], ways: &Ways, given: Option<Given>, one: &Compo
     comps.iter().all(|other| suits_one(ways, given, one, other))
 }
 
-// Whether two streams have one shape, or do not touch.
-fn suits_one(ways: &Ways, given: Option<Given>, one: &Component, other: &Component) -> bool
+/// Whether two streams have one shape, or do not touch.
+pub fn suits_one(ways: &Ways, given: Option<Given>, one: &Component, other: &Component) -> bool
     ensures { (g : Graph) → AreWaysOf g ways.now → AreHostsIn g (one.now ∷ other.now ∷ []) → result ≡ suits g given one.now other.now }
 {
     let own = shape(one, given);
@@ -48,8 +48,8 @@ fn suits_one(ways: &Ways, given: Option<Given>, one: &Component, other: &Compone
     !touches(ways, one, other)
 }
 
-// The parameters that a component's stream has or would have.
-fn shape(component: &Component, given: Option<Given>) -> Option<Params>
+/// The parameters that a component's stream has or would have.
+pub fn shape(component: &Component, given: Option<Given>) -> Option<Params>
     ensures { result ≡ shape_by given component.now }
 {
     match &component.unit {

@@ -43,23 +43,23 @@ fn is_joined(registry: &Registry, source: u32, sink: u32) -> bool
         || (leads_out(registry, source, sink) && sink_at(registry, source).is_some())
 }
 
-// Whether the ids are a component and a buffer, and the component takes one more buffer there.
-fn takes_join(registry: &Registry, source: u32, sink: u32) -> bool
+/// Whether the ids are a component and a buffer, and the component takes one more buffer there.
+pub fn takes_join(registry: &Registry, source: u32, sink: u32) -> bool
     ensures { result ≡ takes_one_more (graph_of registry.now) source sink }
 {
     (leads_in(registry, source, sink) && has_free_out(registry, source))
         || (leads_out(registry, source, sink) && has_free_in(registry, sink))
 }
 
-// From a component into a buffer.
-fn leads_in(registry: &Registry, source: u32, sink: u32) -> bool
+/// From a component into a buffer.
+pub fn leads_in(registry: &Registry, source: u32, sink: u32) -> bool
     ensures { result ≡ goes_in (graph_of registry.now) source sink }
 {
     has_comp(registry, source) && has_buffer(registry, sink)
 }
 
-// From a buffer into a component.
-fn leads_out(registry: &Registry, source: u32, sink: u32) -> bool
+/// From a buffer into a component.
+pub fn leads_out(registry: &Registry, source: u32, sink: u32) -> bool
     ensures { result ≡ goes_out (graph_of registry.now) source sink }
 {
     has_buffer(registry, source) && has_comp(registry, sink)

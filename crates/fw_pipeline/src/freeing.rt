@@ -134,14 +134,14 @@ fn has_complete_pipe(registry: &Registry, id: u32) -> bool
     ensures complete { result ≡ is_of_complete_pipe (graph_of registry.now) id }
     ensures kept { IsKept registry.now }
 {
-    match index(registry, id) {
+    match index_at(registry, id) {
         Some(index) => is_complete(registry, index),
         None => false,
     }
 }
 
-// The index of the pipeline of what an id names.
-fn index(registry: &Registry, id: u32) -> Option<u32>
+/// The index of the pipeline of what an id names.
+pub fn index_at(registry: &Registry, id: u32) -> Option<u32>
     ensures index { result ≡ index_of (graph_of registry.now) id }
     ensures kept { IsKept registry.now }
 {

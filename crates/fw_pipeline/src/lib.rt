@@ -12,10 +12,13 @@ mod settling;
 mod staying;
 mod triggering;
 
+pub use agreeing::{Given, shape, suits_all, suits_one};
 pub use completing::complete;
-pub use connecting::connect;
-pub use freeing::{Item, free_item, is_complete};
+pub use connecting::{connect, leads_in, leads_out, takes_join};
+pub use freeing::{Item, free_item, index_at, is_complete};
 pub use fw_walks::{active, live};
-pub use phases::Trigger;
-pub use preparing::params;
+pub use one_join::closes;
+pub use phases::{Trigger, leaves};
+pub use preparing::{captures_at, goes_at, is_buffer_ready, is_comp_ready, params};
+pub use staying::may_stay;
 pub use triggering::trigger;

@@ -21,8 +21,8 @@ pub(crate) fn is_refused(registry: &Registry, source: u32, sink: u32) -> bool
     closes(registry, source, sink) || !stays_with(registry, Join { source, sink })
 }
 
-// Whether a walk leads from the sink to the source already. While a graph is built, mostly no join goes on from the sink yet.
-fn closes(registry: &Registry, source: u32, sink: u32) -> bool
+/// Whether a walk leads from the sink to the source already. While a graph is built, mostly no join goes on from the sink yet.
+pub fn closes(registry: &Registry, source: u32, sink: u32) -> bool
     requires { takes_join (graph_of registry.now) source sink ≡ true }
     ensures cycle { result ≡ would_cycle (graph_of registry.now) source sink }
     ensures kept { IsKept registry.now }

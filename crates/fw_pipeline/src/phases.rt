@@ -19,7 +19,7 @@ pub enum Trigger {
 }
 
 /// Whether a phase is one to leave.
-pub(crate) fn leaves(what: Trigger, phase: Phase) -> bool
+pub fn leaves(what: Trigger, phase: Phase) -> bool
     ensures { result ≡ is_left what phase }
 {
     match what {

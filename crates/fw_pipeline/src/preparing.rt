@@ -65,8 +65,8 @@ fn refuses(registry: &Registry, host: u32, direction: u32, p: Params) -> bool
         || !agrees(registry, &ways, host, p)
 }
 
-// Whether an id is that of a host of this direction.
-fn goes_at(registry: &Registry, id: u32, direction: u32) -> bool
+/// Whether an id is that of a host of this direction.
+pub fn goes_at(registry: &Registry, id: u32, direction: u32) -> bool
     ensures { result ≡ has_kind (λ kind. has_direction kind direction) (named_kind (graph_of registry.now) id) }
 {
     match kind_at(registry, id) {
@@ -158,8 +158,8 @@ fn are_buffers_ready(
     buffers.iter().all(|buffer| !places.has(marks, buffer.id) || is_buffer_ready(registry, buffer))
 }
 
-// Whether a component's pipeline is complete, and its buffers are as many as its kind has.
-fn is_comp_ready(registry: &Registry, comp: &Component) -> bool
+/// Whether a component's pipeline is complete, and its buffers are as many as its kind has.
+pub fn is_comp_ready(registry: &Registry, comp: &Component) -> bool
     ensures { result ≡ is_ready (graph_of registry.now) (comp_by comp.now) }
 {
     is_complete(registry, comp.pipe)
@@ -170,8 +170,8 @@ fn is_comp_ready(registry: &Registry, comp: &Component) -> bool
         )
 }
 
-// Whether a buffer's pipeline is complete, and both its sides are joined.
-fn is_buffer_ready(registry: &Registry, buffer: &Component) -> bool
+/// Whether a buffer's pipeline is complete, and both its sides are joined.
+pub fn is_buffer_ready(registry: &Registry, buffer: &Component) -> bool
     ensures { result ≡ is_edge_ready (graph_of registry.now) (edge_by buffer.now) }
 {
     is_complete(registry, buffer.pipe)
@@ -179,8 +179,8 @@ fn is_buffer_ready(registry: &Registry, buffer: &Component) -> bool
         && sink_in(&buffer.unit).is_some()
 }
 
-// Whether an id is that of a capture's host.
-fn captures_at(registry: &Registry, id: u32) -> bool
+/// Whether an id is that of a capture's host.
+pub fn captures_at(registry: &Registry, id: u32) -> bool
     ensures { result ≡ has_kind is_capture (named_kind (graph_of registry.now) id) }
 {
     match kind_at(registry, id) {

@@ -67,8 +67,8 @@ fn have_stayed(comps: &[Component], old: &Ways, new: &Ways) -> bool
     comps.iter().all(|comp| may_stay(comp, old, new))
 }
 
-// Whether the way of one does, if its stream has parameters.
-fn may_stay(comp: &Component, old: &Ways, new: &Ways) -> bool
+/// Whether the way of a host's stream holds in the new graph what it holds in the old one, if the stream has parameters.
+pub fn may_stay(comp: &Component, old: &Ways, new: &Ways) -> bool
     ensures { (g h : Graph) → AreWaysOf g old.now → AreWaysOf h new.now → AreHostsIn g (comp.now ∷ []) → AreHostsIn h (comp.now ∷ []) → result ≡ (not (any_stream (is_sort sorts.Set) 0 comp.now.unit) || way_has_stayed g h comp.now.id) }
 {
     if !has_stream(&comp.unit, Sort::Set) {

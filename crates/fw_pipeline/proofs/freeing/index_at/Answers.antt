@@ -4,7 +4,7 @@ use Rattle.fw_units.specs.declared.component.Component.{Component}
 use Rattle.fw_components.specs.Tables.{Tables}
 use Rattle.fw_pipeline.specs.Rows.{first_there}
 use Rattle.fw_pipeline.proofs.FreeRows.{index-tables}
-use Rattle.fw_pipeline.proofs.freeing.index.Goals as goal
+use Rattle.fw_pipeline.proofs.freeing.index_at.Goals as goal
 
 pub returns-clause-index : goal.returns-clause-index
 returns-clause-index c =

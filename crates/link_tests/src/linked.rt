@@ -139,9 +139,9 @@ fn a_device_that_fails_serves_on(rt: HostRuntime) {
     }
 }
 
-// The calls in their order: the file of the records is opened (1), that of the replies made (2) and emptied (3). Kind and size of the boot
-// are read (4), then its heap (5). The first message is read (6), its loss appended (7) and let out (8). Then come those of the second message
-// (9 to 11), the tick (12) and the end (13).
+// The calls in their order: the file of the records is opened (1), and that of the replies made (2). Kind and size of the boot are read (3),
+// then its heap (4). The first message is read (5), its loss appended (6) and let out (7). Then come those of the second message (8 to 10), the
+// tick (11), the end (12), and then all is let out once more (13).
 #[test]
 fn each_call_of_serving_that_fails_leaves_a_front(rt: HostRuntime) {
     let alloc = rt.alloc();
@@ -152,11 +152,11 @@ fn each_call_of_serving_that_fails_leaves_a_front(rt: HostRuntime) {
         (4, 0, 3, 0),
         (5, 0, 3, 0),
         (6, 0, 3, 0),
-        (7, 0, 3, 0),
-        (7, 5, 3, 5),
+        (6, 5, 3, 5),
+        (7, 0, 3, 8),
         (8, 0, 3, 8),
-        (9, 0, 3, 8),
-        (10, 7, 3, 15),
+        (9, 7, 3, 15),
+        (10, 0, 3, 28),
         (11, 0, 3, 28),
         (12, 0, 3, 28),
         (13, 0, 3, 28),

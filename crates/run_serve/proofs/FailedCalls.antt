@@ -10,7 +10,7 @@ use Rattle.run_serve.specs.ServeWords.{ServeNames, wrong_line, too_long_line}
 use Rattle.run_serve.specs.AnyCalls.{AnyCall, AtDesk, AtDevice, LedByCalls}
 use Rattle.run_serve.specs.Reads.{requests_slot, asked, record_reads, joined_pieces}
 use Rattle.run_serve.specs.Placed.{backs_of}
-use Rattle.run_serve.specs.Serving.{replies_slot, doing, given_calls, round_calls, served_entries, ServeEnd, Over, Stopped, TooLong, Unread, Unsent, unsent_calls, ending_calls, IsEnding, serve_opening, Unopened, ServedBy}
+use Rattle.run_serve.specs.Serving.{replies_slot, doing, given_calls, round_calls, served_entries, ServeEnd, Over, Stopped, TooLong, Unread, Unsent, unsent_calls, last_read, ending_calls, IsEnding, serve_opening, Unopened, ServedBy}
 use Rattle.run_serve.proofs.CallParts.{led-parts}
 
 -- a count rises that rises after calls which keep it, or before them
@@ -62,7 +62,9 @@ module _ {D P : Type 0} (means : DeskMeaning D) (dsp : Meaning P) where
       later-rises (doing (Put (Slot replies_slot) (record_bytes x)) ∷ []) (AtDesk (Did (Put Spoken []) false) ∷ []) d p e q (λ m n led. first-failed (Put Spoken []) [] m n e q led) led
 
   end-rises : (room at : ℕ) (on : Bool) (ending : ServeEnd) (d : D) (p : P) (e : D) (q : P) → IsEnding room at on ending 3 → LedByCalls means dsp d p (ending_calls at ending) e q → Rises d e
-  end-rises room at on Over d p e q ends led = absurd (cc (ends.0))
+  end-rises room at on (Over true) d p e q ends led = absurd (cc (ends.0))
+  end-rises room at on (Over false) d p e q ends led =
+      later-rises (last_read ∷ []) (AtDesk (Did (Put Spoken []) false) ∷ []) d p e q (λ m n led. first-failed (Put Spoken []) [] m n e q led) led
   end-rises room at on (Stopped pieces wrong true) d p e q ends led = absurd (cc (ends.0))
   end-rises room at on (Stopped pieces wrong false) d p e q ends led =
       later-rises (map AtDesk (record_reads [] pieces)) (AtDesk (Did (Put Spoken (wrong_line wrong at)) false) ∷ []) d p e q (λ m n led. first-failed (Put Spoken (wrong_line wrong at)) [] m n e q led) led

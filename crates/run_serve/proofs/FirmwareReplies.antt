@@ -64,7 +64,7 @@ module _ {D P : Type 0} (means : DeskMeaning D) (dsp : Meaning P) where
   unsent-still (x ∷ es) true d p e q (m, n, did, (m', n', did', led)) = unsent-still es true m' n' e q led ∙ did'.1 ∙ did.1
 
   end-given : (at : ℕ) (ending : ServeEnd) (d : D) (p : P) (e : D) (q : P) → LedByCalls means dsp d p (ending_calls at ending) e q → AllGiven (unsent_round ending) p q
-  end-given at Over d p e q led = (desk-alone means dsp (Read requests_slot 8 (Some []) ∷ []) d p e q led).1
+  end-given at (Over out) d p e q led = (desk-alone means dsp (Read requests_slot 8 (Some []) ∷ DeskDid (Put Spoken []) out ∷ []) d p e q led).1
   end-given at (Stopped pieces wrong said) d p e q led =
       let line = DeskDid (Put Spoken (wrong_line wrong at)) said in
       let two = led-parts means dsp (map AtDesk (record_reads [] pieces)) (AtDesk line ∷ []) d p e q led in
@@ -91,7 +91,7 @@ module _ {D P : Type 0} (means : DeskMeaning D) (dsp : Meaning P) where
 
   all-rounds : (room at : ℕ) (on : Bool) (rs : List ServeRound) (after : Bool) (ending : ServeEnd) (status : ℕ) → AreRounds room on rs after → IsEnding room at after ending status → AllRounds room on (given_rounds rs ending)
   all-rounds room at on rs after (Unsent r appended) status are ends = record { last = on_after after r.entry; are = rounds-append room on rs after r are ends.2 }
-  all-rounds room at on rs after Over status are ends = record { last = after; are = subst (λ xs. AreRounds room on xs after) (sym (append-nil rs)) are }
+  all-rounds room at on rs after (Over out) status are ends = record { last = after; are = subst (λ xs. AreRounds room on xs after) (sym (append-nil rs)) are }
   all-rounds room at on rs after (Stopped pieces wrong said) status are ends = record { last = after; are = subst (λ xs. AreRounds room on xs after) (sym (append-nil rs)) are }
   all-rounds room at on rs after (TooLong said) status are ends = record { last = after; are = subst (λ xs. AreRounds room on xs after) (sym (append-nil rs)) are }
   all-rounds room at on rs after (Unread pieces) status are ends = record { last = after; are = subst (λ xs. AreRounds room on xs after) (sym (append-nil rs)) are }
@@ -175,7 +175,7 @@ module _ {D P : Type 0} (means : DeskMeaning D) (dsp : Meaning P) where
     -- ---- all
 
     opening-still : (names : ServeNames) (d : D) (p : P) (e : D) (q : P) → LedByCalls means dsp d p (map doing (serve_opening names)) e q → q ≡ p
-    opening-still names d p e q (m, n, opened, (m', n', created, (m'', n'', said, led))) = led.1 ∙ said.1 ∙ created.1 ∙ opened.1
+    opening-still names d p e q (m, n, opened, (m', n', created, led)) = led.1 ∙ created.1 ∙ opened.1
 
     pub by-firmware : (names : ServeNames) (calls : List AnyCall) (status : ℕ) (d : D) (p : P) (e : D) (q : P) → LedByCalls means dsp d p calls e q → (all : ServesAll room names calls status) → dsp.on p ≡ None → dsp.pending p ≡ 0 → Calm dsp p q →
         Follows None (backs_in (given_rounds all.served.rounds all.served.ending)) (served_entries (given_rounds all.served.rounds all.served.ending)) q

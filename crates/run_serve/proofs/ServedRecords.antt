@@ -13,7 +13,8 @@ use Rattle.run_serve.specs.ServeWords.{wrong_line, too_long_line}
 use Rattle.run_serve.specs.AnyCalls.{AnyCall, AtDesk, AtDevice, LedByCalls}
 use Rattle.run_serve.specs.Reads.{record_reads}
 use Rattle.run_serve.specs.Placed.{device_calls_of, backs_of}
-use Rattle.run_serve.specs.Serving.{too_many_bytes, ServeRound, sent_calls, given_calls, round_calls, IsRound, Over, Stopped, TooLong, Unread, Unsent, ending_calls, ServedFrom}
+use Rattle.run_serve.specs.Serving.{too_many_bytes, ServeRound, sent_calls, given_calls, round_calls, IsRound, Over, Stopped, TooLong, Unread, Unsent, last_read, ending_calls, ServedFrom}
+use Rattle.run_serve.specs.Sent.{LetOut}
 use Rattle.run_serve.specs.Halted.{ServedOne, HaltedAt}
 use Rattle.run_serve.proofs.CallParts.{led-append, led-parts, at-desk, desk-alone}
 use Rattle.run_serve.proofs.GivenCalls.{After, then-is}
@@ -94,12 +95,17 @@ module _ {D P : Type 0} (means : DeskMeaning D) (dsp : Meaning P) where
             (subst (λ k. ServedFrom (dsp.most n) (at + k) (is_some (dsp.on n)) calls status) size_is from))),
       )
 
-  pub on-over : (at : ℕ) (d : D) (p : P) (e : D) (q : P) → at < too_many_bytes → LedByCalls means dsp d p (ending_calls 0 Over) e q → ServedOn at d p 0 e q
-  on-over at d p e q before led = (ending_calls 0 Over, led, ends-now (dsp.most p) at (is_some (dsp.on p)) Over (ending_calls 0 Over) 0 (refl, before) refl)
+  pub on-over : (at status : ℕ) (d : D) (p : P) (m : D) (q : P) (e : D) → at < too_many_bytes → LedByCalls means dsp d p (last_read ∷ []) m q → LetOut means status m e → ServedOn at d p status e q
+  on-over at status d p m q e before led (out, is, said) =
+      let calls = ending_calls at (Over out) in (
+        calls,
+        led-append means dsp (last_read ∷ []) (AtDesk (Did (Put Spoken []) out) ∷ []) d p m q e q led (at-desk means dsp (Did (Put Spoken []) out ∷ []) m q e (e, said, refl)),
+        ends-now (dsp.most p) at (is_some (dsp.on p)) (Over out) calls status (is, before) refl,
+      )
 
   -- the desk failed
   pub on-halted : (at : ℕ) (bytes : List ℕ) (d : D) (p : P) (e : D) (q : P) → at < too_many_bytes → HaltedAt means dsp bytes Desk d p e q → ServedOn at d p 3 e q
-  on-halted at bytes d p e q before (Over, of, ends, led) = absurd of
+  on-halted at bytes d p e q before (Over out, of, ends, led) = absurd of
   on-halted at bytes d p e q before (Stopped pieces wrong said, of, ends, led) = absurd of
   on-halted at bytes d p e q before (TooLong said, of, ends, led) = absurd of
   on-halted at bytes d p e q before (Unread pieces, of, ends, led) =
@@ -138,6 +144,6 @@ module _ {D P : Type 0} (means : DeskMeaning D) (dsp : Meaning P) where
   left-more old p at size d n m k left (inl over) some status e q later = absurd (some over.0)
   left-more old p at size d n m k left (inr (r, is, size_is, led)) some status e q later = left status e q (on-more at size status r d n m k e q is size_is led later)
 
-  pub left-over : (old : D) (p : P) (at : ℕ) (d : D) (n : P) (e : D) (q : P) → LeftToServe old p at d n → at < too_many_bytes → ServedOne means dsp 0 d n e q → ServedOn 0 old p 0 e q
-  left-over old p at d n e q left before (inl over) = left 0 e q (on-over at d n e q before over.1)
-  left-over old p at d n e q left before (inr (r, is, size_is, led)) = absurd (omega (arith, size_is, some-bytes r.entry))
+  pub left-over : (old : D) (p : P) (at status : ℕ) (d : D) (n : P) (m : D) (q : P) (e : D) → LeftToServe old p at d n → at < too_many_bytes → ServedOne means dsp 0 d n m q → LetOut means status m e → ServedOn 0 old p status e q
+  left-over old p at status d n m q e left before (inl over) out = left status e q (on-over at status d n m q e before over.1 out)
+  left-over old p at status d n m q e left before (inr (r, is, size_is, led)) out = absurd (omega (arith, size_is, some-bytes r.entry))

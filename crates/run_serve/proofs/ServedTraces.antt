@@ -149,7 +149,7 @@ module _ {D P : Type 0} (means : DeskMeaning D) (dsp : Meaning P) where
   Ends front rest ending = IsOverAt (front ++ rest) (length front) (fault_of_end (length front) ending)
 
   end-is : (room at : ℕ) (on : Bool) (ending : ServeEnd) (status : ℕ) (front rest : List ℕ) (d : D) (p : P) (e : D) (q : P) → IsEnding room at on ending status → IsReadThrough ending → LedByCalls means dsp d p (ending_calls at ending) e q → unread d ≡ Some rest → Ends front rest ending
-  end-is room at on Over status front rest d p e q ends through (m, n, did, led) there =
+  end-is room at on (Over out) status front rest d p e q ends through (m, n, did, led) there =
       let none : rest ≡ [] = (did.0.answers.1 rest there).ends refl in
       omega (arith, length-append front rest, ap length none)
   end-is room at on (Stopped pieces (Broken fault) said) status front rest d p e q (is, before, (b, brings, wrong)) through led there =
@@ -165,8 +165,8 @@ module _ {D P : Type 0} (means : DeskMeaning D) (dsp : Meaning P) where
   end-is room at on (Unsent r appended) status front rest d p e q ends through led there = absurd through
 
   opening-opens : (names : ServeNames) (d : D) (p : P) (e : D) (q : P) → LedByCalls means dsp d p (map doing (serve_opening names)) e q → unread e ≡ means.holds d names.requests
-  opening-opens names d p e q (m, n, opened, (m', n', created, (m'', n'', said, led))) =
-      ap unread led.0 ∙ said.0.unread requests_slot ∙ created.0.unread requests_slot ∙ opened.0.unread requests_slot
+  opening-opens names d p e q (m, n, opened, (m', n', created, led)) =
+      ap unread led.0 ∙ created.0.unread requests_slot ∙ opened.0.unread requests_slot
 
 pub served-trace : {D P : Type 0} (means : DeskMeaning D) (dsp : Meaning P) → ServedTrace means dsp
 served-trace means dsp names old new p q status bytes done all told through =

@@ -109,7 +109,7 @@ module _ {D P : Type 0} (means : DeskMeaning D) (dsp : Meaning P) where
       (unsent-adds x appended d p e q (subst (λ cs. LedByCalls means dsp d p cs e q) (append-nil (unsent_calls x appended)) (subst (λ ys. LedByCalls means dsp d p (flat_map (λ y. unsent_calls y appended) ys) e q) is led))))
 
   end-adds : (room at : ℕ) (on : Bool) (ending : ServeEnd) (status : ℕ) (d : D) (p : P) (e : D) (q : P) → IsEnding room at on ending status → LedByCalls means dsp d p (ending_calls at ending) e q → AddsFront d (unsent_bytes ending) e
-  end-adds room at on Over status d p e q ends (m, n, did, led) = no-front d e (ap replies led.0 ∙ did.0.wrote (Slot replies_slot))
+  end-adds room at on (Over out) status d p e q ends (m, n, did, (m', n', said, led)) = no-front d e (ap replies led.0 ∙ said-same [] out m m' said.0 ∙ did.0.wrote (Slot replies_slot))
   end-adds room at on (Stopped pieces wrong said) status d p e q ends led =
       let two = led-parts means dsp (map AtDesk (record_reads [] pieces)) (AtDesk (Did (Put Spoken (wrong_line wrong at)) said) ∷ []) d p e q led in
       let first = desk-alone means dsp (record_reads [] pieces) d p two.desk two.device two.one in
@@ -137,8 +137,8 @@ module _ {D P : Type 0} (means : DeskMeaning D) (dsp : Meaning P) where
 
   -- once REPLIES was created it is empty
   opening-empties : (names : ServeNames) (d : D) (p : P) (e : D) (q : P) → LedByCalls means dsp d p (map doing (serve_opening names)) e q → replies e ≡ with_nothing (replies d)
-  opening-empties names d p e q (m, n, opened, (m', n', created, (m'', n'', said, led))) =
-      ap replies led.0 ∙ said.0.wrote (Slot replies_slot) ∙ created.0.wrote (Slot replies_slot) ∙ ap with_nothing (opened.0.wrote (Slot replies_slot))
+  opening-empties names d p e q (m, n, opened, (m', n', created, led)) =
+      ap replies led.0 ∙ created.0.wrote (Slot replies_slot) ∙ ap with_nothing (opened.0.wrote (Slot replies_slot))
 
   pub was-written : (room : ℕ) (names : ServeNames) (calls : List AnyCall) (status : ℕ) (d : D) (p : P) (e : D) (q : P) → LedByCalls means dsp d p calls e q → (all : ServesAll room names calls status) → Wrote (replies e) all.served.rounds all.served.ending
   was-written room names calls status d p e q led all bytes told =

@@ -1,6 +1,6 @@
 -- How what came back goes out.
-use Rattle.std.specs.Prelude.{◌≡◌, ◌⊎◌, ℕ, Bool, true, false, List, [], ◌∷◌}
-use Rattle.sof_desk.specs.Desk.{DeskMeaning, Put, Slot, Spoken, Did, DeskLed}
+use Rattle.std.specs.Prelude.{◌≡◌, ◌⊎◌, ℕ, Bool, true, false, List, [], ◌∷◌, if◌then◌else◌}
+use Rattle.sof_desk.specs.Desk.{DeskMeaning, Put, Slot, Spoken, Did, Acted, DeskLed}
 use Rattle.ipc3_trace.specs.declared.entry.Entry.{Entry}
 use Rattle.ipc3_trace.specs.declared.entry.Entry.TheVariants as entries
 use Rattle.ipc3_trace.specs.Records.{record_bytes}
@@ -25,3 +25,7 @@ WentOut means piece false old new =
 abbrev pub AllWentOut : {D : Type 0} → DeskMeaning D → List Entry → Bool → D → D → Type 0
 AllWentOut means [] done old new = (done ≡ true) × (new ≡ old)
 AllWentOut means (e ∷ es) done old new = (es ≡ []) × WentOut means (record_bytes e) done old new
+
+-- nothing more was said, so that what is kept was written, and the status is 0; or that failed, and it is 3
+abbrev pub LetOut : {D : Type 0} → DeskMeaning D → ℕ → D → D → Type 0
+LetOut means status old new = (out : Bool) × (status ≡ (if out then 0 else 3)) × Acted means (Put Spoken []) out old new

@@ -43,7 +43,7 @@ fault_of_end at ending = None
 
 -- the file was read up to its end or its first fault
 abbrev pub IsReadThrough : ServeEnd → Type 0
-IsReadThrough Over = Unit {0}
+IsReadThrough (Over out) = Unit {0}
 IsReadThrough (Stopped pieces (Broken fault) said) = Unit {0}
 IsReadThrough ending = ⊥
 

@@ -66,8 +66,8 @@ backs_in rs = flat_map (λ (r : ServeRound). backs_of r.entry r.answer) rs
 
 -- how serving ended
 pub data ServeEnd : Type 0 where
-  -- the file ended
-  Over : ServeEnd
+  -- the file ended, and REPLIES was let out or not: it is emptied then, where nothing came back
+  Over : (out : Bool) → ServeEnd
   -- the next record is at fault, of which these pieces came, and its line was said or not
   Stopped : (pieces : List (List ℕ)) (wrong : Wrong) (said : Bool) → ServeEnd
   -- the file has too many bytes
@@ -91,9 +91,13 @@ abbrev pub unsent_calls : Entry → Bool → List AnyCall
 unsent_calls e false = AtDesk (Did (Put (Slot replies_slot) (record_bytes e)) false) ∷ []
 unsent_calls e true = doing (Put (Slot replies_slot) (record_bytes e)) ∷ AtDesk (Did (Put Spoken []) false) ∷ []
 
+-- the file has no more records
+abbrev pub last_read : AnyCall
+last_read = AtDesk (Read requests_slot 8 (Some []))
+
 -- the last calls, where the next record stands at a place
 abbrev pub ending_calls : ℕ → ServeEnd → List AnyCall
-ending_calls at Over = AtDesk (Read requests_slot 8 (Some [])) ∷ []
+ending_calls at (Over out) = last_read ∷ AtDesk (Did (Put Spoken []) out) ∷ []
 ending_calls at (Stopped pieces wrong said) = map AtDesk (record_reads [] pieces) ++ (AtDesk (Did (Put Spoken (wrong_line wrong at)) said) ∷ [])
 ending_calls at (TooLong said) = AtDesk (Did (Put Spoken too_long_line) said) ∷ []
 ending_calls at (Unread pieces) = map AtDesk (record_reads [] pieces) ++ (AtDesk (Read requests_slot (asked (joined_pieces pieces)) None) ∷ [])
@@ -106,7 +110,7 @@ IsWrongRecord room on bytes Order = (e : Entry) × IsEntry e × (bytes ≡ recor
 
 -- an end, at a place and over a device of this room that is on or off, and the status
 abbrev pub IsEnding : ℕ → ℕ → Bool → ServeEnd → ℕ → Type 0
-IsEnding room at on Over status = (status ≡ 0) × (at < too_many_bytes)
+IsEnding room at on (Over out) status = (status ≡ (if out then 0 else 3)) × (at < too_many_bytes)
 IsEnding room at on (Stopped pieces wrong said) status =
     (status ≡ (if said then 2 else 3)) × (at < too_many_bytes) × ((bytes : List ℕ) × Brings [] pieces bytes × IsWrongRecord room on bytes wrong)
 IsEnding room at on (TooLong said) status = (status ≡ (if said then 5 else 3)) × (too_many_bytes ≤ at)
@@ -116,7 +120,7 @@ IsEnding room at on (Unsent r appended) status = (status ≡ 3) × (at < too_man
 -- ---- the files
 
 abbrev pub serve_opening : ServeNames → List DeskAct
-serve_opening names = Open requests_slot names.requests ∷ Create replies_slot names.replies ∷ Put Spoken [] ∷ []
+serve_opening names = Open requests_slot names.requests ∷ Create replies_slot names.replies ∷ []
 
 -- a file was not opened or not made
 abbrev pub Unopened : List DeskAct → List AnyCall → Type 0

@@ -6,6 +6,7 @@ ghost use Rattle.run_serve.specs.AnyCalls.{AnyCall, LedByCalls};
 ghost use Rattle.run_serve.specs.Reads.{requests_slot, SameSlots};
 ghost use Rattle.run_serve.specs.Serving.{replies_slot, ServedFrom};
 ghost use Rattle.run_serve.specs.Opened.{OpenedBoth, NotOpened};
+ghost use Rattle.run_serve.specs.Sent.{LetOut};
 ghost use Rattle.run_serve.specs.Served.{Serves};
 ghost use Rattle.run_serve.specs.Halted.{ServedOne, HaltedAt};
 
@@ -114,6 +115,16 @@ fn end_with(status: u8) -> Ending
     }
 }
 
+// Lets REPLIES out once more, which is emptied where nothing came back, and gives the status.
+fn end_all<D: Desk>(desk: &mut D) -> u8
+    ensures { LetOut D.means result desk.old desk.new }
+{
+    match let_out(desk) {
+        Ok(()) => 0,
+        Err(DeskFailed) => 3,
+    }
+}
+
 // Serves records up to the end of their file, the first at fault or a failure.
 fn serve_records<D: Desk, P: Dsp>(
     desk: &mut D,
@@ -133,7 +144,7 @@ fn serve_records<D: Desk, P: Dsp>(
     let mut at = 0;
     'records: while at < LIMIT {
         match serve_record(desk, dsp, &mut bytes, inputs, outputs) {
-            Ok(0) => return end_with(0),
+            Ok(0) => return end_with(end_all(desk)),
             Ok(size) => {
                 before += 1;
                 at += size;
@@ -154,19 +165,19 @@ fn serve_records<D: Desk, P: Dsp>(
     end_with(stop(desk, b"too long trace\n", 5))
 }
 
-// Opens the file of the driver's records and creates that of what comes back, which is empty then.
+// Opens the file of the driver's records and creates that of what comes back, which stands as it was until something does.
 fn open_both<D: Desk>(files: ServeFiles<'_>, desk: &mut D) -> Result<(), DeskFailed>
     ensures { MatchResult result
         (λ done. OpenedBoth D.means (serve_names files.entry.requests.now files.entry.replies.now) desk.old desk.new)
         (λ fault. NotOpened D.means (serve_names files.entry.requests.now files.entry.replies.now) desk.old desk.new) }
 {
     desk.open(REQUESTS, files.requests)?;
-    desk.create(REPLIES, files.replies)?;
-    let_out(desk)
+    desk.create(REPLIES, files.replies)
 }
 
 /// Serves a driver: reads its records one by one, gives each to the device, and writes what comes back of a message, before it reads
-/// the next. The statuses: 0 all records were given; 2 a record is at fault; 3 the desk failed; 5 the file is too long.
+/// the next. Nothing is let out before that, but at the end of the records. The statuses: 0 all records were given; 2 a record is at
+/// fault; 3 the desk failed; 5 the file is too long.
 pub fn serve<D: Desk, P: Dsp>(
     alloc: Global,
     files: ServeFiles<'_>,

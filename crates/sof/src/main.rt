@@ -1,7 +1,13 @@
 //! The program: does what its words ask for, over this machine's files and a firmware of its own. Standard error says what went wrong.
 #![tactic(auto)]
 
-ghost use Rattle.std.specs.Prelude.{◌≡◌, None};
+ghost use Rattle.std.specs.Prelude.{◌≡◌, map, None, is_some, IfOk, MatchResult, string_bytes};
+ghost use Rattle.std.specs.Str.{bytes_eq};
+ghost use Rattle.run_serve.specs.ServeWords.{serve_names};
+ghost use Rattle.sof.specs.declared.TheConstants.{ROOM};
+ghost use Rattle.sof.specs.Asked.{asks_text};
+ghost use Rattle.sof.specs.HandedOn.{AfterSay, PlayedOver, Played, ServedDriver};
+ghost use Rattle.sof.specs.Status.{Printed, StatusOf};
 
 mod driving;
 mod reasons;
@@ -13,10 +19,11 @@ use crate::warnings::{plays, tell_warnings};
 use fw_core::Firmware;
 use mbox_link::Dsp;
 use run_serve::{ServeFiles, serve, serve_files};
+use run_words::{Request, read_request};
 use sof_base::NoMemory;
-use sof_desk::Desk;
+use sof_desk::{Desk, DeskFailed};
 use sof_faults::{ShownName, words_fault};
-use sof_files::{OsDesk, Subject, Trouble};
+use sof_files::{OsDesk, Stream, Subject, Trouble, goes_to};
 use sof_run::run;
 use sof_warnings::{Answered, Listener};
 use std::fmt::Display;
@@ -68,6 +75,12 @@ Statuses:
 
 const VERSION: &str = "sof 0.1.0\n";
 
+// The slot of the file that `compile` and `source` make.
+const OUT_SLOT: u32 = 0;
+
+// And that of the trace which `trace` keeps.
+const TRACE_SLOT: u32 = 4294967295;
+
 // A trouble with the name of its file as a terminal may show it.
 #[derive(Clone, Copy)]
 struct ShownTrouble<'a>(&'a Trouble);
@@ -87,7 +100,9 @@ pub fn tell<D: Display + Drop>(rt: &HostRuntime, why: D) {
 }
 
 // There was no memory.
-fn no_memory(rt: &HostRuntime) -> u8 {
+fn no_memory(rt: &HostRuntime) -> u8
+    ensures { result ≡ 7 }
+{
     tell(rt, "no memory");
     7
 }
@@ -134,15 +149,30 @@ fn is_reader_gone(trouble: &Trouble) -> bool {
     }
 }
 
+// Says a trouble with the file that standard error goes to, which stays as it is: on standard output, unless that goes there too.
+fn say_trouble(rt: &HostRuntime, name: &str, trouble: &Trouble) {
+    if !goes_to(rt, Stream::Output, name) {
+        let _ = println!(rt; "sof: {}", ShownTrouble(trouble));
+    }
+}
+
 /// Tells a trouble, where somebody is there whom it troubles.
 pub fn tell_trouble(rt: &HostRuntime, trouble: &Trouble) {
-    if !is_reader_gone(trouble) {
-        tell(rt, ShownTrouble(trouble));
+    if is_reader_gone(trouble) {
+        return;
+    }
+    match &trouble.subject {
+        Subject::File(name) if goes_to(rt, Stream::Error, name.as_str()) => {
+            say_trouble(rt, name.as_str(), trouble);
+        }
+        _ => tell(rt, ShownTrouble(trouble)),
     }
 }
 
 // Prints a text; 3 where the output failed.
-fn print(rt: &HostRuntime, text: &str) -> u8 {
+fn print(rt: &HostRuntime, text: &str) -> u8
+    ensures { Printed result }
+{
     match print!(rt; "{text}") {
         Ok(()) => 0,
         Err(reason) => {
@@ -175,7 +205,9 @@ fn explain(
 }
 
 // A firmware serves a driver over real files.
-fn serve_driver(rt: &HostRuntime, files: ServeFiles<'_>) -> Result<u8, NoMemory> {
+fn serve_driver(rt: &HostRuntime, files: ServeFiles<'_>) -> Result<u8, NoMemory>
+    ensures { IfOk result (ServedDriver ROOM (serve_names files.entry.requests.now files.entry.replies.now)) }
+{
     let dsp = Firmware::new(rt.alloc(), ROOM)?;
     let mut desk = OsDesk::new(rt, rt.alloc())?;
     let served = serve(rt.alloc(), files, &mut desk, dsp);
@@ -190,56 +222,110 @@ fn serve_driver(rt: &HostRuntime, files: ServeFiles<'_>) -> Result<u8, NoMemory>
     Ok(served.status)
 }
 
-/// The top call over a desk of real files and a device that is off, which is handed back. `NoMemory` does not come.
+// The status that is handed on of a run: a run that said no line has its files emptied at its end, and where that fails it is 3.
+fn hand_on<D: Desk>(desk: &mut D, status: u8) -> u8
+    ensures { AfterSay D.means status desk.old result desk.new }
+{
+    if status != 0 {
+        return status;
+    }
+    match desk.say(b"") {
+        Ok(()) => 0,
+        Err(DeskFailed) => 3,
+    }
+}
+
+/// The top call over a desk of real files and a device that is off, which is handed back.
 pub fn play_over<'a, P: Dsp>(
     rt: &'a HostRuntime,
     words: &[String],
     real: OsDesk<&'a HostRuntime>,
     dsp: P,
-) -> Result<(u8, P), NoMemory>
+) -> (u8, P)
     requires off { P.means.on dsp ≡ None }
     requires pending { P.means.pending dsp ≡ 0 }
+    ensures { PlayedOver P.means (map string_bytes words.now) real.entry dsp result.0 result.1 }
 {
     let mut desk = Listener::new(rt.alloc(), real, plays(words));
     let ended = run(rt.alloc(), words, &mut desk, dsp);
-    let mut status = ended.status;
-    // A run that said no line has its files emptied at its end.
-    if status == 0 && desk.say(b"").is_err() {
-        status = 3;
-    }
+    let status = hand_on(&mut desk, ended.status);
     if let Some(trouble) = desk.desk().trouble() {
         tell_trouble(rt, trouble);
     }
     let _ = explain(rt, words, status, desk.answers());
-    Ok((status, ended.dsp))
+    (status, ended.dsp)
+}
+
+// The slot of the file that no line may stand in the midst of, even where it is a pipe.
+fn alone_slot(words: &[String]) -> Option<u32> {
+    match read_request(words, ROOM)? {
+        Request::Compile(_) | Request::Source(_) => Some(OUT_SLOT),
+        Request::Play(form) if form.trace.is_some() => Some(TRACE_SLOT),
+        _ => None,
+    }
 }
 
 // The top call over real files and a firmware.
-fn play(rt: &HostRuntime, words: &[String]) -> Result<u8, NoMemory> {
+fn play(rt: &HostRuntime, words: &[String]) -> Result<u8, NoMemory>
+    ensures { IfOk result (Played ROOM (map string_bytes words.now)) }
+{
     let dsp = Firmware::new(rt.alloc(), ROOM)?;
-    let desk = OsDesk::new(rt, rt.alloc())?;
-    let (status, _dsp) = play_over(rt, words, desk, dsp)?;
+    let mut desk = OsDesk::new(rt, rt.alloc())?;
+    if let Some(slot) = alone_slot(words) {
+        desk.set_alone(slot);
+    }
+    let (status, _dsp) = play_over(rt, words, desk, dsp);
     Ok(status)
 }
 
-// The status that the words lead to.
-fn status(rt: &HostRuntime, words: &[String]) -> u8 {
-    if let [word] = words {
-        match word.as_str() {
-            "--help" | "-h" => return print(rt, HELP),
-            "--version" | "-V" => return print(rt, VERSION),
-            _ => {}
-        }
+/// Whether a word is the other one.
+pub fn is_word(word: &str, other: &str) -> bool
+    ensures { result ≡ bytes_eq word.now other.now }
+{
+    word == other
+}
+
+// The text that one word asks for.
+fn asked_text(words: &[String]) -> Option<&'static str>
+    ensures { is_some result ≡ asks_text (map string_bytes words.now) }
+{
+    if words.len() != 1 {
+        return None;
     }
-    let ended = match (serve_files(words), drive_words(words)) {
-        (Some(files), _) => serve_driver(rt, files),
-        (None, Some(words)) => drive(rt, words),
-        (None, None) => play(rt, words),
-    };
+    let word = words[0].as_str();
+    if is_word(word, "--help") || is_word(word, "-h") {
+        return Some(HELP);
+    }
+    if is_word(word, "--version") || is_word(word, "-V") {
+        return Some(VERSION);
+    }
+    None
+}
+
+// The status of what was begun.
+fn ended_with(rt: &HostRuntime, ended: Result<u8, NoMemory>) -> u8
+    ensures { MatchResult ended (λ status. result ≡ status) (λ fault. result ≡ 7) }
+{
     match ended {
         Ok(status) => status,
         Err(NoMemory) => no_memory(rt),
     }
+}
+
+// The status that the words lead to.
+fn status(rt: &HostRuntime, words: &[String]) -> u8
+    ensures { StatusOf ROOM (map string_bytes words.now) result }
+{
+    if let Some(text) = asked_text(words) {
+        return print(rt, text);
+    }
+    if let Some(files) = serve_files(words) {
+        return ended_with(rt, serve_driver(rt, files));
+    }
+    if let Some(files) = drive_words(words) {
+        return ended_with(rt, drive(rt, files));
+    }
+    ended_with(rt, play(rt, words))
 }
 
 fn main(rt: HostRuntime) -> ExitCode {

@@ -7,3 +7,4 @@ pub mod StillUnread
 pub mod Pieces
 pub mod ActsOfShelf
 pub mod CallSteps
+mod ToldFiles

@@ -1,6 +1,7 @@
 pub mod Counts
 pub mod Desk
 pub mod FileUses
+pub mod ToldFiles
 pub mod Edits
 pub mod Room
 pub mod Plans

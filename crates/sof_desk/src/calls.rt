@@ -26,14 +26,16 @@ pub enum FileUse {
     ToRead,
     /// A slot is created for it.
     ToWrite,
+    /// Lines are told to it, before a run and during it: it is standard output or error too.
+    ToTell,
 }
 
 /// Where a program's files and lines are. No call changes what a name gives to be loaded or read, and the count of faults
 /// never falls.
 ///
 /// A desk keeps files apart: it creates no slot for a file that it loaded, opened or created a slot for, and it neither loads nor
-/// opens one that it created a slot for. Such a call fails, and leaves the file as it is. Special files, as terminals and pipes, may be
-/// shared.
+/// opens one that it created a slot for. Nor does it take a file to which lines are told for any of these. Such a call fails, and leaves
+/// the file as it is. Special files, as terminals and pipes, may be shared.
 pub trait Desk {
     /// What the desk holds, what was written to it, its count of faults, and what each call does.
     ghost means: { DeskMeaning Self };

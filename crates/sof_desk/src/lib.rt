@@ -5,6 +5,7 @@
 mod calls;
 mod faults;
 mod file;
+mod laws;
 mod mem;
 mod open_slot;
 mod plan;
@@ -12,4 +13,5 @@ mod store;
 
 pub use calls::{Desk, DeskFailed, FileUse, LoadFault, SLOTS};
 pub use faults::Faults;
+pub use laws::told_apart;
 pub use mem::MemDesk;

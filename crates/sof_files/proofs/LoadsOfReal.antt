@@ -1,5 +1,5 @@
 -- A load over real files does what a load has to do.
-use Rattle.std.proofs.Common.{◌≡◌, ◌≤◌, ℕ, List, length, refl, arith, Option, Some, None, Ok, Err, ap, if◌then◌else◌}
+use Rattle.std.proofs.Common.{not, ◌≡◌, ◌≤◌, ℕ, List, length, refl, arith, Option, None, Ok, Err, ap, if◌then◌else◌}
 use Rattle.sof_desk.specs.declared.calls.FileUse.TheVariants.{ToRead}
 use Rattle.sof_desk.specs.declared.calls.LoadFault.TheVariants.{Failed, TooLong, OutOfMemory}
 use Rattle.sof_desk.specs.Counts.{one_more}
@@ -8,6 +8,7 @@ use Rattle.sof_files.specs.InFiles.{InView, opens_of}
 use Rattle.sof_files.specs.OutFiles.{OutView, slots_of}
 use Rattle.sof_files.specs.RealDesk.{RealDesk, real, is_slot_of, has_failed}
 use Rattle.sof_files.specs.UsedFiles.{TakesFile}
+use Rattle.sof_files.specs.Troubles.{about_file, FirstNoted}
 use Rattle.sof_desk.proofs.CountLaws.{rose-one_more, le-one_more}
 use Rattle.sof_files.proofs.UsedFiles.{took_one}
 
@@ -28,10 +29,10 @@ no_fall (Err TooLong) before after count = omega (arith, count)
 no_fall (Err OutOfMemory) before after count = omega (arith, count)
 no_fall (Err Failed) before after count = rw count (le-one_more before)
 
-pub loads : (name : List ℕ) (limit : ℕ) (heard : Heard) (old new : RealDesk) → Within limit heard → new.files ≡ old.files → new.inputs ≡ old.inputs → TakesFile ToRead old.uses new.uses → new.faults ≡ (if has_failed heard then one_more old.faults else old.faults) → Loaded real name limit heard old new
-loads name limit heard old new within files inputs takes count =
+pub loads : (name : List ℕ) (limit : ℕ) (heard : Heard) (old new : RealDesk) → Within limit heard → new.files ≡ old.files → new.inputs ≡ old.inputs → TakesFile ToRead old.uses new.uses → new.faults ≡ (if has_failed heard then one_more old.faults else old.faults) → FirstNoted (about_file name) (not (has_failed heard)) old.first new.first → Loaded real name limit heard old new
+loads name limit heard old new within files inputs takes count noted =
     record {
-      did = record { faults = count; files = files; inputs = inputs; takes = takes };
+      did = record { faults = count; files = files; inputs = inputs; takes = takes; noted = noted };
       answers = answers_untold limit heard old.faults new.faults within count;
       wrote = λ place. refl;
       created = λ slot. ap (λ (fs : List OutView). is_slot_of slot (slots_of fs)) files;

@@ -1,10 +1,11 @@
 -- The slots of a list of open files.
-use Rattle.std.proofs.Common.{◌≡◌, ◌≤◌, ℕ, zero, suc, Bool, true, false, nat_eq, List, [], ◌∷◌, ◌++◌, length, get_or, set, map, find, position, Some, None, refl, sym, ◌∙◌, ap, subst, arith, ◌||◌, if◌then◌else◌}
+use Rattle.std.proofs.Common.{◌≡◌, ◌≤◌, ℕ, zero, suc, Bool, true, false, nat_eq, List, [], ◌∷◌, ◌++◌, length, get_or, set, map, find, position, Some, None, option_map, refl, sym, ◌∙◌, ap, subst, arith, ◌||◌, if◌then◌else◌}
 use Rattle.std.specs.List.{position_or_len}
 use Rattle.std.proofs.lemmas.List.{map-append}
 use Rattle.sof_files.specs.RealDesk.{is_slot_of, slots_with}
 use Rattle.sof_desk.proofs.CountLaws.{same_number}
-use Rattle.sof_desk.proofs.First.{IsFirst, is_first, later, head_fails, none_passes, find-set-beside, find-push}
+use Rattle.sof_desk.specs.Edits.{put_first}
+use Rattle.sof_desk.proofs.First.{IsFirst, is_first, later, head_fails, none_passes, find-set-beside, find-push, put_first-at, put_first-none}
 
 -- whether a file is open under a slot
 abbrev pub under : {X : Type 0} → (X → ℕ) → ℕ → X → Bool
@@ -40,7 +41,7 @@ slots-push f slot xs y nowhere is =
     rw none (map-append f xs (y ∷ []) ∙ ap (λ n. map f xs ++ n ∷ []) is)
 
 -- an item in the place of one of the same slot
-pub map-set-alike : {X : Type 0} (f : X → ℕ) (xs : List X) (i : ℕ) (d y : X) → f y ≡ f (get_or xs i d) → map f (set xs i y) ≡ map f xs
+pub map-set-alike : {X B : Type 0} (f : X → B) (xs : List X) (i : ℕ) (d y : X) → f y ≡ f (get_or xs i d) → map f (set xs i y) ≡ map f xs
 map-set-alike f [] i d y same = refl
 map-set-alike f (x ∷ xs) zero d y same = ap (λ n. n ∷ map f xs) same
 map-set-alike f (x ∷ xs) (suc i) d y same = ap (λ ns. f x ∷ ns) (map-set-alike f xs i d y same)
@@ -74,3 +75,46 @@ is_slot-with slot other slots = by_test (is_slot_of slot slots) refl (nat_eq slo
 pub is_slot-after : (slot : ℕ) (done : Bool) (old new : List ℕ) → new ≡ (if done then slots_with slot old else old) → (other : ℕ) → is_slot_of other new ≡ (if done then (if nat_eq slot other then true else is_slot_of other old) else is_slot_of other old)
 is_slot-after slot true old new is other = ap (is_slot_of other) is ∙ is_slot-with slot other old
 is_slot-after slot false old new is other = ap (is_slot_of other) is
+
+-- each slot with a name
+abbrev pub tag : {X : Type 0} → (X → ℕ) → (X → List ℕ) → X → ℕ × List ℕ
+tag f name x = (f x, name x)
+
+map-put_first : {X : Type 0} (f : X → ℕ) (name : X → List ℕ) (slot : ℕ) (xs : List X) (y : X) → map (tag f name) (put_first (under f slot) y xs) ≡ put_first (λ named. nat_eq named.0 slot) (tag f name y) (map (tag f name) xs)
+map-put_first f name slot [] y = refl
+map-put_first f name slot (x ∷ xs) y =
+    let rest = map-put_first f name slot xs y in
+    by_test (nat_eq (f x) slot) refl rest
+  where
+    by_test : (b : Bool) → nat_eq (f x) slot ≡ b → map (tag f name) (put_first (under f slot) y xs) ≡ put_first (λ named. nat_eq named.0 slot) (tag f name y) (map (tag f name) xs) → map (tag f name) (put_first (under f slot) y (x ∷ xs)) ≡ put_first (λ named. nat_eq named.0 slot) (tag f name y) (map (tag f name) (x ∷ xs))
+    by_test true is rest = rw is refl
+    by_test false is rest = rw is (ap (λ ts. tag f name x ∷ ts) rest)
+
+-- a file in the place of another one of its slot, or of a new slot
+pub names-set : {X : Type 0} (f : X → ℕ) (name : X → List ℕ) (slot : ℕ) (told : List ℕ) (xs : List X) (i : ℕ) (y : X) → position (under f slot) xs ≡ Some i → f y ≡ slot → name y ≡ told → map (tag f name) (set xs i y) ≡ put_first (λ named. nat_eq named.0 slot) (slot, told) (map (tag f name) xs)
+names-set f name slot told xs i y found is called =
+    ap (map (tag f name)) (sym (put_first-at (under f slot) y xs i y (is_first (under f slot) xs i y found)))
+    ∙ map-put_first f name slot xs y
+    ∙ (λ k. put_first (λ named. nat_eq named.0 slot) (is k, called k) (map (tag f name) xs))
+
+pub names-push : {X : Type 0} (f : X → ℕ) (name : X → List ℕ) (slot : ℕ) (told : List ℕ) (xs : List X) (y : X) → position (under f slot) xs ≡ None → f y ≡ slot → name y ≡ told → map (tag f name) (xs ++ y ∷ []) ≡ put_first (λ named. nat_eq named.0 slot) (slot, told) (map (tag f name) xs)
+names-push f name slot told xs y nowhere is called =
+    ap (map (tag f name)) (sym (put_first-none (under f slot) y xs nowhere))
+    ∙ map-put_first f name slot xs y
+    ∙ (λ k. put_first (λ named. nat_eq named.0 slot) (is k, called k) (map (tag f name) xs))
+
+-- what is found under a slot, by the names
+pub named-at : {X : Type 0} (f : X → ℕ) (name : X → List ℕ) (slot : ℕ) (xs : List X) → find (λ named. nat_eq named.0 slot) (map (tag f name) xs) ≡ option_map (tag f name) (find (under f slot) xs)
+named-at f name slot [] = refl
+named-at f name slot (x ∷ xs) = by_test (nat_eq (f x) slot) refl (named-at f name slot xs)
+  where
+    by_test : (b : Bool) → nat_eq (f x) slot ≡ b → find (λ named. nat_eq named.0 slot) (map (tag f name) xs) ≡ option_map (tag f name) (find (under f slot) xs) → find (λ named. nat_eq named.0 slot) (map (tag f name) (x ∷ xs)) ≡ option_map (tag f name) (find (under f slot) (x ∷ xs))
+    by_test true is rest = rw is refl
+    by_test false is rest = rw is rest
+
+find-past : {X : Type 0} (p : X → Bool) (xs : List X) → length xs ≤ position_or_len p xs → find p xs ≡ None
+find-past p [] fails = refl
+find-past p (x ∷ xs) fails = let both = head_fails p x xs fails in rw both.0 (find-past p xs both.1)
+
+pub find-none : {X : Type 0} (p : X → Bool) (xs : List X) → position p xs ≡ None → find p xs ≡ None
+find-none p xs nowhere = find-past p xs (none_passes p xs nowhere)

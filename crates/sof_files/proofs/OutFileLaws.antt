@@ -1,9 +1,12 @@
 -- What the files of a list were given, after one of them has changed.
-use Rattle.std.proofs.Common.{◌≡◌, ◌<◌, ◌+◌, ℕ, zero, suc, true, false, nat_eq, List, [], ◌∷◌, ◌++◌, length, get_or, set, find, position, Some, refl, sym, ap, subst, arith, if◌then◌else◌}
+use Rattle.std.proofs.Common.{◌≡◌, ◌⊎◌, inl, inr, ◌<◌, ◌≤◌, ◌+◌, ◌∙◌, ℕ, zero, suc, Bool, true, false, nat_eq, List, [], ◌∷◌, ◌++◌, length, get_or, set, find, position, Some, refl, sym, ap, subst, arith, if◌then◌else◌}
 use Rattle.std.proofs.KnownBytes.{Keeps-refl, Keeps-trans}
 use Rattle.std.specs.Io.KnownBytes.{Keeps}
 use Rattle.std.specs.List.{AllWithin}
-use Rattle.sof_files.specs.OutFiles.{OutView, given_of, given_at, SameBeside, SameGiven}
+use Rattle.std.proofs.lemmas.List.{get_or_default, get_or-set_other}
+use Rattle.std.proofs.lemmas.Grind.{get_or-set_at}
+use Rattle.sof_files.specs.OutFiles.{OutView, given_of, given_at, SameBeside, SameGiven, UntouchedFrom, Untouched}
+use Rattle.sof_desk.proofs.CountLaws.{same_number}
 use Rattle.sof_desk.proofs.First.{IsFirst, find-at, find-set}
 use Rattle.sof_files.proofs.OpenSlots.{under, beside-set, beside-push}
 
@@ -45,3 +48,27 @@ beside slot xs i y found is other apart = ap given_of (beside-set (λ f. f.slot)
 
 pub beside_new : (slot : ℕ) (xs : List OutView) (y : OutView) → y.slot ≡ slot → SameBeside slot xs (xs ++ y ∷ [])
 beside_new slot xs y is other apart = ap given_of (beside-push (λ f. f.slot) slot xs y is other apart)
+
+-- a file in the place of the next one: it is the same where no byte was kept for it
+pub untouched-set : (old xs : List OutView) (n : ℕ) (d y : OutView) → n < length xs → UntouchedFrom n old xs → ((get_or xs n d).kept ≡ [] → y ≡ get_or xs n d) → UntouchedFrom (n + 1) old (set xs n y)
+untouched-set old xs n d y within so same i e why = by_place (nat_eq n i) refl
+  where
+    was : get_or xs n d ≡ get_or old n e
+    was = get_or_default xs n d e within ∙ so n e (inr (omega arith))
+
+    none : i ≡ n → (((get_or old i e).kept ≡ []) ⊎ (n + 1 ≤ i)) → (get_or xs n d).kept ≡ []
+    none here (inl kept) = ap (λ (f : OutView). f.kept) was ∙ ap (λ j. (get_or old j e).kept) (sym here) ∙ kept
+    none here (inr past) = absurd (omega (arith, here, past))
+
+    before : (((get_or old i e).kept ≡ []) ⊎ (n + 1 ≤ i)) → (((get_or old i e).kept ≡ []) ⊎ (n ≤ i))
+    before (inl kept) = inl kept
+    before (inr past) = inr (omega (arith, past))
+
+    by_place : (b : Bool) → nat_eq n i ≡ b → get_or (set xs n y) i e ≡ get_or old i e
+    by_place true is =
+        let here : i ≡ n = sym (same_number n i is) in
+        get_or-set_at xs n i y e here within ∙ same (none here why) ∙ was ∙ ap (λ j. get_or old j e) (sym here)
+    by_place false is = get_or-set_other xs n i y e (λ here. grind arith) ∙ so i e (before why)
+
+pub untouched-all : (n : ℕ) (old new : List OutView) → UntouchedFrom n old new → Untouched old new
+untouched-all n old new so i d kept = so i d (inl kept)

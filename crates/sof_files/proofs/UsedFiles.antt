@@ -1,7 +1,7 @@
 -- What a file that is taken makes of the uses of all files.
-use Rattle.std.proofs.Common.{◌≡◌, ◌⊎◌, inl, inr, ℕ, Bool, true, false, nat_eq, ◌&&◌, List, [], ◌∷◌, ◌++◌, find, Option, Some, None, is_some, option_map, refl, sym, ◌∙◌, ap, arith, if◌then◌else◌}
+use Rattle.std.proofs.Common.{◌≡◌, inl, inr, ℕ, Bool, true, false, nat_eq, ◌&&◌, List, [], ◌∷◌, ◌++◌, find, Option, Some, None, option_map, refl, sym, ◌∙◌, ap, arith}
 use Rattle.sof_desk.specs.declared.calls.FileUse.{FileUse}
-use Rattle.sof_desk.specs.declared.calls.FileUse.TheVariants.{ToRead, ToWrite}
+use Rattle.sof_desk.specs.declared.calls.FileUse.TheVariants.{ToRead, ToWrite, ToTell}
 use Rattle.sof_files.specs.declared.file_use.FileId.{FileId}
 use Rattle.sof_files.specs.declared.file_use.UsedFile.{UsedFile}
 use Rattle.sof_desk.specs.Desk.{DeskAct, Create, Put, Open, SameUses, Took, TookFor}
@@ -51,8 +51,13 @@ others-push usage file other files apart =
 allowed_same : (usage had : FileUse) → may_use usage (Some had) ≡ true → had ≡ usage
 allowed_same ToRead ToRead may = refl
 allowed_same ToRead ToWrite may = cc
+allowed_same ToRead ToTell may = cc
 allowed_same ToWrite ToRead may = cc
 allowed_same ToWrite ToWrite may = cc
+allowed_same ToWrite ToTell may = cc
+allowed_same ToTell ToRead may = cc
+allowed_same ToTell ToWrite may = cc
+allowed_same ToTell ToTell may = cc
 
 module _ (usage : FileUse) (old new : RealDesk) where
   took_file : (file : FileId) (had : Option FileUse) → use_in old.uses file ≡ had → may_use usage (use_in old.uses file) ≡ true → new.uses ≡ used_with usage (Some file) old.uses → Took real usage old new

@@ -3,13 +3,18 @@ use Rattle.std.specs.Prelude.{◌≡◌, ℕ, Bool, true, false, nat_eq, List, [
 use Rattle.std.specs.Io.KnownBytes.{Consumes, IsAtEnd, Keeps}
 use Rattle.sof_desk.specs.Desk.{DeskAct, Create, Put, Open}
 
--- the slot of a file, and the bytes that its reader tells that it will give
+-- the slot of a file and its name, and the bytes that its reader tells that it will give
 pub record InView : Type 0 where
   pub slot : ℕ
+  pub name : List ℕ
   pub left : Option (List ℕ)
 
 abbrev pub opens_of : List InView → List ℕ
 opens_of files = map (λ f. f.slot) files
+
+-- each slot with the name of its file
+abbrev pub in_names : List InView → List (ℕ × List ℕ)
+in_names files = map (λ f. (f.slot, f.name)) files
 
 abbrev pub left_in : Option InView → Option (List ℕ)
 left_in None = None

@@ -1,4 +1,5 @@
 pub mod UsedFiles
+pub mod Streams
 pub mod OutFiles
 pub mod InFiles
 pub mod RealDesk

@@ -1,7 +1,7 @@
 -- The files that a desk over real files has taken, each for its use.
-use Rattle.std.specs.Prelude.{◌≡◌, ℕ, Bool, true, false, nat_eq, ◌&&◌, List, [], ◌∷◌, ◌++◌, find, ⊤, Option, Some, None, is_some, option_map, if◌then◌else◌}
+use Rattle.std.specs.Prelude.{◌≡◌, Bool, true, false, nat_eq, ◌&&◌, List, [], ◌∷◌, ◌++◌, find, ⊤, Option, Some, None, is_some, option_map, if◌then◌else◌}
 use Rattle.sof_desk.specs.declared.calls.FileUse.{FileUse}
-use Rattle.sof_desk.specs.declared.calls.FileUse.TheVariants.{ToRead, ToWrite}
+use Rattle.sof_desk.specs.declared.calls.FileUse.TheVariants.{ToRead, ToWrite, ToTell}
 use Rattle.sof_files.specs.declared.file_use.FileId.{FileId}
 use Rattle.sof_files.specs.declared.file_use.UsedFile.{UsedFile}
 use Rattle.sof_desk.specs.Desk.{DeskAct, Create, Put, Open}
@@ -14,6 +14,11 @@ is_same_file file used = nat_eq used.file.device file.device && nat_eq used.file
 -- how a file is used
 abbrev pub use_in : List UsedFile → FileId → Option FileUse
 use_in files file = option_map (λ used. used.usage) (find (is_same_file file) files)
+
+-- a file to which lines are told, as one that is used so
+abbrev pub told_to : Option FileId → List UsedFile
+told_to None = []
+told_to (Some file) = record { file = file; usage = ToTell } ∷ []
 
 -- whether a file may be taken; a special file may be shared
 abbrev pub MayTake : FileUse → Option FileId → List UsedFile → Type 0

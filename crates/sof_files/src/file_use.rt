@@ -1,13 +1,14 @@
 // How a run uses the files of a desk over real files.
-ghost use Rattle.std.specs.Prelude.{◌≡◌, ◌↔◌, ◌<◌, vec_len, vec_capacity, is_ok, is_some, true, IsOk, IsTrue, OnOk, OnErr};
+ghost use Rattle.std.specs.Prelude.{◌≡◌, ◌↔◌, ◌<◌, ◌++◌, vec_len, vec_capacity, is_ok, is_some, true, IsOk, IsTrue, OnOk, OnErr};
 ghost use Rattle.std.specs.Fs.{file_type, IsFile};
 ghost use Rattle.sof_desk.specs.FileUses.{may_use};
-ghost use Rattle.sof_files.specs.UsedFiles.{is_same_file, use_in, MayTake, IsTaken};
+ghost use Rattle.sof_files.specs.UsedFiles.{is_same_file, use_in, told_to, MayTake, IsTaken};
 
+use sof_base::NoMemory;
 use sof_desk::FileUse;
 use std::fs::{Metadata, OpenFile};
 use std::io;
-use std::os::unix::fs::MetadataExt;
+use std::os::unix::fs::{FileTypeExt, MetadataExt};
 
 /// Which file of the system: its device, and its number there.
 #[derive(Clone, Copy, Debug, PartialEq, Eq)]
@@ -31,6 +32,14 @@ impl UsedFile {
     }
 }
 
+// The device and the number in metadata.
+fn id_at(about: &Metadata) -> FileId {
+    FileId {
+        device: about.dev(),
+        number: about.ino(),
+    }
+}
+
 /// Which file has this metadata; none for a special file, as a terminal or a pipe, which several calls may share.
 pub fn id_in(about: &Metadata) -> Option<FileId>
     ensures { IsTrue (is_some result) ↔ IsFile (file_type about.now) }
@@ -38,16 +47,40 @@ pub fn id_in(about: &Metadata) -> Option<FileId>
     if !about.is_file() {
         return None;
     }
-    Some(FileId {
-        device: about.dev(),
-        number: about.ino(),
-    })
+    Some(id_at(about))
 }
 
-/// Which file an open file is, by its metadata.
-pub fn id_of<F: OpenFile>(file: &F) -> io::Result<Option<FileId>> {
+/// Which file or pipe has this metadata; none for any other special file.
+pub fn id_with_pipes(about: &Metadata) -> Option<FileId>
+    ensures { IsFile (file_type about.now) → IsTrue (is_some result) }
+{
+    if about.file_type().is_fifo() {
+        return Some(id_at(about));
+    }
+    id_in(about)
+}
+
+/// A file that was opened, which file it is, and whether it can be emptied: special files cannot.
+#[derive(Drop)]
+pub struct Opened<F: OpenFile + Drop> {
+    pub file: F,
+    pub id: Option<FileId>,
+    pub regular: bool,
+}
+
+/// Which file an open file is, by its metadata; a pipe is one where these count too.
+pub fn identified<F: OpenFile + Drop>(file: F, with_pipes: bool) -> io::Result<Opened<F>> {
     let about = file.metadata()?;
-    Ok(id_in(&about))
+    let id = if with_pipes {
+        id_with_pipes(&about)
+    } else {
+        id_in(&about)
+    };
+    Ok(Opened {
+        file,
+        id,
+        regular: about.is_file(),
+    })
 }
 
 /// How a file is used.
@@ -64,7 +97,8 @@ fn may_use(usage: FileUse, had: Option<FileUse>) -> bool
 {
     match (usage, had) {
         (_, None) | (FileUse::ToRead, Some(FileUse::ToRead)) => true,
-        (FileUse::ToRead, Some(FileUse::ToWrite)) | (FileUse::ToWrite, Some(_)) => false,
+        (FileUse::ToRead, Some(FileUse::ToWrite | FileUse::ToTell)) => false,
+        (FileUse::ToWrite | FileUse::ToTell, Some(_)) => false,
     }
 }
 
@@ -72,8 +106,22 @@ fn may_use(usage: FileUse, had: Option<FileUse>) -> bool
 fn refusal(had: Option<FileUse>) -> io::Error {
     match had {
         Some(FileUse::ToWrite) => io::Error::other("is written by this run too"),
+        Some(FileUse::ToTell) => io::Error::other("is standard output or error too"),
         Some(FileUse::ToRead) | None => io::Error::other("is read by this run too"),
     }
+}
+
+/// Notes a file to which lines are told, where it is one that can be taken.
+pub fn tell_to(files: &mut Vec<UsedFile>, file: Option<FileId>) -> Result<(), NoMemory>
+    ensures { OnOk result (files.new.items ≡ files.old.items ++ told_to file) }
+{
+    if let Some(file) = file {
+        files.push(UsedFile {
+            file,
+            usage: FileUse::ToTell,
+        })?;
+    }
+    Ok(())
 }
 
 /// Takes a file for a use, where its use allows that; fails otherwise, and where there was no memory.

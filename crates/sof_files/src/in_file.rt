@@ -1,6 +1,7 @@
 // The files that a desk over real files reads.
-ghost use Rattle.std.specs.Prelude.{◌≡◌, ◌≤◌, length, take, nat_eq, position, Some, None, IfOk, MatchResult};
-ghost use Rattle.sof_files.specs.InFiles.{opens_of, left_in_file, SameLeftBeside, LeavesOf};
+ghost use Rattle.std.specs.Prelude.{◌≡◌, ◌≤◌, length, take, nat_eq, position, Some, None, IfOk, IfErr, MatchResult, string_bytes};
+ghost use Rattle.sof_files.specs.InFiles.{opens_of, in_names, left_in_file, SameLeftBeside, LeavesOf};
+ghost use Rattle.sof_files.specs.Troubles.{about_file, about_slot};
 
 use crate::trouble::{Subject, Trouble};
 use std::io;
@@ -16,17 +17,18 @@ pub struct InFile<F: Read + Drop> {
 }
 
 impl<F: Read + Drop> Model for InFile<F> {
+    ghost use Rattle.std.specs.Prelude.{string_bytes};
     ghost use Rattle.sof_files.specs.InFiles.{InView};
 
     ghost Value = { InView };
 
-    ghost view = { λ f. record { slot = f.slot; left = F.remaining f.file } };
+    ghost view = { λ f. record { slot = f.slot; name = string_bytes f.name; left = F.remaining f.file } };
 }
 
 impl<F: Read + Drop> InFile<F> {
     /// Ties a slot to a file of a name.
     pub fn new(slot: u32, name: String, file: F) -> InFile<F>
-        ensures { result ≡ record { slot = slot; left = F.remaining file } }
+        ensures { result ≡ record { slot = slot; name = string_bytes name; left = F.remaining file } }
     {
         InFile { slot, name, file }
     }
@@ -36,6 +38,8 @@ impl<F: Read + Drop> InFile<F> {
     pub fn read(&mut self, out: &mut [u8]) -> Result<usize, Trouble>
         requires { 1 ≤ length out.old }
         ensures slot { self.new.slot ≡ self.old.slot }
+        ensures name { self.new.name ≡ self.old.name }
+        ensures about { IfErr result (λ trouble. about_file self.old.name trouble.subject) }
         ensures bound { IfOk result (λ count. count ≤ length out.new) }
         ensures left { MatchResult result
             (λ count. LeavesOf (Some (take count out.new)) self.old.left self.new.left)
@@ -68,6 +72,8 @@ pub fn read_in<F: Read + Drop>(
 ) -> Result<usize, Trouble>
     requires { 1 ≤ length out.old }
     ensures slots { opens_of files.new ≡ opens_of files.old }
+    ensures names { in_names files.new ≡ in_names files.old }
+    ensures about { IfErr result (λ trouble. about_slot slot (in_names files.old) trouble.subject) }
     ensures bound { IfOk result (λ count. count ≤ length out.new) }
     ensures left { MatchResult result
         (λ count. LeavesOf (Some (take count out.new)) (left_in_file slot files.old) (left_in_file slot files.new))

@@ -7,10 +7,13 @@ mod in_file;
 mod os;
 mod out_file;
 mod sink;
+mod standard;
 mod transfer;
 mod trouble;
 mod troubles;
 
+pub use file_use::FileId;
 pub use os::OsDesk;
 pub use sink::Sink;
+pub use standard::{Standard, Stream, goes_to};
 pub use trouble::{Subject, Trouble};

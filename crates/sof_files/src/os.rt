@@ -1,19 +1,21 @@
 // A desk over real files and standard output: the edge to the outside, which tells no content.
-ghost use Rattle.std.specs.Prelude.{◌≡◌, ◌≤◌, length, [], is_ok, is_some, nat_lt, IfOk, OnErr, if◌then◌else◌};
+ghost use Rattle.std.specs.Prelude.{◌≡◌, ◌≤◌, length, is_ok, is_some, nat_lt, true, IfOk, IfErr, OnErr, if◌then◌else◌};
+ghost use Rattle.std.specs.Option.{option_copied};
 ghost use Rattle.sof_desk.specs.declared.calls.FileUse.TheVariants.{ToRead, ToWrite};
 ghost use Rattle.sof_desk.specs.Desk.{Create, Open};
 ghost use Rattle.sof_files.specs.UsedFiles.{TakesFile, TakesWhere, TakesForCall, IsTaken};
-ghost use Rattle.sof_files.specs.OutFiles.{slots_of, SameBeside};
-ghost use Rattle.sof_files.specs.InFiles.{opens_of, KeepsLeft};
-ghost use Rattle.sof_files.specs.RealDesk.{real, slots_with, HandsOut};
+ghost use Rattle.sof_files.specs.OutFiles.{slots_of, out_names, SameBeside, SameGiven, NoneKept, UntouchedWhere};
+ghost use Rattle.sof_files.specs.InFiles.{opens_of, in_names, KeepsLeft};
+ghost use Rattle.sof_files.specs.RealDesk.{real, slots_with, out_names_after, in_names_after, IsNew, HandsOut};
 
-use crate::file_use::{FileId, UsedFile, id_of, take};
+use crate::file_use::{Opened, UsedFile, identified, take, tell_to};
 use crate::in_file;
 use crate::in_file::InFile;
-use crate::out_file::{OutFile, append_in, place_of, write_kept_of};
+use crate::out_file::{Kept, OutFile, append_in, place_of, write_kept_of};
 use crate::sink::Sink;
+use crate::standard::{Standard, Stream};
 use crate::transfer::{ReadFault, read_all, write_all};
-use crate::trouble::{Subject, Trouble};
+use crate::trouble::{SayFault, Subject, Trouble};
 use crate::troubles::Troubles;
 use sof_base::NoMemory;
 use sof_desk::{Desk, DeskFailed, FileUse, LoadFault, SLOTS};
@@ -25,8 +27,9 @@ use std::{fs, io};
 
 /// A desk over the files and the standard output of a runtime. It has room for 130 slots to append to and 130 to read. It keeps up
 /// to 256 KiB of what is appended to each, and writes them before a line is said. A file that it created a slot for is emptied when
-/// its first bytes go out or the next line is said, and one that it hands out before its first bytes. It tells no content; what it gives and takes is what the runtime does. By device and
-/// number it tells whether two names are one file, but for special files.
+/// its first bytes go out or the next line was said, and one that it hands out before its first bytes. It tells no content; what it
+/// gives and takes is what the runtime does. By device and number it tells whether two names are one file, but for special files. So it
+/// does of the files that standard output and standard error go to.
 #[derive(Drop)]
 pub struct OsDesk<R: Files> {
     rt: R,
@@ -34,6 +37,7 @@ pub struct OsDesk<R: Files> {
     files: Vec<OutFile<R::File>>,
     inputs: Vec<InFile<R::File>>,
     uses: Vec<UsedFile>,
+    alone: Option<u32>,
     troubles: Troubles,
 }
 
@@ -49,6 +53,7 @@ impl<R: Files> Model for OsDesk<R> {
       inputs = d.inputs.items;
       uses = d.uses.items;
       faults = d.troubles.count;
+      first = d.troubles.first;
     } };
 
     ghost invariant = { λ d. record {
@@ -57,24 +62,38 @@ impl<R: Files> Model for OsDesk<R> {
     } };
 }
 
-impl<R: Files + Print + Drop> OsDesk<R> {
-    /// A desk on which no slot was created or opened and no call failed.
+impl<R: Files + Standard + Print + Drop> OsDesk<R> {
+    /// A desk on which no slot was created or opened and no call failed. The files that its runtime's standard output and standard error
+    /// go to are told to: it takes none of them.
     pub fn new(rt: R, alloc: Global) -> Result<OsDesk<R>, NoMemory>
-        ensures { IfOk result (λ desk. desk ≡ record { files = []; inputs = []; uses = []; faults = 0 }) }
+        ensures { IfOk result (IsNew (R.goes_to rt)) }
     {
+        let mut uses = Vec::new(alloc);
+        tell_to(&mut uses, rt.file_of(Stream::Output))?;
+        tell_to(&mut uses, rt.file_of(Stream::Error))?;
         Ok(OsDesk {
             rt,
             alloc,
             files: Vec::with_capacity(alloc, SLOTS)?,
             inputs: Vec::with_capacity(alloc, SLOTS)?,
-            uses: Vec::new(alloc),
+            uses,
+            alone: None,
             troubles: Troubles::none(),
         })
     }
 
+    /// From now on the file of this slot is kept apart from standard output and standard error where it is a pipe too: no line
+    /// belongs among its bytes.
+    pub fn set_alone(&mut self, slot: u32)
+        ensures { self.new ≡ self.old }
+    {
+        self.alone = Some(slot);
+    }
+
     /// Why the first call failed that did: what it was about, and the system's reason.
     pub fn trouble(&self) -> Option<&Trouble>
-        ensures { is_some result ≡ nat_lt 0 self.now.faults }
+        ensures first { option_copied result ≡ self.now.first }
+        ensures counted { is_some result ≡ nat_lt 0 self.now.faults }
     {
         self.troubles.first()
     }
@@ -82,13 +101,12 @@ impl<R: Files + Print + Drop> OsDesk<R> {
     /// Opens a file to be written and hands it out, made where there is none. It stands as it was until bytes go out. Fails, which is
     /// counted, where the file was not opened, or where this run reads it or writes it already.
     pub fn file_to_write(&mut self, name: &str) -> Result<Sink<R::File>, DeskFailed>
-        ensures { HandsOut ToWrite (is_ok result) self.old self.new }
+        ensures { HandsOut ToWrite name.now (is_ok result) self.old self.new }
     {
         match sink_of(&self.rt, name, &mut self.uses) {
             Ok(sink) => Ok(sink),
             Err(reason) => {
-                self.troubles
-                    .note(Trouble::with_file(self.alloc, name, reason));
+                self.troubles.note_file(self.alloc, name, reason);
                 Err(DeskFailed)
             }
         }
@@ -96,13 +114,12 @@ impl<R: Files + Print + Drop> OsDesk<R> {
 
     /// Opens a file to be read and hands it out. Fails, which is counted, where the file was not opened, or where this run writes it.
     pub fn file_to_read(&mut self, name: &str) -> Result<R::File, DeskFailed>
-        ensures { HandsOut ToRead (is_ok result) self.old self.new }
+        ensures { HandsOut ToRead name.now (is_ok result) self.old self.new }
     {
         match source_of(&self.rt, name, &mut self.uses) {
             Ok(file) => Ok(file),
             Err(reason) => {
-                self.troubles
-                    .note(Trouble::with_file(self.alloc, name, reason));
+                self.troubles.note_file(self.alloc, name, reason);
                 Err(DeskFailed)
             }
         }
@@ -113,8 +130,10 @@ impl<R: Files + Print + Drop> OsDesk<R> {
     /// writes it already.
     fn open_for_writing(&mut self, slot: u32, name: &str) -> io::Result<()>
         ensures faults { self.new.faults ≡ self.old.faults }
+        ensures first { self.new.first ≡ self.old.first }
         ensures slots { slots_of self.new.files ≡ (if is_ok result then slots_with slot (slots_of self.old.files) else slots_of self.old.files) }
         ensures others { SameBeside slot self.old.files self.new.files }
+        ensures names { out_names self.new.files ≡ out_names_after (Create slot name.now) (is_ok result) (out_names self.old.files) }
         ensures room { length self.new.files ≤ SLOTS }
         ensures inputs { self.new.inputs ≡ self.old.inputs }
         ensures takes { TakesForCall (Create slot name.now) (is_ok result) self.old.uses self.new.uses }
@@ -123,7 +142,8 @@ impl<R: Files + Print + Drop> OsDesk<R> {
         if place.is_none() && self.files.len() >= SLOTS {
             return Err(io::Error::other("too many outputs"));
         }
-        let opened = output_of(&self.rt, self.alloc, slot, name, &mut self.uses)?;
+        let alone = self.alone == Some(slot);
+        let opened = output_of(&self.rt, self.alloc, slot, name, alone, &mut self.uses)?;
         match place {
             Some(place) => self.files[place] = opened,
             None => self.files.push(opened).unwrap(),
@@ -135,8 +155,10 @@ impl<R: Files + Print + Drop> OsDesk<R> {
     /// opened, or this run writes it.
     fn open_for_reading(&mut self, slot: u32, name: &str) -> io::Result<()>
         ensures faults { self.new.faults ≡ self.old.faults }
+        ensures first { self.new.first ≡ self.old.first }
         ensures files { self.new.files ≡ self.old.files }
         ensures slots { opens_of self.new.inputs ≡ (if is_ok result then slots_with slot (opens_of self.old.inputs) else opens_of self.old.inputs) }
+        ensures names { in_names self.new.inputs ≡ in_names_after (Open slot name.now) (is_ok result) (in_names self.old.inputs) }
         ensures keeps { KeepsLeft (Open slot name.now) (is_ok result) self.old.inputs self.new.inputs }
         ensures room { length self.new.inputs ≤ SLOTS }
         ensures takes { TakesForCall (Open slot name.now) (is_ok result) self.old.uses self.new.uses }
@@ -154,21 +176,24 @@ impl<R: Files + Print + Drop> OsDesk<R> {
     }
 }
 
-/// The file of a name under a slot, to be written. All memory for it comes before it is opened.
+/// The file of a name under a slot, to be written, which is a pipe of its own where it is to be alone. All memory for it comes before it
+/// is opened.
 fn output_of<R: Files>(
     rt: &R,
     alloc: Global,
     slot: u32,
     name: &str,
+    alone: bool,
     uses: &mut Vec<UsedFile>,
 ) -> io::Result<OutFile<R::File>>
     ensures slot { IfOk result (λ f. f.slot ≡ slot) }
+    ensures name { IfOk result (λ f. f.name ≡ name.now) }
     ensures takes { TakesForCall (Create slot name.now) (is_ok result) uses.old.items uses.new.items }
 {
     uses.reserve(1)?;
     let mut output = OutFile::new(alloc, slot, name)?;
-    let (file, id) = open_to_write(rt, name, uses)?;
-    output.hold(file, id.is_some());
+    let opened = open_to_write(rt, name, alone, uses)?;
+    output.hold(opened.file, opened.regular);
     Ok(output)
 }
 
@@ -181,12 +206,13 @@ fn input_of<R: Files>(
     uses: &mut Vec<UsedFile>,
 ) -> io::Result<InFile<R::File>>
     ensures slot { IfOk result (λ f. f.slot ≡ slot) }
+    ensures name { IfOk result (λ f. f.name ≡ name.now) }
     ensures takes { TakesForCall (Open slot name.now) (is_ok result) uses.old.items uses.new.items }
 {
     uses.reserve(1)?;
     let kept = String::from_str(alloc, name)?;
-    let (file, _) = open_to_read(rt, name, uses)?;
-    Ok(InFile::new(slot, kept, file))
+    let opened = open_to_read(rt, name, uses)?;
+    Ok(InFile::new(slot, kept, opened.file))
 }
 
 /// The file of a name, to be written, which stands as it was until bytes go out.
@@ -194,9 +220,9 @@ fn sink_of<R: Files>(rt: &R, name: &str, uses: &mut Vec<UsedFile>) -> io::Result
     ensures { TakesWhere ToWrite (is_ok result) uses.old.items uses.new.items }
 {
     uses.reserve(1)?;
-    let (file, id) = open_to_write(rt, name, uses)?;
+    let opened = open_to_write(rt, name, true, uses)?;
     let mut sink = Sink::new();
-    sink.hold(file, id.is_some());
+    sink.hold(opened.file, opened.regular);
     Ok(sink)
 }
 
@@ -205,23 +231,26 @@ fn source_of<R: Files>(rt: &R, name: &str, uses: &mut Vec<UsedFile>) -> io::Resu
     ensures { TakesWhere ToRead (is_ok result) uses.old.items uses.new.items }
 {
     uses.reserve(1)?;
-    let (file, _) = open_to_read(rt, name, uses)?;
-    Ok(file)
+    let opened = open_to_read(rt, name, uses)?;
+    Ok(opened.file)
 }
 
-/// Opens a file to be written as it stands, made where there is none, and takes it, where it has no use yet.
+/// Opens a file to be written as it stands, made where there is none, and takes it, where it has no use yet. So it does with a pipe that is
+/// to be alone.
 fn open_to_write<R: Files>(
     rt: &R,
     name: &str,
+    alone: bool,
     uses: &mut Vec<UsedFile>,
-) -> io::Result<(R::File, Option<FileId>)>
-    ensures ok { IfOk result (λ opened. IsTaken ToWrite opened.1 uses.old.items uses.new.items) }
+) -> io::Result<Opened<R::File>>
+    ensures ok { IfOk result (λ opened. IsTaken ToWrite opened.id uses.old.items uses.new.items) }
     ensures err { OnErr result (uses.new.items ≡ uses.old.items) }
 {
     let file = OpenOptions::new().write(true).create(true).open(rt, name)?;
-    let id = id_of(&file)?;
+    let opened = identified(file, alone)?;
+    let id = opened.id;
     take(uses, id, FileUse::ToWrite)?;
-    Ok((file, id))
+    Ok(opened)
 }
 
 /// Opens a file to be read and takes it, unless this run writes it.
@@ -229,14 +258,15 @@ fn open_to_read<R: Files>(
     rt: &R,
     name: &str,
     uses: &mut Vec<UsedFile>,
-) -> io::Result<(R::File, Option<FileId>)>
-    ensures ok { IfOk result (λ opened. IsTaken ToRead opened.1 uses.old.items uses.new.items) }
+) -> io::Result<Opened<R::File>>
+    ensures ok { IfOk result (λ opened. IsTaken ToRead opened.id uses.old.items uses.new.items) }
     ensures err { OnErr result (uses.new.items ≡ uses.old.items) }
 {
     let file = fs::open(rt, name)?;
-    let id = id_of(&file)?;
+    let opened = identified(file, false)?;
+    let id = opened.id;
     take(uses, id, FileUse::ToRead)?;
-    Ok((file, id))
+    Ok(opened)
 }
 
 /// The bytes of a file, at most `limit`.
@@ -254,12 +284,37 @@ fn load_file<R: Files>(
         return Err(ReadFault::OutOfMemory);
     }
     match open_to_read(rt, name, uses) {
-        Ok((mut file, _)) => read_all(&mut file, alloc, limit),
+        Ok(mut opened) => read_all(&mut opened.file, alloc, limit),
         Err(reason) => Err(ReadFault::Failed(reason)),
     }
 }
 
-impl<R: Files + Print + Drop> Desk for OsDesk<R> {
+/// Says a piece, up to a failure: the bytes that are kept go out before it, and after it files are emptied that got none.
+fn say_among<R: Files + Print>(
+    rt: &R,
+    files: &mut [OutFile<R::File>],
+    piece: &[u8],
+) -> Result<(), SayFault>
+    ensures slots { slots_of files.new ≡ slots_of files.old }
+    ensures names { out_names files.new ≡ out_names files.old }
+    ensures given { SameGiven files.old files.new }
+    ensures none { is_ok result ≡ true → NoneKept files.new }
+    ensures untouched { IfErr result (λ fault. UntouchedWhere fault files.old files.new) }
+{
+    if let Err(trouble) = write_kept_of(files, Kept::Bytes) {
+        return Err(SayFault::Unsaid(trouble));
+    }
+    if let Err(reason) = write_all(&mut io::writer(rt), piece) {
+        let subject = Subject::Output;
+        return Err(SayFault::Unsaid(Trouble { subject, reason }));
+    }
+    match write_kept_of(files, Kept::All) {
+        Ok(()) => Ok(()),
+        Err(trouble) => Err(SayFault::Unemptied(trouble)),
+    }
+}
+
+impl<R: Files + Standard + Print + Drop> Desk for OsDesk<R> {
     ghost means = { real };
 
     fn load(&mut self, alloc: Global, name: &str, limit: usize) -> Result<Vec<u8>, LoadFault> {
@@ -268,19 +323,20 @@ impl<R: Files + Print + Drop> Desk for OsDesk<R> {
             Err(ReadFault::TooLong) => Err(LoadFault::TooLong),
             Err(ReadFault::OutOfMemory) => Err(LoadFault::OutOfMemory),
             Err(ReadFault::Failed(reason)) => {
-                self.troubles
-                    .note(Trouble::with_file(self.alloc, name, reason));
+                self.troubles.note_file(self.alloc, name, reason);
                 Err(LoadFault::Failed)
             }
         }
     }
 
     fn create(&mut self, slot: u32, name: &str) -> Result<(), DeskFailed> {
-        let alloc = self.alloc;
-        let done = self
-            .open_for_writing(slot, name)
-            .map_err(|reason| Trouble::with_file(alloc, name, reason));
-        self.troubles.answer(done)
+        match self.open_for_writing(slot, name) {
+            Ok(()) => Ok(()),
+            Err(reason) => {
+                self.troubles.note_file(self.alloc, name, reason);
+                Err(DeskFailed)
+            }
+        }
     }
 
     fn append(&mut self, slot: u32, piece: &[u8]) -> Result<(), DeskFailed> {
@@ -288,11 +344,13 @@ impl<R: Files + Print + Drop> Desk for OsDesk<R> {
     }
 
     fn open(&mut self, slot: u32, name: &str) -> Result<(), DeskFailed> {
-        let alloc = self.alloc;
-        let done = self
-            .open_for_reading(slot, name)
-            .map_err(|reason| Trouble::with_file(alloc, name, reason));
-        self.troubles.answer(done)
+        match self.open_for_reading(slot, name) {
+            Ok(()) => Ok(()),
+            Err(reason) => {
+                self.troubles.note_file(self.alloc, name, reason);
+                Err(DeskFailed)
+            }
+        }
     }
 
     fn read(&mut self, slot: u32, out: &mut [u8]) -> Result<usize, DeskFailed> {
@@ -305,15 +363,9 @@ impl<R: Files + Print + Drop> Desk for OsDesk<R> {
         }
     }
 
-    // No line stands on standard output before the bytes that belong to it.
+    // No line stands on standard output before the bytes that belong to it, and no file is emptied for a line that does not come.
     fn say(&mut self, piece: &[u8]) -> Result<(), DeskFailed> {
-        let done = match write_kept_of(&mut self.files) {
-            Ok(()) => write_all(&mut io::writer(&self.rt), piece).map_err(|reason| Trouble {
-                subject: Subject::Output,
-                reason,
-            }),
-            Err(trouble) => Err(trouble),
-        };
+        let done = say_among(&self.rt, &mut self.files, piece).map_err(SayFault::into_trouble);
         self.troubles.answer(done)
     }
 }

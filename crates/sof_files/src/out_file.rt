@@ -1,9 +1,10 @@
 // The files that a desk over real files appends to, and the bytes that it keeps for them.
 ghost use Rattle.std.specs.Prelude.{◌≡◌, nat_eq, position, true, [], is_ok, IfOk};
 ghost use Rattle.std.specs.Io.KnownBytes.{Keeps};
-ghost use Rattle.sof_files.specs.OutFiles.{slots_of, given_at, SameBeside, SameGiven, NoneKept};
+ghost use Rattle.sof_files.specs.OutFiles.{slots_of, out_names, given_at, SameBeside, SameGiven, NoneKept, Untouched};
+ghost use Rattle.sof_files.specs.declared.out_file.Kept.TheVariants.{Bytes};
 ghost use Rattle.sof_files.specs.Transfers.{Writes};
-ghost use Rattle.sof_files.specs.Troubles.{Notes};
+ghost use Rattle.sof_files.specs.Troubles.{about_file, about_slot, Notes};
 
 use crate::sink::Sink;
 use crate::transfer::{keep, write_filling};
@@ -19,6 +20,15 @@ use std::marker::Model;
 /// The most bytes that are kept for a file.
 const KEPT: usize = 262144;
 
+/// What is written of what is kept.
+#[derive(Clone, Copy, Debug, PartialEq, Eq)]
+pub enum Kept {
+    /// Bytes.
+    Bytes,
+    /// Bytes, and where there are none that a file is to be emptied.
+    All,
+}
+
 /// A file that is open for writing, its slot and its name. Appended bytes are kept until there is no room for more or they are to be
 /// written.
 #[derive(Drop)]
@@ -29,15 +39,18 @@ pub struct OutFile<F: Write + OpenFile + Drop> {
 }
 
 impl<F: Write + OpenFile + Drop> Model for OutFile<F> {
-    ghost use Rattle.std.specs.Io.Buffered.{writer_buffer, writer_contents};
+    ghost use Rattle.std.specs.Prelude.{string_bytes};
+    ghost use Rattle.std.specs.Io.Buffered.{writer_buffer, writer_contents, writer_inner};
     ghost use Rattle.sof_files.specs.OutFiles.{OutView, contents_in};
 
     ghost Value = { OutView };
 
     ghost view = { λ f. record {
       slot = f.slot;
+      name = string_bytes f.name;
       given = writer_contents (λ s. contents_in F.contents s.file) f.file;
       kept = writer_buffer f.file;
+      stale = (writer_inner f.file).stale;
     } };
 }
 
@@ -45,6 +58,7 @@ impl<F: Write + OpenFile + Drop> OutFile<F> {
     /// All memory for a file of a name under a slot, before the file is touched; fails only where there was no memory.
     pub fn new(alloc: Global, slot: u32, name: &str) -> io::Result<OutFile<F>>
         ensures slot { IfOk result (λ f. f.slot ≡ slot) }
+        ensures name { IfOk result (λ f. f.name ≡ name.now) }
         ensures kept { IfOk result (λ f. f.kept ≡ []) }
     {
         Ok(OutFile {
@@ -57,6 +71,7 @@ impl<F: Write + OpenFile + Drop> OutFile<F> {
     /// Ties the slot to its file, which is emptied before bytes go out where it is stale.
     pub fn hold(&mut self, file: F, stale: bool)
         ensures slot { self.new.slot ≡ self.old.slot }
+        ensures name { self.new.name ≡ self.old.name }
         ensures given { self.old.kept ≡ [] → Keeps (F.contents file) self.new.given }
         ensures kept { self.new.kept ≡ self.old.kept }
     {
@@ -66,8 +81,9 @@ impl<F: Write + OpenFile + Drop> OutFile<F> {
     /// Takes a piece whole, or a prefix of it up to a failure, which is noted.
     pub fn append(&mut self, piece: &[u8], troubles: &mut Troubles) -> Result<(), DeskFailed>
         ensures slot { self.new.slot ≡ self.old.slot }
+        ensures name { self.new.name ≡ self.old.name }
         ensures given { Writes piece.now (is_ok result) self.old.given self.new.given }
-        ensures notes { Notes (is_ok result) troubles.old troubles.new }
+        ensures notes { Notes (about_file self.old.name) (is_ok result) troubles.old troubles.new }
     {
         // Most pieces fit, and pass without a word of why they may not.
         let kept = keep(&mut self.file, piece);
@@ -81,8 +97,9 @@ impl<F: Write + OpenFile + Drop> OutFile<F> {
     #[inline(never)]
     fn append_rest(&mut self, piece: &[u8], troubles: &mut Troubles) -> Result<(), DeskFailed>
         ensures slot { self.new.slot ≡ self.old.slot }
+        ensures name { self.new.name ≡ self.old.name }
         ensures given { Writes piece.now (is_ok result) self.old.given self.new.given }
-        ensures notes { Notes (is_ok result) troubles.old troubles.new }
+        ensures notes { Notes (about_file self.old.name) (is_ok result) troubles.old troubles.new }
     {
         match write_filling(&mut self.file, piece) {
             Ok(()) => Ok(()),
@@ -93,19 +110,26 @@ impl<F: Write + OpenFile + Drop> OutFile<F> {
         }
     }
 
-    /// Writes what is kept, or up to a failure; what was not written stays kept.
-    pub fn write_kept(&mut self) -> Result<(), Trouble>
+    /// Writes what is kept, or up to a failure; what was not written stays kept. Where nothing is kept, a stale file is emptied or not.
+    pub fn write_kept(&mut self, what: Kept) -> Result<(), Trouble>
         ensures slot { self.new.slot ≡ self.old.slot }
+        ensures name { self.new.name ≡ self.old.name }
         ensures given { Keeps self.old.given self.new.given }
         ensures none { is_ok result ≡ true → self.new.kept ≡ [] }
+        ensures untouched { what ≡ Bytes → self.old.kept ≡ [] → self.new ≡ self.old }
     {
+        if what == Kept::Bytes && self.file.buffer().is_empty() {
+            return Ok(());
+        }
         match self.file.flush() {
             Ok(()) => Ok(()),
             Err(reason) => Err(self.trouble(reason)),
         }
     }
 
-    fn trouble(&self, reason: io::Error) -> Trouble {
+    fn trouble(&self, reason: io::Error) -> Trouble
+        ensures { about_file self.now.name result.subject }
+    {
         Trouble::with_file(*self.name.allocator(), self.name.as_str(), reason)
     }
 }
@@ -128,7 +152,8 @@ pub fn append_in<F: Write + OpenFile + Drop>(
     ensures slots { slots_of files.new ≡ slots_of files.old }
     ensures given { Writes piece.now (is_ok result) (given_at slot files.old) (given_at slot files.new) }
     ensures others { SameBeside slot files.old files.new }
-    ensures notes { Notes (is_ok result) troubles.old troubles.new }
+    ensures names { out_names files.new ≡ out_names files.old }
+    ensures notes { Notes (about_slot slot (out_names files.old)) (is_ok result) troubles.old troubles.new }
 {
     match place_of(files, slot) {
         Some(place) => files[place].append(piece, troubles),
@@ -143,14 +168,19 @@ pub fn append_in<F: Write + OpenFile + Drop>(
 }
 
 /// Writes what is kept for each file, in order, up to a failure.
-pub fn write_kept_of<F: Write + OpenFile + Drop>(files: &mut [OutFile<F>]) -> Result<(), Trouble>
+pub fn write_kept_of<F: Write + OpenFile + Drop>(
+    files: &mut [OutFile<F>],
+    what: Kept,
+) -> Result<(), Trouble>
     ensures slots { slots_of files.new ≡ slots_of files.old }
+    ensures names { out_names files.new ≡ out_names files.old }
     ensures given { SameGiven files.old files.new }
     ensures none { is_ok result ≡ true → NoneKept files.new }
+    ensures untouched { what ≡ Bytes → Untouched files.old files.new }
 {
     let mut done = 0;
     while done < files.len() {
-        files[done].write_kept()?;
+        files[done].write_kept(what)?;
         done += 1;
     }
     Ok(())

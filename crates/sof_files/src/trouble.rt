@@ -35,6 +35,23 @@ impl Trouble {
     }
 }
 
+/// Why a line was not said, or not all was done that comes after it.
+#[derive(Drop)]
+pub enum SayFault {
+    /// The line did not come, or only a part of it.
+    Unsaid(Trouble),
+    /// It came, and then a file was not emptied.
+    Unemptied(Trouble),
+}
+
+impl SayFault {
+    pub fn into_trouble(self) -> Trouble {
+        match self {
+            SayFault::Unsaid(trouble) | SayFault::Unemptied(trouble) => trouble,
+        }
+    }
+}
+
 impl fmt::Display for Trouble {
     fn fmt<W: fmt::Write>(&self, f: &mut fmt::Formatter<W>) -> fmt::Result {
         let reason = &self.reason;

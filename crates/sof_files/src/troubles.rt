@@ -3,10 +3,12 @@ ghost use Rattle.std.specs.Prelude.{◌≡◌, is_ok, is_some, nat_lt, if◌then
 ghost use Rattle.std.specs.Option.{option_copied, option_or};
 ghost use Rattle.std.specs.Result.{result_err};
 ghost use Rattle.sof_desk.specs.Counts.{one_more};
-ghost use Rattle.sof_files.specs.Troubles.{noted};
+ghost use Rattle.sof_files.specs.Troubles.{noted, NotesFile};
 
 use crate::trouble::Trouble;
 use sof_desk::{DeskFailed, Faults};
+use std::alloc::Global;
+use std::io;
 use std::marker::Model;
 
 /// How many calls failed, and why the first of them did.
@@ -53,6 +55,13 @@ impl Troubles {
         if self.first.is_none() {
             self.first = Some(trouble);
         }
+    }
+
+    /// Counts a failure with the file of a name, and remembers the first.
+    pub fn note_file(&mut self, alloc: Global, name: &str, reason: io::Error)
+        ensures { NotesFile name.now self.old self.new }
+    {
+        self.note(Trouble::with_file(alloc, name, reason));
     }
 
     /// Notes a failure where there is one.

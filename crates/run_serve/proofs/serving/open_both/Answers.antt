@@ -1,9 +1,8 @@
 use Rattle.std.proofs.Common.{◌≡◌, true, false, Err, rules}
-use Rattle.sof_desk.specs.Desk.{Open, Create, Acted}
+use Rattle.sof_desk.specs.Desk.{Open, Acted}
 use Rattle.run_serve.specs.ServeWords.{ServeNames, serve_names}
 use Rattle.run_serve.specs.Reads.{requests_slot}
-use Rattle.run_serve.specs.Serving.{replies_slot}
-use Rattle.run_serve.proofs.OpenedFiles.{not-opened, not-created, let-out}
+use Rattle.run_serve.proofs.OpenedFiles.{not-opened, is-created}
 use Rattle.run_serve.proofs.serving.open_both.Goals as goal
 
 pub returns-in_err-open : goal.returns-in_err-open
@@ -13,17 +12,8 @@ returns-in_err-open g c =
     let failed : Acted g.D.Desk.means (Open requests_slot names.requests) false c.args.desk.now c.open.new.self = rw c.in_err-open.was at c.open.ensures in
     rw out (not-opened g.D.Desk.means names c.args.desk.now c.open.new.self failed)
 
-pub returns-in_err-create : goal.returns-in_err-create
-returns-in_err-create g c =
-    let names : ServeNames = serve_names c.args.files.requests.now c.args.files.replies.now in
-    let out : c.from_residual-in_err-create.result ≡ Err c.in_err-create.field-0.0 = search rules in
-    let opened : Acted g.D.Desk.means (Open requests_slot names.requests) true c.args.desk.now c.open.new.self = rw c.in_ok-open.was at c.open.ensures in
-    let failed : Acted g.D.Desk.means (Create replies_slot names.replies) false c.open.new.self c.create.new.self = rw c.in_err-create.was at c.create.ensures in
-    rw out (not-created g.D.Desk.means names c.args.desk.now c.open.new.self c.create.new.self opened failed)
-
 pub returns : goal.returns
 returns g c =
     let names : ServeNames = serve_names c.args.files.requests.now c.args.files.replies.now in
     let opened : Acted g.D.Desk.means (Open requests_slot names.requests) true c.args.desk.now c.open.new.self = rw c.in_ok-open.was at c.open.ensures in
-    let created : Acted g.D.Desk.means (Create replies_slot names.replies) true c.open.new.self c.create.new.self = rw c.in_ok-create.was at c.create.ensures in
-    let-out g.D.Desk.means names c.args.desk.now c.open.new.self c.create.new.self opened c.let_out.new.desk c.let_out.result created c.let_out.ensures
+    is-created g.D.Desk.means names c.args.desk.now c.open.new.self opened c.create.new.self c.create.result c.create.ensures

@@ -13,7 +13,7 @@ returns-in-Ok-eq0 g c =
     let dsp = g.P.Dsp.means in
     let did : ServedOne means dsp 0 c.records.desk c.records.dsp c.serve_record.new.desk c.serve_record.new.dsp = rw c.in-Ok-eq0.field-0-test at c.in-Ok-eq0.ensures.did in
     rw c.end_with.ensures
-    (left-over means dsp c.args.desk.now c.args.dsp.now c.records.at c.records.desk c.records.dsp c.serve_record.new.desk c.serve_record.new.dsp c.records.invariant.left c.records-test.true did)
+    (left-over means dsp c.args.desk.now c.args.dsp.now c.records.at c.end_all.result c.records.desk c.records.dsp c.serve_record.new.desk c.serve_record.new.dsp c.end_all.new.desk c.records.invariant.left c.records-test.true did c.end_all.ensures)
 
 pub records-preserved : goal.records-preserved
 records-preserved g c =

@@ -1,16 +1,24 @@
-use Rattle.std.proofs.Common.{◌≡◌, is_ok}
+use Rattle.std.proofs.Common.{true, false, Some, refl, ap}
+use Rattle.std.specs.Option.{option_or}
 use Rattle.sof_files.specs.RealDesk.{RealDesk}
 use Rattle.sof_files.proofs.ActsOfReal.{answered_is, opens}
 use Rattle.sof_files.proofs.os.OsDeskDesk.open.Goals as goal
 
-pub returns : goal.returns
-returns g c =
+pub returns-in-Ok : goal.returns-in-Ok
+returns-in-Ok g c =
     let e = c.open_for_reading.ensures in
     let mid : RealDesk = c.open_for_reading.new.self in
-    let inside = c.self-2.inside in
-    let last : RealDesk = record { files = inside.files.items; inputs = inside.inputs.items; uses = inside.uses.items; faults = inside.troubles.count } in
-    let done = is_ok c.map_err-done.result in
-    let same : done ≡ is_ok c.open_for_reading.result = c.map_err-done.ensures.variant in
-    let new : RealDesk = record last { faults = c.answer.new.self.count } in
-    let counted = answered_is last mid c.answer.new.self.count done c.self-2.view_is c.answer.ensures.count in
-    opens c.args.slot c.args.name.now (is_ok c.answer.result) done c.args.self.now mid new c.answer.ensures.answer e.faults e.files (rw (← same) at e.slots) (rw (← same) at e.keeps) e.room (rw (← same) at e.takes) counted
+    let new : RealDesk = mid in
+    opens c.args.slot c.args.name.now true true c.args.self.now mid new refl e.faults e.files (rw c.in-Ok.is at e.slots) (rw c.in-Ok.is at e.keeps) e.room (rw c.in-Ok.is at e.takes) (rw c.in-Ok.is at e.names) mid.first e.first refl
+
+pub returns-in-Err : goal.returns-in-Err
+returns-in-Err g c =
+    let e = c.open_for_reading.ensures in
+    let mid : RealDesk = c.open_for_reading.new.self in
+    let inside = c.self.inside in
+    let noting = c.note_file.ensures in
+    let last : RealDesk = record { files = inside.files.items; inputs = inside.inputs.items; uses = inside.uses.items; faults = inside.troubles.count; first = inside.troubles.first } in
+    let new : RealDesk = record last { faults = c.note_file.new.self.count; first = c.note_file.new.self.first } in
+    let first = option_or mid.first (Some noting.0) in
+    let is = answered_is last mid inside.troubles c.note_file.new.self noting.0 c.self.view_is refl refl noting.2 in
+    opens c.args.slot c.args.name.now false false c.args.self.now mid new refl e.faults e.files (rw c.in-Err.is at e.slots) (rw c.in-Err.is at e.keeps) e.room (rw c.in-Err.is at e.takes) (rw c.in-Err.is at e.names) first (noting.0, noting.1, ap (λ o. option_or o (Some noting.0)) e.first) is

@@ -1,0 +1,4 @@
+pub mod Asked
+pub mod HandedOn
+pub mod Driven
+pub mod Status

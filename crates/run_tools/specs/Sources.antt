@@ -16,8 +16,8 @@ use Rattle.run_words.specs.ToolForms.{SourceFiles, source_files_of}
 use Rattle.run_tools.specs.Sourcing.{no_source_line}
 
 -- The status by the topology's bytes, whose cases exclude each other, and all calls on the desk: a desk that failed or want of
--- memory; 5 where the file is too long; 2 where it is no right topology, or one whose plan no source carries, and then the line for
--- it was said; 0 where its source was made: a text that compiles to a topology of the same plan. Which text this is, if there is one, is a
+-- memory; 5 where the file is too long; 2 where it is no right topology, or one of which `source` makes no source, and then the
+-- line for it was said; 0 where its source was made: a text that compiles to a topology of the same plan. Which text this is, if there is one, is a
 -- function of the topology.
 abbrev pub SourceVerdict : (Topology → Option (List ℕ)) → SourceFiles → List ℕ → List DeskCall → ℕ → Type 0
 SourceVerdict source files bytes calls status =

@@ -62,7 +62,7 @@ HEAP is the size of the device's heap in bytes, in decimal, at most 16777216.
 Statuses:
   0  all was carried out; the transcript tells which commands were refused
   1  the words have none of the forms
-  2  TOPOLOGY is no topology file, it breaks a rule, or no source carries it; or
+  2  TOPOLOGY is no topology file, it breaks a rule, or it gets no source; or
      TRACE or REQUESTS has a fault, or a record is not what the device does
   3  a file or standard output failed; standard error tells which and why
   4  a line of SCRIPT or an entry of SOURCE is at fault

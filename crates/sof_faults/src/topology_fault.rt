@@ -70,7 +70,7 @@ pub fn topology_sentence(
 /// The sentence of a right topology that has no source, with the name of its file in front.
 pub fn no_source_sentence(alloc: Global, file: &str) -> Result<String, NoMemory> {
     Ok(format!(in alloc;
-        "{}: no source has keys for all of its plan",
+        "{}: its source would have another plan, or more than 1048576 bytes",
         ShownName(file)
     )?)
 }

@@ -65,7 +65,7 @@ fn do_words<D: Desk, P: Dsp>(alloc: Global, words: &[String], desk: &mut D, dsp:
 /// they are kept, then the bytes of the outputs, and then the command's lines are said. `replay` gives the records of a trace to the
 /// device, one after another. The statuses: 0 all commands were carried out, the topology is right, its picture was said, the source's or
 /// the topology's file was made, all records were described, or all were given and each reply is the device's; 1 the words are of no form; 2 the
-/// topology file is broken, the topology breaks a rule, no source carries it, the trace has a fault, or a record of it can't be given or is
+/// topology file is broken, the topology breaks a rule, `source` makes no source of it, the trace has a fault, or a record of it can't be given or is
 /// not what the device does; 3 the desk failed; 4 a line of the script is at fault, or binds what it may not, or the source is refused; 5 a
 /// file is too long; 7 there was no memory; 8 the script has more than 60000 ticks, with those of its lags; 10 the device failed while
 /// records were given to it.

@@ -64,7 +64,7 @@ fn text_carrying(alloc: Global, topology: &Topology) -> Result<Vec<u8>, NoSource
 }
 
 /// The source of a topology whose plan this is: a text that compiles to a topology of the same plan, but for what no source
-/// carries. A topology whose plan rests on more has none.
+/// carries. A topology has none if its text has another plan, or more than 1048576 bytes.
 #[tactic(auto, using(crate::proofs::KeptPlans::text_keeps, crate::proofs::KeptPlans::text_given, crate::proofs::KeptPlans::text_lost))]
 pub fn source(alloc: Global, topology: &Topology, wanted: &Plan) -> Result<Vec<u8>, NoSource>
     // The text compiles to a topology of this plan.

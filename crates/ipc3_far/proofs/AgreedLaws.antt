@@ -11,7 +11,7 @@ module _ {P : Type 0} (means : Meaning P) where
 
   own_exchange : (own answer : Option (List ℕ)) (request : List ℕ) (w m : World P) (f g : FarDevice P) → Exchanged means request own w m → FarAgrees request own answer f g → g.broken ≡ f.broken → f.broken + 1 < 2 ^ 64 → Exchanged means request answer w m
   own_exchange own (Some reply) request w m f g x agrees same few = subst (λ a. Exchanged means request a w m) agrees.0 x
-  own_exchange own None request w m f g x agrees same few = absurd (omega (arith, agrees, same, few))
+  own_exchange own None request w m f g x agrees same few = absurd (omega (arith, agrees.0, same, few))
 
   -- a call in which the far side does not fail
   own_call : (call : Call) (w m : World (FarDevice P)) → Did (far means) call w m → m.device.broken ≡ w.device.broken → w.device.broken + 1 < 2 ^ 64 → Did means call (own_world w) (own_world m)

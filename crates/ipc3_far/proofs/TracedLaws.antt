@@ -67,7 +67,7 @@ module _ {P : Type 0} (means : Meaning P) where
     sent = subst (Appends f.ends.sent g.ends.sent) (sym (append-nil (record_bytes (Request request)))) agrees.2.sent;
     read = subst (Consumes f.ends.unread g.ends.unread) (sym (append-nil (record_bytes (back_of (Some reply))))) agrees.2.read;
   }
-  traced_message request own None f g agrees same few = absurd (omega (arith, agrees, same, few))
+  traced_message request own None f g agrees same few = absurd (omega (arith, agrees.0, same, few))
 
   traced_call : (call : Call) (w m : World (FarDevice P)) → Did (far means) call w m → m.device.broken ≡ w.device.broken → w.device.broken + 1 < 2 ^ 64 → m.device.ends.stuck ≡ false
       → WentOver (entries_by (is_some (means.on w.device.device)) call) w.device.ends m.device.ends

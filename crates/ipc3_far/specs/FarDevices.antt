@@ -8,7 +8,7 @@ use Rattle.ipc3_trace.specs.declared.entry.Entry.TheVariants.{Boot, Cut, Tick}
 use Rattle.ipc3_trace.specs.Records.{record_bytes}
 use Rattle.ipc3_far.specs.declared.answer.FarAnswer.{FarAnswer}
 use Rattle.ipc3_far.specs.declared.answer.FarAnswer.TheVariants.{Reply}
-use Rattle.ipc3_far.specs.FarEnds.{FarEnds, new_ends, Sends, SendsWhere, Exchanges, LetsOut}
+use Rattle.ipc3_far.specs.FarEnds.{FarEnds, new_ends, Sends, SendsWhere, Exchanges, Asks, LetsOut}
 
 -- a device, in how many messages the far side failed, and the bytes between both
 pub record FarDevice (P : Type 0) : Type 0 where
@@ -35,11 +35,16 @@ abbrev pub is_far_reply : FarAnswer → List ℕ → Bool
 is_far_reply (Reply reply) own = bytes_eq reply own
 is_far_reply answer own = false
 
--- A message's answer by that of the device itself: the device's reply is handed on, which the far side gave too, or the link failed, which is
--- counted. No other reply is ever handed on.
+-- whether what came back of a message is the device's own reply, which there is none of if its link failed
+abbrev pub is_right : FarAnswer → Option (List ℕ) → Bool
+is_right answer None = false
+is_right answer (Some own) = is_far_reply answer own
+
+-- A message's answer by that of the device itself: the device's reply is handed on, which the far side gave too; or the link failed, which is
+-- counted, since the far side was asked and did not give it. No other reply is ever handed on.
 abbrev pub FarAgrees : {P : Type 0} → (request : List ℕ) (own answer : Option (List ℕ)) → FarDevice P → FarDevice P → Type 0
 FarAgrees request own (Some reply) f g = (own ≡ Some reply) × (g.broken ≡ f.broken) × Exchanges request reply f.ends g.ends
-FarAgrees request own None f g = g.broken ≡ more f.broken
+FarAgrees request own None f g = (g.broken ≡ more f.broken) × ((answer : FarAnswer) × (is_right answer own ≡ false) × Asks request answer f.ends g.ends)
 
 -- ---- what it means
 

@@ -1,6 +1,6 @@
 -- The bytes between a device and its far side, where they are known.
 use Rattle.std.specs.Prelude.{◌≡◌, ℕ, ◌+◌, ◌≤◌, Bool, true, false, List, [], ◌++◌, length, take, Option}
-use Rattle.std.specs.Io.KnownBytes.{Keeps, Appends, Consumes}
+use Rattle.std.specs.Io.KnownBytes.{Keeps, Appends, Consumes, IsAtEnd}
 use Rattle.ipc3_trace.specs.declared.entry.Entry.TheVariants as entries
 use Rattle.ipc3_trace.specs.Kinds.{size_after}
 use Rattle.ipc3_trace.specs.Records.{record_bytes}
@@ -32,10 +32,10 @@ pub record Exchanges (message reply : List ℕ) (old new : FarEnds) : Type 0 whe
   pub sent : Appends old.sent new.sent (record_bytes (entries.Request message))
   pub read : Consumes old.unread new.unread (record_bytes (entries.Reply reply))
 
--- the same where a reply came back
-abbrev pub Asks : List ℕ → FarAnswer → FarEnds → FarEnds → Type 0
-Asks message (Reply reply) old new = Exchanges message reply old new
-Asks message answer old new = Unit {0}
+-- a message was sent, after all records before it
+pub record SendsMessage (message : List ℕ) (old new : FarEnds) : Type 0 where
+  pub all : old.stuck ≡ false
+  pub sent : Appends old.sent new.sent (record_bytes (entries.Request message))
 
 -- what was sent, and what is yet to be read, stay as they are
 pub record LetsOut (old new : FarEnds) : Type 0 where
@@ -66,7 +66,13 @@ IsAnswer bytes End = bytes ≡ []
 IsAnswer bytes (Unsent reason) = ⊥
 IsAnswer bytes (Unread reason) = ⊥
 
--- what came back was read
+-- what came back was read; if nothing did, there is no more to read
 abbrev pub WasReadAs : FarAnswer → Option (List ℕ) → Option (List ℕ) → Type 0
 WasReadAs (Unread reason) old new = Unit {0}
+WasReadAs End old new = Consumes old new [] × IsAtEnd new
 WasReadAs answer old new = (bytes : List ℕ) × IsAnswer bytes answer × Consumes old new bytes
+
+-- a message was sent, and what came back was read; or it did not go out, or a record before it did not, and then nothing was read
+abbrev pub Asks : List ℕ → FarAnswer → FarEnds → FarEnds → Type 0
+Asks message (Unsent reason) old new = new.unread ≡ old.unread
+Asks message answer old new = SendsMessage message old new × WasReadAs answer old.unread new.unread

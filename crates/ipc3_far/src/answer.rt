@@ -1,7 +1,9 @@
 // What a far side gave back of a message.
-ghost use Rattle.std.specs.Prelude.{◌≡◌};
-ghost use Rattle.ipc3_far.specs.FarDevices.{is_far_reply};
+ghost use Rattle.std.specs.Prelude.{◌≡◌, ◌≤◌, IfOk};
+ghost use Rattle.mbox_link.specs.AnswerBytes.{answered};
+ghost use Rattle.ipc3_far.specs.FarDevices.{is_far_reply, is_right};
 
+use mbox_link::LinkFault;
 use sof_base::Bounded;
 use std::io;
 
@@ -37,5 +39,16 @@ pub fn is_far_reply(answer: &FarAnswer, own: &[u8]) -> bool
     match answer {
         FarAnswer::Reply(reply) => reply.items() == own,
         FarAnswer::Other(_) | FarAnswer::End | FarAnswer::Unsent(_) | FarAnswer::Unread(_) => false,
+    }
+}
+
+/// Whether what came back of a message is the device's own reply, at the front of `reply`. If its link failed, it has none.
+pub fn is_right(answer: &FarAnswer, own: Result<usize, LinkFault>, reply: &[u8; 384]) -> bool
+    requires { IfOk own (λ long. long ≤ 384) }
+    ensures { result ≡ is_right answer.now (answered own reply.now) }
+{
+    match own {
+        Ok(long) => is_far_reply(answer, &reply[..long]),
+        Err(LinkFault) => false,
     }
 }

@@ -2,7 +2,7 @@
 ghost use Rattle.std.specs.Prelude.{◌≡◌, ◌≤◌, IfOk};
 ghost use Rattle.ipc3_far.specs.FarDevices.{new_far, far, LetsAllOut};
 
-use crate::answer::{FarAnswer, FarFault, is_far_reply};
+use crate::answer::{FarAnswer, FarFault, is_right};
 use crate::talk::Talk;
 use ipc3_trace::RecordKind;
 use mbox_link::{Dsp, LinkFault};
@@ -89,10 +89,8 @@ impl<P: Dsp, R: Read + Drop, W: Write + Drop> Dsp for Far<P, R, W> {
         let own = self.dsp.exchange(request, reply, io, out);
         self.messages = self.messages.saturating_add(1);
         let answer = self.talk.ask(request);
-        if let Ok(long) = own
-            && is_far_reply(&answer, &reply[..long])
-        {
-            return Ok(long);
+        if is_right(&answer, own, reply) {
+            return own;
         }
         keep_first(&mut self.first, self.messages, reply_of(own, reply), answer);
         self.broken = self.broken.saturating_add(1);

@@ -1,6 +1,6 @@
 // Records to a far side, and what comes back.
-ghost use Rattle.std.specs.Prelude.{◌≡◌, ◌≤◌, [], take, length, IfOk, OnOk};
-ghost use Rattle.std.specs.Io.KnownBytes.{Appends};
+ghost use Rattle.std.specs.Prelude.{◌≡◌, ◌≤◌, ◌<◌, [], take, length, IfOk, OnOk};
+ghost use Rattle.std.specs.Io.KnownBytes.{Appends, IsAtEnd};
 ghost use Rattle.ipc3_trace.specs.Records.{spelled, record_bytes};
 ghost use Rattle.ipc3_far.specs.declared.answer.FarAnswer.TheVariants as answers;
 ghost use Rattle.ipc3_far.specs.FarEnds.{new_ends, Sends, SendsWhere, Asks, LetsOut, ReadsOn, IsAtMostRecord, ReadsRecord, IsAnswer, WasReadAs};
@@ -96,6 +96,7 @@ fn fill<R: Read>(from: &mut R, bytes: &mut [u8; 392], start: usize, to: usize) -
     requires within { (start ≤ to) × (to ≤ 392) }
     ensures within { IfOk result (λ there. there ≤ to) }
     ensures read { IfOk result (λ there. ReadsOn start there bytes.old bytes.new (R.remaining from.old) (R.remaining from.new)) }
+    ensures end { IfOk result (λ there. there < to → IsAtEnd (R.remaining from.new)) }
 {
     let mut there = start;
     while there < to {
@@ -112,6 +113,7 @@ fn fill<R: Read>(from: &mut R, bytes: &mut [u8; 392], start: usize, to: usize) -
 fn read_record<R: Read>(from: &mut R, bytes: &mut [u8; 392]) -> io::Result<usize>
     ensures within { IfOk result (λ there. there ≤ 392) }
     ensures read { IfOk result (λ there. ReadsRecord (take there bytes.new) (R.remaining from.old) (R.remaining from.new)) }
+    ensures end { IfOk result (λ there. there ≡ 0 → IsAtEnd (R.remaining from.new)) }
 {
     let there = fill(from, bytes, 0, 8)?;
     if there < 8 {

@@ -2,6 +2,7 @@
 pub mod Errors
 pub mod Firsts
 pub mod Reasons
+pub mod Carried
 pub mod Holding
 pub mod ReasonLaws
 pub mod Worked

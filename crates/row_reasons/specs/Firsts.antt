@@ -16,7 +16,7 @@ use Rattle.row_reasons.specs.declared.reasons.Reason.{Reason}
 use Rattle.row_reasons.specs.declared.reasons.Reason.TheVariants as why
 pub use Rattle.sof_base.specs.Holes.{largest}
 
--- a reason where a test holds
+-- a reason if a test holds
 abbrev pub when : Bool → Reason → Option Reason
 when true r = Some r
 when false r = None
@@ -28,10 +28,11 @@ first_of (r ∷ rs) = option_or r (first_of rs)
 
 -- ---- streams
 
--- the host of the first prepared stream on whose way x is, 0 for none
+-- the first prepared stream on whose way x is
 abbrev pub holder : Graph → List StreamView → ℕ → Option StreamView
 holder g streams x = find (λ s. is_some s.params && on_way g s.host x) streams
 
+-- its host, 0 if there is none
 abbrev pub host_of : Option StreamView → ℕ
 host_of None = 0
 host_of (Some s) = s.host
@@ -40,6 +41,7 @@ host_of (Some s) = s.host
 abbrev pub changed_in : Graph → Graph → ℕ → Option ℕ
 changed_in old new host = find (λ x. not (same_test (on_way old host x) (on_way new host x))) ((components old ++ buffers old) ++ (components new ++ buffers new))
 
+-- an id that is there, or 0
 abbrev pub id_or_none : Option ℕ → ℕ
 id_or_none None = 0
 id_or_none (Some id) = id
@@ -49,11 +51,11 @@ abbrev pub way_reason : View → Graph → Option Reason
 way_reason v new =
     option_map (λ s. why.WayChanges s.host (id_or_none (changed_in v.graph new s.host))) (find (λ s. is_some s.params && not (has_stayed v.graph new s.host)) v.streams)
 
--- two streams touch, and have parameters that do not suit each other
+-- two streams touch, and their parameters have another rate or another number of channels
 abbrev pub clash : Graph → StreamView → StreamView → Bool
 clash g s t = touch g s.host t.host && not (same_shape s.params t.params)
 
--- the first two streams that would
+-- the reason of two streams that have parameters
 abbrev pub clash_of : Option Params → Option Params → ℕ → ℕ → Option Reason
 clash_of (Some p) (Some q) host other = Some (why.Clash host p other q)
 clash_of p q host other = None
@@ -66,6 +68,7 @@ abbrev pub clash_with : Graph → List StreamView → Option StreamView → Opti
 clash_with g streams None = None
 clash_with g streams (Some s) = clash_between s (find (clash g s) streams)
 
+-- the first stream that clashes with one, and the first that it clashes with
 abbrev pub clash_reason : View → Option Reason
 clash_reason v = clash_with v.graph v.streams (find (λ s. list_any (clash v.graph s) v.streams) v.streams)
 

@@ -21,6 +21,6 @@ abbrev pub refusal_errno : Refusal → ℤ
 refusal_errno (Broken fault) = invalid
 refusal_errno (Refused r) = errno_of r
 
--- The row of bytes answers an error exactly where there is a refusal, and it is the refusal's.
+-- The row of bytes answers an error exactly if there is a refusal, and it is the refusal's.
 abbrev pub RefusalsAreErrors : Type 0
 RefusalsAreErrors = (f : FwState) (request : List ℕ) → option_map refusal_errno (refusal_of f (decoded request)) ≡ error_of (row_of f (decoded request))

@@ -1,4 +1,4 @@
-//! Why a message is refused: the first of the tests of its row in the firmware's table that holds, and what it says of the state. The
+//! Why a message is refused: the first of the tests of its row in the firmware's table that holds, and what that says of the state. The
 //! laws speak of states and rows alone, so they serve every device that carries the rows out.
 #![tactic(auto)]
 

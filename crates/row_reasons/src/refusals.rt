@@ -6,10 +6,12 @@ use crate::reasons::Reason;
 use ipc3_model::CodecFault;
 use sof_base::Errno;
 
-/// Why bytes are refused: they are no message, or the first test of their message's row holds.
+/// Why bytes are refused.
 #[derive(Clone, Copy)]
 pub enum Refusal {
+    /// They are no message; the codec's fault.
     Broken(CodecFault),
+    /// They are a message that is not done; its reason.
     Refused(Reason),
 }
 

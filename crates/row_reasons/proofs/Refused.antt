@@ -1,6 +1,6 @@
 -- Refusals by the reasons of rows.
 use Rattle.std.proofs.Common.{◌≡◌, ◌∙◌, refl, Option, Some, None, Result, Ok, Err}
-use Rattle.std.specs.Prelude.{ℤ, option_map}
+use Rattle.std.specs.Prelude.{option_map}
 use Rattle.stream_law.specs.State.{FwState}
 use Rattle.ipc3_model.specs.declared.message.Message.{Message}
 use Rattle.ipc3_model.specs.declared.fault.CodecFault.{CodecFault}

@@ -1,4 +1,4 @@
-use Rattle.std.proofs.Common.{◌≡◌, sym, ap, ◌∙◌, Option, Some}
+use Rattle.std.proofs.Common.{sym, ap, ◌∙◌, Option, Some}
 use Rattle.std.specs.Prelude.{option_map}
 use Rattle.sof_base.specs.BlobFaults.{BlobFault}
 use Rattle.eq_blob.specs.declared.fault.EqFault.{EqFault}

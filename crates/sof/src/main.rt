@@ -256,6 +256,14 @@ pub fn play_over<'a, P: Dsp>(
     (status, ended.dsp)
 }
 
+// The slot of the file that is made of bytes which are all there before the first goes out.
+fn aside_slot(words: &[String]) -> Option<u32> {
+    match read_request(words, ROOM)? {
+        Request::Compile(_) | Request::Source(_) => Some(OUT_SLOT),
+        _ => None,
+    }
+}
+
 // The slot of the file that no line may stand in the midst of, even where it is a pipe.
 fn alone_slot(words: &[String]) -> Option<u32> {
     match read_request(words, ROOM)? {
@@ -273,6 +281,9 @@ fn play(rt: &HostRuntime, words: &[String]) -> Result<u8, NoMemory>
     let mut desk = OsDesk::new(rt, rt.alloc())?;
     if let Some(slot) = alone_slot(words) {
         desk.set_alone(slot);
+    }
+    if let Some(slot) = aside_slot(words) {
+        desk.set_aside(slot);
     }
     let (status, _dsp) = play_over(rt, words, desk, dsp);
     Ok(status)

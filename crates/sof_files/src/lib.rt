@@ -2,8 +2,10 @@
 //! it failed.
 #![tactic(auto)]
 
+mod aside;
 mod file_use;
 mod in_file;
+mod opening;
 mod os;
 mod out_file;
 mod sink;

@@ -1,16 +1,20 @@
 // A desk over real files and standard output: the edge to the outside, which tells no content.
-ghost use Rattle.std.specs.Prelude.{◌≡◌, ◌≤◌, length, is_ok, is_some, nat_lt, true, IfOk, IfErr, OnErr, if◌then◌else◌};
+ghost use Rattle.std.specs.Prelude.{◌≡◌, ◌≤◌, length, is_ok, is_some, nat_lt, true, None, IfOk, IfErr, OnErr, if◌then◌else◌};
 ghost use Rattle.std.specs.Option.{option_copied};
 ghost use Rattle.sof_desk.specs.declared.calls.FileUse.TheVariants.{ToRead, ToWrite};
 ghost use Rattle.sof_desk.specs.Desk.{Create, Open};
-ghost use Rattle.sof_files.specs.UsedFiles.{TakesFile, TakesWhere, TakesForCall, IsTaken};
-ghost use Rattle.sof_files.specs.OutFiles.{slots_of, out_names, SameBeside, SameGiven, NoneKept, UntouchedWhere};
+ghost use Rattle.sof_files.specs.UsedFiles.{TakesFile, TakesWhere, TakesForCall};
+ghost use Rattle.sof_files.specs.OutFiles.{slots_of, out_names, SameBeside, SameGiven, NoneKept, Untouched, UntouchedWhere};
+ghost use Rattle.sof_files.specs.declared.out_file.Kept.TheVariants.{Bytes, All};
+ghost use Rattle.sof_files.specs.Asides.{Waits};
 ghost use Rattle.sof_files.specs.InFiles.{opens_of, in_names, KeepsLeft};
 ghost use Rattle.sof_files.specs.RealDesk.{real, slots_with, out_names_after, in_names_after, IsNew, HandsOut};
 
-use crate::file_use::{Opened, UsedFile, identified, take, tell_to};
+use crate::aside::{Aside, keep_aside, put_in_place, remove};
+use crate::file_use::{UsedFile, tell_to};
 use crate::in_file;
 use crate::in_file::InFile;
+use crate::opening::{Way, open_to_read, open_to_write, target_of};
 use crate::out_file::{Kept, OutFile, append_in, place_of, write_kept_of};
 use crate::sink::Sink;
 use crate::standard::{Standard, Stream};
@@ -18,19 +22,18 @@ use crate::transfer::{ReadFault, read_all, write_all};
 use crate::trouble::{SayFault, Subject, Trouble};
 use crate::troubles::Troubles;
 use sof_base::NoMemory;
-use sof_desk::{Desk, DeskFailed, FileUse, LoadFault, SLOTS};
+use sof_desk::{Desk, DeskFailed, LoadFault, SLOTS};
 use std::alloc::Global;
-use std::fs::OpenOptions;
+use std::io;
 use std::marker::Model;
 use std::rt::Files;
-use std::{fs, io};
 
 /// A desk over the files and the standard output of a runtime. It has room for 130 slots to append to and 130 to read. It keeps up
 /// to 256 KiB of what is appended to each, and writes them before a line is said. A file that it created a slot for is emptied when
-/// its first bytes go out or the next line was said, and one that it hands out before its first bytes. It tells no content; what it
-/// gives and takes is what the runtime does. By device and number it tells whether two names are one file, but for special files. So it
-/// does of the files that standard output and standard error go to.
-#[derive(Drop)]
+/// its first bytes go out or the next line was said, and one that it hands out before its first bytes. A file that is written aside takes
+/// its place before the next line if it has bytes, and else after it; where no line comes, it is removed as the desk is dropped. The desk
+/// tells no content; what it gives and takes is what the runtime does. By device and number it tells whether two names are one file, but
+/// for special files. So it does of the files that standard output and standard error go to.
 pub struct OsDesk<R: Files> {
     rt: R,
     alloc: Global,
@@ -38,7 +41,29 @@ pub struct OsDesk<R: Files> {
     inputs: Vec<InFile<R::File>>,
     uses: Vec<UsedFile>,
     alone: Option<u32>,
+    replaced: Option<u32>,
+    aside: Option<Aside>,
     troubles: Troubles,
+}
+
+impl<R: Files + Drop> Drop for OsDesk<R> {
+    // No line said what a file that is still aside holds.
+    fn drop(self) {
+        if let Some(aside) = &self.aside {
+            remove(&self.rt, aside);
+        }
+        let OsDesk {
+            rt: _rt,
+            alloc: _,
+            files: _files,
+            inputs: _inputs,
+            uses: _uses,
+            alone: _,
+            replaced: _,
+            aside: _aside,
+            troubles: _troubles,
+        } = self;
+    }
 }
 
 impl<R: Files> Model for OsDesk<R> {
@@ -78,6 +103,8 @@ impl<R: Files + Standard + Print + Drop> OsDesk<R> {
             inputs: Vec::with_capacity(alloc, SLOTS)?,
             uses,
             alone: None,
+            replaced: None,
+            aside: None,
             troubles: Troubles::none(),
         })
     }
@@ -88,6 +115,14 @@ impl<R: Files + Standard + Print + Drop> OsDesk<R> {
         ensures { self.new ≡ self.old }
     {
         self.alone = Some(slot);
+    }
+
+    /// From now on the file of this slot is written aside, in its folder, and takes its place at once, with its mode, at the next line.
+    /// It is written as it stands where it is no regular file of one name, owner and group, or where no file can stand aside.
+    pub fn set_aside(&mut self, slot: u32)
+        ensures { self.new ≡ self.old }
+    {
+        self.replaced = Some(slot);
     }
 
     /// Why the first call failed that did: what it was about, and the system's reason.
@@ -125,7 +160,7 @@ impl<R: Files + Standard + Print + Drop> OsDesk<R> {
         }
     }
 
-    /// Opens a file to be written, made where there is none, and keeps it under a slot. It stands as it was until bytes go out. Fails
+    /// Opens a file to be written, made where there is none or aside, and keeps it under a slot. It stands as it was until bytes go out. Fails
     /// where there was no room for the slot, its name and its bytes, where the file was not opened, or where this run reads it or
     /// writes it already.
     fn open_for_writing(&mut self, slot: u32, name: &str) -> io::Result<()>
@@ -142,8 +177,12 @@ impl<R: Files + Standard + Print + Drop> OsDesk<R> {
         if place.is_none() && self.files.len() >= SLOTS {
             return Err(io::Error::other("too many outputs"));
         }
-        let alone = self.alone == Some(slot);
-        let opened = output_of(&self.rt, self.alloc, slot, name, alone, &mut self.uses)?;
+        let way = Way {
+            alone: self.alone == Some(slot),
+            aside: self.replaced == Some(slot),
+        };
+        let (opened, aside) = output_of(&self.rt, self.alloc, slot, name, way, &mut self.uses)?;
+        keep_aside(&self.rt, &mut self.aside, slot, aside);
         match place {
             Some(place) => self.files[place] = opened,
             None => self.files.push(opened).unwrap(),
@@ -176,25 +215,25 @@ impl<R: Files + Standard + Print + Drop> OsDesk<R> {
     }
 }
 
-/// The file of a name under a slot, to be written, which is a pipe of its own where it is to be alone. All memory for it comes before it
-/// is opened.
+/// The file of a name under a slot, to be written, and its names where it is one aside. All memory for it comes before it is opened; that
+/// for its names comes after it, and where there is none, it is not written aside.
 fn output_of<R: Files>(
     rt: &R,
     alloc: Global,
     slot: u32,
     name: &str,
-    alone: bool,
+    way: Way,
     uses: &mut Vec<UsedFile>,
-) -> io::Result<OutFile<R::File>>
-    ensures slot { IfOk result (λ f. f.slot ≡ slot) }
-    ensures name { IfOk result (λ f. f.name ≡ name.now) }
+) -> io::Result<(OutFile<R::File>, Option<Aside>)>
+    ensures slot { IfOk result (λ f. f.0.slot ≡ slot) }
+    ensures name { IfOk result (λ f. f.0.name ≡ name.now) }
     ensures takes { TakesForCall (Create slot name.now) (is_ok result) uses.old.items uses.new.items }
 {
     uses.reserve(1)?;
     let mut output = OutFile::new(alloc, slot, name)?;
-    let opened = open_to_write(rt, name, alone, uses)?;
-    output.hold(opened.file, opened.regular);
-    Ok(output)
+    let target = target_of(rt, alloc, slot, name, way, uses)?;
+    output.hold(target.file, target.stale);
+    Ok((output, target.aside))
 }
 
 /// The file of a name under a slot, to be read. All memory for it comes before it is opened.
@@ -235,40 +274,6 @@ fn source_of<R: Files>(rt: &R, name: &str, uses: &mut Vec<UsedFile>) -> io::Resu
     Ok(opened.file)
 }
 
-/// Opens a file to be written as it stands, made where there is none, and takes it, where it has no use yet. So it does with a pipe that is
-/// to be alone.
-fn open_to_write<R: Files>(
-    rt: &R,
-    name: &str,
-    alone: bool,
-    uses: &mut Vec<UsedFile>,
-) -> io::Result<Opened<R::File>>
-    ensures ok { IfOk result (λ opened. IsTaken ToWrite opened.id uses.old.items uses.new.items) }
-    ensures err { OnErr result (uses.new.items ≡ uses.old.items) }
-{
-    let file = OpenOptions::new().write(true).create(true).open(rt, name)?;
-    let opened = identified(file, alone)?;
-    let id = opened.id;
-    take(uses, id, FileUse::ToWrite)?;
-    Ok(opened)
-}
-
-/// Opens a file to be read and takes it, unless this run writes it.
-fn open_to_read<R: Files>(
-    rt: &R,
-    name: &str,
-    uses: &mut Vec<UsedFile>,
-) -> io::Result<Opened<R::File>>
-    ensures ok { IfOk result (λ opened. IsTaken ToRead opened.id uses.old.items uses.new.items) }
-    ensures err { OnErr result (uses.new.items ≡ uses.old.items) }
-{
-    let file = fs::open(rt, name)?;
-    let opened = identified(file, false)?;
-    let id = opened.id;
-    take(uses, id, FileUse::ToRead)?;
-    Ok(opened)
-}
-
 /// The bytes of a file, at most `limit`.
 fn load_file<R: Files>(
     rt: &R,
@@ -289,10 +294,32 @@ fn load_file<R: Files>(
     }
 }
 
-/// Says a piece, up to a failure: the bytes that are kept go out before it, and after it files are emptied that got none.
+/// Writes what is kept for each file, in order, and puts the file aside in its place, up to a failure.
+fn let_out<R: Files>(
+    rt: &R,
+    files: &mut [OutFile<R::File>],
+    aside: &mut Option<Aside>,
+    what: Kept,
+) -> Result<(), Trouble>
+    ensures slots { slots_of files.new ≡ slots_of files.old }
+    ensures names { out_names files.new ≡ out_names files.old }
+    ensures given { SameGiven files.old files.new }
+    ensures none { is_ok result ≡ true → NoneKept files.new }
+    ensures untouched { what ≡ Bytes → Untouched files.old files.new }
+    ensures placed { what ≡ All → is_ok result ≡ true → aside.new ≡ None }
+    ensures waits { what ≡ Bytes → Waits files.new aside.old aside.new }
+    ensures stays { OnErr result (aside.new ≡ aside.old) }
+{
+    write_kept_of(files, what)?;
+    put_in_place(rt, files, aside, what)
+}
+
+/// Says a piece, up to a failure: the bytes that are kept go out before it, and the file aside takes its place. After it files are emptied
+/// that got no byte, and one aside that got none takes its place.
 fn say_among<R: Files + Print>(
     rt: &R,
     files: &mut [OutFile<R::File>],
+    aside: &mut Option<Aside>,
     piece: &[u8],
 ) -> Result<(), SayFault>
     ensures slots { slots_of files.new ≡ slots_of files.old }
@@ -300,15 +327,16 @@ fn say_among<R: Files + Print>(
     ensures given { SameGiven files.old files.new }
     ensures none { is_ok result ≡ true → NoneKept files.new }
     ensures untouched { IfErr result (λ fault. UntouchedWhere fault files.old files.new) }
+    ensures placed { is_ok result ≡ true → aside.new ≡ None }
 {
-    if let Err(trouble) = write_kept_of(files, Kept::Bytes) {
+    if let Err(trouble) = let_out(rt, files, aside, Kept::Bytes) {
         return Err(SayFault::Unsaid(trouble));
     }
     if let Err(reason) = write_all(&mut io::writer(rt), piece) {
         let subject = Subject::Output;
         return Err(SayFault::Unsaid(Trouble { subject, reason }));
     }
-    match write_kept_of(files, Kept::All) {
+    match let_out(rt, files, aside, Kept::All) {
         Ok(()) => Ok(()),
         Err(trouble) => Err(SayFault::Unemptied(trouble)),
     }
@@ -365,7 +393,9 @@ impl<R: Files + Standard + Print + Drop> Desk for OsDesk<R> {
 
     // No line stands on standard output before the bytes that belong to it, and no file is emptied for a line that does not come.
     fn say(&mut self, piece: &[u8]) -> Result<(), DeskFailed> {
-        let done = say_among(&self.rt, &mut self.files, piece).map_err(SayFault::into_trouble);
+        let done = say_among(&self.rt, &mut self.files, &mut self.aside, piece).map_err(
+            SayFault::into_trouble,
+        );
         self.troubles.answer(done)
     }
 }

@@ -2,6 +2,7 @@
 ghost use Rattle.std.specs.Prelude.{◌≡◌, nat_eq, position, true, [], is_ok, IfOk};
 ghost use Rattle.std.specs.Io.KnownBytes.{Keeps};
 ghost use Rattle.sof_files.specs.OutFiles.{slots_of, out_names, given_at, SameBeside, SameGiven, NoneKept, Untouched};
+ghost use Rattle.sof_files.specs.Asides.{has_bytes};
 ghost use Rattle.sof_files.specs.declared.out_file.Kept.TheVariants.{Bytes};
 ghost use Rattle.sof_files.specs.Transfers.{Writes};
 ghost use Rattle.sof_files.specs.Troubles.{about_file, about_slot, Notes};
@@ -132,6 +133,13 @@ impl<F: Write + OpenFile + Drop> OutFile<F> {
     {
         Trouble::with_file(*self.name.allocator(), self.name.as_str(), reason)
     }
+}
+
+/// Whether bytes of the file that is open under a slot are written, or it is emptied, where it is a regular one.
+pub fn has_bytes<F: Write + OpenFile + Drop>(files: &[OutFile<F>], slot: u32) -> bool
+    ensures { result ≡ has_bytes slot files.now }
+{
+    files.iter().any(|opened| opened.slot == slot && !opened.file.get_ref().is_stale())
 }
 
 /// The place of the file that is open under a slot.

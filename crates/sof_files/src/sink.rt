@@ -32,6 +32,13 @@ impl<F: Write + OpenFile + Drop> Sink<F> {
         self.file = Some(file);
         self.stale = stale;
     }
+
+    /// Whether the file is still to be emptied.
+    pub fn is_stale(&self) -> bool
+        ensures { result ≡ self.now.stale }
+    {
+        self.stale
+    }
 }
 
 impl<F: Write + OpenFile + Drop> Write for Sink<F> {

@@ -1,4 +1,4 @@
-use Rattle.std.proofs.Common.{◌≡◌, ap, refl, subst, true, take, arith, take-append-drop, ℕ, List, Option}
+use Rattle.std.proofs.Common.{ap, refl, subst, true, take, arith, take-append-drop, ℕ, List, Option}
 use Rattle.std.proofs.lemmas.List.{take_all, take_rest}
 use Rattle.std.specs.Io.KnownBytes.{Appends}
 use Rattle.std.specs.Io.Buffered.{writer_contents}
